@@ -1,0 +1,149 @@
+//! A byte string.
+
+ghost use Rattle.std.specs.Prelude.{◌≡◌, ℕ, ◌<◌, List, [], ◌∷◌, ◌++◌, Some, IfOk, OnOk, OnErr, nat_eq};
+ghost use Rattle.std.specs.Ordering.{nat_cmp};
+ghost use Rattle.std.specs.Cmp.{partial_equiv_from_equiv};
+ghost use Rattle.std.specs.Cmp.Lexicographic.{pointwise, nat_list_eq_equiv, nat_list_cmp_total, texts_po, texts_ties, slice_cmp};
+ghost use Rattle.std.proofs.Common.{rules};
+ghost use Rattle.key_bytes.specs.Keys.{IsByteString, key_cmp, key_lt, after, begins_with};
+
+use std::alloc::{AllocError, Global};
+use std::cmp::Ordering;
+use std::marker::Model;
+
+/// A byte string. Contracts see the list of its bytes.
+#[derive(Debug, Drop)]
+pub struct Bytes {
+    items: Vec<u8>,
+}
+
+/// A key of the database: a byte string.
+pub type Key = Bytes;
+
+impl Model for Bytes {
+    ghost use Rattle.std.specs.Prelude.{ℕ, List};
+    ghost use Rattle.key_bytes.specs.Keys.{IsByteString};
+
+    ghost Value = { List ℕ };
+
+    ghost view = { λ bytes. bytes.items.items };
+
+    ghost invariant = { λ bytes. IsByteString bytes.items.items };
+}
+
+impl Bytes {
+    /// The empty byte string. It takes no memory, and keeps the allocator for what is added later.
+    pub fn new(alloc: Global) -> Bytes
+        ensures { result ≡ [] }
+    {
+        Bytes {
+            items: Vec::new(alloc),
+        }
+    }
+
+    /// A copy of `bytes`.
+    pub fn from_slice(alloc: Global, bytes: &[u8]) -> Result<Bytes, AllocError>
+        ensures { IfOk result (λ copy. copy ≡ bytes.now) }
+    {
+        Ok(Bytes {
+            items: Vec::from_slice(alloc, bytes)?,
+        })
+    }
+
+    /// The byte string that holds these items. It takes no memory.
+    pub fn from_vec(items: Vec<u8>) -> Bytes
+        ensures { result ≡ items.items }
+    {
+        Bytes { items }
+    }
+
+    /// A copy of this byte string, in the same allocator.
+    pub fn copy(&self) -> Result<Bytes, AllocError>
+        ensures { IfOk result (λ copy. copy ≡ self.now) }
+    {
+        Bytes::from_slice(*self.items.allocator(), self.items.as_slice())
+    }
+
+    /// The bytes. It takes no memory.
+    pub fn as_slice(&self) -> &[u8]
+        ensures { result.now ≡ self.now }
+    {
+        self.items.as_slice()
+    }
+
+    /// Adds `bytes` at the end. After a refusal this byte string is unchanged.
+    pub fn extend(&mut self, bytes: &[u8]) -> Result<(), AllocError>
+        ensures ok { OnOk result (self.new ≡ self.old ++ bytes.now) }
+        ensures err { OnErr result (self.new ≡ self.old) }
+    {
+        self.items.extend_from_slice(bytes)
+    }
+
+    /// The least byte string above this one: this one followed by a `00`.
+    pub fn after(&self) -> Result<Bytes, AllocError>
+        ensures { IfOk result (λ next. next ≡ after self.now) }
+    {
+        let mut next = self.copy()?;
+        next.extend(&[0])?;
+        Ok(next)
+    }
+
+    /// Whether this byte string begins with `prefix`. It takes no memory.
+    pub fn starts_with(&self, prefix: &[u8]) -> bool
+        ensures { result ≡ begins_with self.now prefix.now }
+    {
+        self.items.as_slice().starts_with(prefix)
+    }
+
+    /// That contracts see numbers from 0 to 255. It does nothing when it runs.
+    pub fn is_byte_string(&self)
+        ensures { IsByteString self.now }
+    {
+        let _items = &self.items;
+    }
+}
+
+/// Whether `a` stands before `b` in the order of keys. It takes no memory.
+pub fn is_below(a: &[u8], b: &[u8]) -> bool
+    ensures { result ≡ key_lt a.now b.now }
+{
+    a.cmp(b).is_lt()
+}
+
+impl PartialEq for Bytes {
+    ghost eq = { pointwise nat_eq };
+
+    ghost laws = { partial_equiv_from_equiv nat_list_eq_equiv };
+
+    fn eq(&self, other: &Bytes) -> bool {
+        self.as_slice() == other.as_slice()
+    }
+}
+
+impl Eq for Bytes {
+    ghost laws = { nat_list_eq_equiv };
+}
+
+impl PartialOrd for Bytes {
+    ghost partial_cmp = { λ x y. Some (key_cmp x y) };
+
+    ghost laws = { texts_po };
+
+    fn partial_cmp(&self, other: &Bytes) -> Option<Ordering> {
+        Some(self.cmp(other))
+    }
+}
+
+impl Ord for Bytes {
+    ghost cmp = { key_cmp };
+
+    ghost total = { nat_list_cmp_total };
+
+    ghost matches_partial_cmp = { Prim.search rules };
+
+    ghost matches_eq = { texts_ties };
+
+    fn cmp(&self, other: &Bytes) -> Ordering {
+        self.as_slice().cmp(other.as_slice())
+    }
+}
