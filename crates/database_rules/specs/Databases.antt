@@ -1,0 +1,48 @@
+-- The database: a finite map from keys to byte strings, and its history.
+use Rattle.std.specs.Prelude.{ℕ, List, [], ◌∷◌, length, map, take}
+use Rattle.std.specs.FinMap as finite
+use Rattle.key_bytes.specs.Keys.{key_cmp}
+
+abbrev pub Database : Type 0
+Database = finite.FinMap key_cmp (List ℕ)
+
+-- what a write of a transaction does
+pub data Operation : Type 0 where
+  Set : List ℕ → List ℕ → Operation
+
+-- the database after one operation
+abbrev pub do_one : Operation → Database → Database
+do_one (Set key value) database = finite.insert database key value
+
+-- the database after operations, in their order
+abbrev pub do_all : List Operation → Database → Database
+do_all [] database = database
+do_all (operation ∷ operations) database = do_all operations (do_one operation database)
+
+-- what a commit did
+pub record Commit : Type 0 where
+  pub operations : List Operation
+
+-- the commits in order: the one at place n made version n + 1
+abbrev pub History : Type 0
+History = List Commit
+
+-- the database after commits, in their order
+abbrev pub after_commits : List Commit → Database → Database
+after_commits [] database = database
+after_commits (commit ∷ commits) database = after_commits commits (do_all commit.operations database)
+
+-- the last version
+abbrev pub last : History → ℕ
+last history = length history
+
+-- the database at a version: the empty map after the first so many commits
+abbrev pub at : History → ℕ → Database
+at history version = after_commits (take version history) finite.empty
+
+abbrev pub set_of : List ℕ × List ℕ → Operation
+set_of entry = Set entry.0 entry.1
+
+-- the first commit: the pairs of the input as sets, in the order of their lines, so that of two values of one key the later stays
+abbrev pub loaded : List (List ℕ × List ℕ) → Commit
+loaded pairs = record { operations = map set_of pairs }
