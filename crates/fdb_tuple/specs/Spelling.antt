@@ -1,0 +1,64 @@
+-- How elements and tuples are spelled as byte strings, by the table of the tuple layer (tuple.md).
+use Rattle.std.specs.Prelude.{ℕ, zero, suc, ◌+◌, ◌-◌, ◌/◌, ◌%◌, ◌^◌, ◌<◌, ◌==◌, nat_le, if◌then◌else◌, List, [], ◌∷◌, ◌++◌, length, map, reverse, ℤ, unsigned_abs, IsUtf8}
+use Rattle.std.specs.Int.{is_negative}
+use Rattle.std.specs.List.{flat_map, AllByRecursion}
+use Rattle.key_bytes.specs.Keys.{IsByteString}
+use Rattle.fdb_tuple.specs.declared.tuple.Elem.{Elem}
+use Rattle.fdb_tuple.specs.declared.tuple.Elem.TheVariants as elem
+
+-- ---- strings
+
+-- a byte of a string: 00 is written 00 FF, and each other byte stands for itself
+abbrev pub escaped_byte : ℕ → List ℕ
+escaped_byte zero = 0 ∷ 0xFF ∷ []
+escaped_byte (suc b) = suc b ∷ []
+
+-- the bytes of a string, and the 00 that ends it
+abbrev pub string_spelled : List ℕ → List ℕ
+string_spelled bytes = flat_map escaped_byte bytes ++ 0 ∷ []
+
+-- ---- integers
+
+-- the digits of n to the base 256, the lowest first, with no 0 as the last; at most as many as the first number says
+unfoldable pub low_first : ℕ → ℕ → List ℕ
+low_first zero n = []
+low_first (suc most) n = if n == 0 then [] else n % 256 ∷ low_first most (n / 256)
+
+-- the least bytes of a magnitude, the highest first; the magnitude of an integer of 128 bits has at most 16
+unfoldable pub least_bytes : ℕ → List ℕ
+least_bytes n = reverse (low_first 16 n)
+
+-- each bit the other way round
+abbrev pub complement : List ℕ → List ℕ
+complement bytes = map (λ b. 255 - b) bytes
+
+-- the positive integer with these least bytes, or 0 where there is none
+unfoldable pub positive_spelled : List ℕ → List ℕ
+positive_spelled bytes = if nat_le (length bytes) 8 then (0x14 + length bytes) ∷ bytes else 0x1D ∷ length bytes ∷ bytes
+
+-- the negative integer whose magnitude has these least bytes
+unfoldable pub negative_spelled : List ℕ → List ℕ
+negative_spelled bytes = if nat_le (length bytes) 8 then (0x14 - length bytes) ∷ complement bytes else 0x0B ∷ (0xFF - length bytes) ∷ complement bytes
+
+-- an integer, by its sign and its magnitude
+unfoldable pub int_spelled : ℤ → List ℕ
+int_spelled z = if is_negative z then negative_spelled (least_bytes (unsigned_abs z)) else positive_spelled (least_bytes (unsigned_abs z))
+
+-- ---- elements and tuples
+
+abbrev pub spelled : Elem → List ℕ
+spelled (elem.Bytes bytes) = 1 ∷ string_spelled bytes
+spelled (elem.Text text) = 2 ∷ string_spelled text
+spelled (elem.Int z) = int_spelled z
+
+abbrev pub spelling : List Elem → List ℕ
+spelling tuple = flat_map spelled tuple
+
+-- an element that `unpack` gives: its bytes are bytes, its text is UTF-8, its integer has a magnitude of at most 8 bytes
+abbrev pub IsBuilt : Elem → Type 0
+IsBuilt (elem.Bytes bytes) = IsByteString bytes
+IsBuilt (elem.Text text) = IsUtf8 text
+IsBuilt (elem.Int z) = unsigned_abs z < 2 ^ 64
+
+abbrev pub AreBuilt : List Elem → Type 0
+AreBuilt tuple = AllByRecursion IsBuilt tuple

@@ -1,0 +1,58 @@
+//! A Unicode string.
+
+ghost use Rattle.std.specs.Prelude.{◌≡◌, IfOk, IsUtf8};
+
+use std::alloc::{AllocError, Global};
+use std::marker::Model;
+
+/// A Unicode string. Contracts see the list of the bytes of its UTF-8.
+#[derive(Debug, Drop)]
+pub struct Text {
+    content: String,
+}
+
+impl Model for Text {
+    ghost use Rattle.std.specs.Prelude.{ℕ, List, IsUtf8};
+    ghost use Rattle.std.specs.String.{string_bytes};
+
+    ghost Value = { List ℕ };
+
+    ghost view = { λ text. string_bytes text.content };
+
+    ghost invariant = { λ text. IsUtf8 (string_bytes text.content) };
+}
+
+impl Text {
+    /// A copy of the text `s`.
+    pub fn from_str(alloc: Global, s: &str) -> Result<Text, AllocError>
+        ensures { IfOk result (λ text. text ≡ s.now) }
+    {
+        Ok(Text {
+            content: String::from_str(alloc, s)?,
+        })
+    }
+
+    /// The text. It takes no memory.
+    pub fn as_str(&self) -> &str
+        ensures { result.now ≡ self.now }
+    {
+        self.content.as_str()
+    }
+
+    /// The bytes of the text's UTF-8. It takes no memory.
+    pub fn as_bytes(&self) -> &[u8]
+        ensures value { result.now ≡ self.now }
+        ensures utf8 { IsUtf8 self.now }
+    {
+        self.content.as_bytes()
+    }
+
+    /// A copy of this Unicode string.
+    pub fn copy(&self) -> Result<Text, AllocError>
+        ensures { IfOk result (λ copy. copy ≡ self.now) }
+    {
+        Ok(Text {
+            content: self.content.clone()?,
+        })
+    }
+}
