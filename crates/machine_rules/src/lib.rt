@@ -1,13 +1,58 @@
-// A library with one function.
+//! The serial stack machine in definitions: what each request does to the world, what each instruction does to
+//! a machine, and what a run over an order of requests leaves and dumps.
+//!
+//! Nothing here runs. Contracts above cite these words: `specs/Worlds.antt` has the world and the step of a
+//! request, `specs/Machines.antt` a machine with its instructions, and `specs/Runs.antt` a run and its dump.
+//! The few types that the machine and its definitions share stand in `src/`.
 #![tactic(auto)]
 
-ghost use Rattle.std.specs.Prelude.{◌≡◌};
-ghost use Rattle.machine_rules.specs.Echo.{echo_of};
+use fdb_tuple::Elem;
 
-// The `ensures` clause is the contract: what `echo` returns is `echo_of` of its argument, a definition
-// in `specs/Echo.antt`, which a caller's clause can cite too.
-pub fn echo(x: usize) -> usize
-    ensures { result ≡ echo_of x }
-{
-    x
+/// An item of a machine's stack: an element, and the number of the instruction that pushed it.
+#[derive(Debug, Drop)]
+pub struct Item {
+    pub element: Elem,
+    pub instruction: u64,
+}
+
+/// How a machine has ended.
+#[derive(Clone, Copy, Debug, PartialEq, Eq)]
+pub enum End {
+    /// All instructions were run.
+    Ended,
+    /// The instruction of this number is none that the machine knows, or has an operand of a wrong kind or range.
+    BadInstruction(u64),
+    /// The instruction of this number pops an item where the stack has none.
+    Underflow(u64),
+}
+
+/// What the reply to a request is used for.
+#[derive(Clone, Copy, Debug, PartialEq, Eq)]
+pub enum Awaits {
+    /// Nothing is pushed.
+    Nothing,
+    /// The fixed text `RESULT_NOT_PRESENT` is pushed.
+    NotPresent,
+}
+
+/// What a machine is about to do.
+#[derive(Clone, Copy, Debug, PartialEq, Eq)]
+pub enum State {
+    /// To run its next instruction.
+    Running,
+    /// To use the reply to the request that it asked.
+    Awaiting(Awaits),
+    /// Nothing more.
+    Stopped(End),
+}
+
+/// An instruction that the machine knows.
+#[derive(Debug, Drop)]
+pub enum Instruction {
+    /// Pushes an element.
+    Push(Elem),
+    /// Pops a key and a value, and writes the value under the key.
+    Set,
+    /// Commits the transaction.
+    Commit,
 }
