@@ -2,6 +2,7 @@
 
 ghost use Rattle.std.specs.Prelude.{◌≡◌, IfOk, IsUtf8};
 
+use key_bytes::Bytes;
 use std::alloc::{AllocError, Global};
 use std::marker::Model;
 
@@ -45,6 +46,13 @@ impl Text {
         ensures utf8 { IsUtf8 self.now }
     {
         self.content.as_bytes()
+    }
+
+    /// The bytes of the text's UTF-8 themselves. It takes no memory.
+    pub fn into_bytes(self) -> Bytes
+        ensures { result ≡ self }
+    {
+        Bytes::from_vec(self.content.into_bytes())
     }
 
     /// A copy of this Unicode string.

@@ -85,6 +85,13 @@ impl Tuple {
         self.items.as_slice()
     }
 
+    /// The elements themselves, in order. It takes no memory.
+    pub fn into_vec(self) -> Vec<Elem>
+        ensures { result.items ≡ self }
+    {
+        self.items
+    }
+
     /// Adds `element` at the end. After a refusal the tuple is unchanged.
     pub fn push(&mut self, element: Elem) -> Result<(), AllocError>
         ensures ok { OnOk result (self.new ≡ self.old ++ element ∷ []) }

@@ -1,5 +1,6 @@
 -- A machine and its instructions (bindingApiTester.md).
-use Rattle.std.specs.Prelude.{ℕ, ◌+◌, if◌then◌else◌, List, [], ◌∷◌, ◌++◌, Option, Some, None, Result, Ok, option_and_then, slice_get, codes, bytes_eq}
+use Rattle.std.specs.Prelude.{◌≡◌, refl, ℕ, ◌+◌, if◌then◌else◌, List, [], ◌∷◌, ◌++◌, Option, Some, None, Result, Ok, option_and_then, slice_get, codes, bytes_eq}
+use Rattle.std.proofs.Common.{ap}
 use Rattle.fdb_tuple.specs.declared.tuple.Elem.{Elem}
 use Rattle.fdb_tuple.specs.declared.tuple.Elem.TheVariants as elem
 use Rattle.fdb_tuple.specs.Reading.{Fault, tuple_of}
@@ -108,6 +109,12 @@ top_below first (Some rest) = (rest.0, first ∷ rest.1)
 unfoldable pub popped : List Item → Option (Item × List Item)
 popped [] = None
 popped (first ∷ items) = Some (top_below first (popped items))
+
+-- what was pushed last is popped first
+pub popped_push : (items : List Item) (last : Item) → popped (items ++ last ∷ []) ≡ Some (last, items)
+unfolding popped
+popped_push [] last = refl
+popped_push (first ∷ items) last = ap (λ rest. Some (top_below first rest)) (popped_push items last)
 
 -- the top item as an operand of the kind "bytes"
 abbrev pub bytes_operand_in : Option (Item × List Item) → Operand

@@ -1,0 +1,50 @@
+-- What a step answers, and the machine that it leaves.
+use Rattle.std.specs.Prelude.{◌≡◌, ◌≢◌, Bool, true, false, Option, Some, None, ⊤}
+use Rattle.fdb_calls.specs.declared.Request.{Request}
+use Rattle.fdb_calls.specs.declared.Reply.{Reply}
+use Rattle.fdb_calls.specs.declared.Reply.TheVariants as reply
+use Rattle.machine_rules.specs.declared.State.{State}
+use Rattle.machine_rules.specs.declared.State.TheVariants as state
+use Rattle.machine_rules.specs.Machines.{Machine, Progress, silent, advance, resumed}
+use Rattle.stack_machine.specs.Held.{Held}
+use Rattle.stack_machine.specs.declared.machine.Step.{Step}
+use Rattle.stack_machine.specs.declared.machine.Step.TheVariants as step
+
+-- a reply is due exactly where the machine awaits one, and it is not that memory ran out
+abbrev pub IsDue : State → Option Reply → Type 0
+IsDue state.Running None = ⊤
+IsDue state.Running (Some reply) = ⊥
+IsDue (state.Awaiting awaits) None = ⊥
+IsDue (state.Awaiting awaits) (Some reply) = reply ≢ reply.NoMemory
+IsDue (state.Stopped end) None = ⊤
+IsDue (state.Stopped end) (Some reply) = ⊥
+
+-- a machine that ran out of memory may be stepped in any way
+abbrev pub MayStep : Bool → State → Option Reply → Type 0
+MayStep true state reply = ⊤
+MayStep false state reply = IsDue state reply
+
+-- one step: it goes on, or uses the reply
+abbrev pub moved : Machine → Option Reply → Progress
+moved machine None = advance machine
+moved machine (Some reply) = silent (resumed machine reply)
+
+abbrev pub answer_in : State → Step
+answer_in state.Running = step.Again
+answer_in (state.Awaiting awaits) = step.Again
+answer_in (state.Stopped end) = step.Stopped end
+
+abbrev pub answer_by : Option Request → State → Step
+answer_by (Some request) state = step.Ask request
+answer_by None state = answer_in state
+
+-- what a step answers: what the machine asks, or how it stands
+abbrev pub answer_of : Progress → Step
+answer_of progress = answer_by progress.asks progress.machine.state
+
+-- the step was made, and memory sufficed
+pub record Moves (old : Held) (progress : Progress) (answer : Step) (new : Held) : Type 0 where
+  pub before : old.is_out_of_memory ≡ false
+  pub after : new.is_out_of_memory ≡ false
+  pub machine : new.machine ≡ progress.machine
+  pub answer_is : answer ≡ answer_of progress
