@@ -1,11 +1,15 @@
 -- What a step answers, and the machine that it leaves.
-use Rattle.std.specs.Prelude.{◌≡◌, ◌≢◌, Bool, true, false, Option, Some, None, ⊤}
+use Rattle.std.specs.Prelude.{◌≡◌, ◌≢◌, ℕ, Bool, true, false, Option, Some, None, ⊤}
 use Rattle.fdb_calls.specs.declared.Request.{Request}
 use Rattle.fdb_calls.specs.declared.Reply.{Reply}
 use Rattle.fdb_calls.specs.declared.Reply.TheVariants as reply
 use Rattle.machine_rules.specs.declared.State.{State}
 use Rattle.machine_rules.specs.declared.State.TheVariants as state
 use Rattle.machine_rules.specs.Machines.{Machine, Progress, silent, advance, resumed}
+use Rattle.machine_rules.specs.declared.End.{End}
+use Rattle.machine_rules.specs.declared.End.TheVariants as end
+use Rattle.stack_items.specs.declared.fault.StackFault.{StackFault}
+use Rattle.stack_items.specs.declared.fault.StackFault.TheVariants as fault
 use Rattle.stack_machine.specs.Held.{Held}
 use Rattle.stack_machine.specs.declared.machine.Step.{Step}
 use Rattle.stack_machine.specs.declared.machine.Step.TheVariants as step
@@ -13,11 +17,11 @@ use Rattle.stack_machine.specs.declared.machine.Step.TheVariants as step
 -- a reply is due exactly where the machine awaits one, and it is not that memory ran out
 abbrev pub IsDue : State → Option Reply → Type 0
 IsDue state.Running None = ⊤
-IsDue state.Running (Some reply) = ⊥
+IsDue state.Running (Some given) = ⊥
 IsDue (state.Awaiting awaits) None = ⊥
-IsDue (state.Awaiting awaits) (Some reply) = reply ≢ reply.NoMemory
+IsDue (state.Awaiting awaits) (Some given) = given ≢ reply.NoMemory
 IsDue (state.Stopped end) None = ⊤
-IsDue (state.Stopped end) (Some reply) = ⊥
+IsDue (state.Stopped end) (Some given) = ⊥
 
 -- a machine that ran out of memory may be stepped in any way
 abbrev pub MayStep : Bool → State → Option Reply → Type 0
@@ -41,6 +45,12 @@ answer_by None state = answer_in state
 -- what a step answers: what the machine asks, or how it stands
 abbrev pub answer_of : Progress → Step
 answer_of progress = answer_by progress.asks progress.machine.state
+
+-- how a refused operand ends the machine at the instruction of this number
+abbrev pub end_of : StackFault → ℕ → End
+end_of fault.Underflow number = end.Underflow number
+end_of fault.Operand number = end.BadInstruction number
+end_of fault.NoMemory number = end.BadInstruction number
 
 -- the step was made, and memory sufficed
 pub record Moves (old : Held) (progress : Progress) (answer : Step) (new : Held) : Type 0 where

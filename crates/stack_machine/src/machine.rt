@@ -1,8 +1,8 @@
 //! A machine and its steps.
 
-ghost use Rattle.std.specs.Prelude.{◌≡◌, ◌+◌, ◌<◌, ◌^◌, false, true, List, [], ◌∷◌, ◌++◌, length, map, Some, None, option_copied, IfOk, IsErr, OnErr, IsTrue};
+ghost use Rattle.std.specs.Prelude.{◌≡◌, ◌≢◌, ◌+◌, ◌<◌, ◌^◌, false, true, List, [], ◌∷◌, ◌++◌, length, map, Some, None, option_copied, slice_get, IfOk, IsErr, OnErr, IsTrue};
 ghost use Rattle.machine_rules.specs.declared.State.TheVariants.{Running, Awaiting, Stopped};
-ghost use Rattle.machine_rules.specs.Machines.{stopped, done, asking, silent, set_key, bytes_operand, run_instruction, run_next, advance, resumed, item, result_not_present, answered};
+ghost use Rattle.machine_rules.specs.Machines.{stopped, done, asking, silent, set_key, bytes_operand, run_instruction, run_next, advance, resumed, item, result_not_present, answered, answered_done, set_value};
 
 use crate::instruction::instruction_of;
 use fdb_calls::{Reply, Request, TxnCall};
@@ -34,6 +34,7 @@ pub struct Machine {
     stack: Stack,
     state: State,
     is_out_of_memory: bool,
+    alloc: Global,
 }
 
 impl Model for Machine {
@@ -43,15 +44,15 @@ impl Model for Machine {
     ghost Value = { Held };
 
     ghost view = { λ m. record {
-        machine = record {
-            number = m.number;
-            prefix = m.prefix;
-            instructions = values_of m.instructions;
-            next = m.next;
-            stack = m.stack;
-            state = m.state;
-        };
-        is_out_of_memory = m.is_out_of_memory;
+      machine = record {
+        number = m.number;
+        prefix = m.prefix;
+        instructions = values_of m.instructions;
+        next = m.next;
+        stack = m.stack;
+        state = m.state;
+      };
+      is_out_of_memory = m.is_out_of_memory;
     } };
 
     ghost invariant = { λ m. IsInside m.state m.next (length m.instructions) };
@@ -59,18 +60,18 @@ impl Model for Machine {
 
 impl Machine {
     ghost use Rattle.stack_machine.specs.Held.{Held, values_of};
-    ghost use Rattle.stack_machine.specs.Steps.{MayStep, moved, Moves};
+    ghost use Rattle.stack_machine.specs.Steps.{MayStep, moved, Moves, end_of};
 
     /// A machine before its first instruction, under a number and a prefix, with the values of these pairs as
     /// its instructions, in order. It takes no memory, and keeps the allocator.
     pub fn new(alloc: Global, number: u16, prefix: Bytes, instructions: Pairs) -> Machine
         ensures machine { result.machine ≡ record {
-            number = number;
-            prefix = prefix;
-            instructions = values_of instructions;
-            next = 0;
-            stack = [];
-            state = Running;
+          number = number;
+          prefix = prefix;
+          instructions = values_of instructions;
+          next = 0;
+          stack = [];
+          state = Running;
         } }
         ensures ready { result.is_out_of_memory ≡ false }
     {
@@ -82,6 +83,7 @@ impl Machine {
             stack: Stack::new(alloc),
             state: State::Running,
             is_out_of_memory: false,
+            alloc,
         }
     }
 
@@ -92,11 +94,187 @@ impl Machine {
         &self.stack
     }
 
-    fn stop(&mut self, end: End) -> Step
-        ensures { Moves self.old (silent (stopped self.old.machine self.old.machine.stack end)) result self.new }
+    /// One step. With no reply it runs one instruction, asks a request, or says how the machine has stopped; with
+    /// the reply to the request that it asked it uses that reply. After a stop each further step answers the
+    /// same. It is refused for want of memory alone, and each further step is then refused too.
+    pub fn step(&mut self, reply: Option<&Reply>) -> Result<Step, AllocError>
+        requires { MayStep self.old.is_out_of_memory self.old.machine.state (option_copied reply) }
+        ensures ok { IfOk result (λ step. Moves self.old (moved self.old.machine (option_copied reply.entry)) step self.new) }
+        ensures refused { self.old.is_out_of_memory ≡ true → IsErr result }
+        ensures err { OnErr result (self.new.is_out_of_memory ≡ true) }
+    {
+        if self.is_out_of_memory {
+            return Err(AllocError);
+        }
+        let step = match reply {
+            None => self.advance(),
+            Some(reply) => self.resume(reply),
+        };
+        if step.is_err() {
+            self.is_out_of_memory = true;
+        }
+        step
+    }
+
+    #[tactic(auto, unfolding(machine_rules::specs::Machines::advance))]
+    fn advance(&mut self) -> Result<Step, AllocError>
         requires { self.old.is_out_of_memory ≡ false }
+        ensures { IfOk result (λ step. Moves self.old (advance self.old.machine) step self.new) }
+    {
+        match self.state {
+            State::Running => self.run_next(),
+            State::Awaiting(_) => Ok(Step::Again),
+            State::Stopped(end) => Ok(Step::Stopped(end)),
+        }
+    }
+
+    #[tactic(auto, unfolding(machine_rules::specs::Machines::resumed))]
+    fn resume(&mut self, reply: &Reply) -> Result<Step, AllocError>
+        requires { self.old.is_out_of_memory ≡ false }
+        ensures { IfOk result (λ step. Moves self.old (silent (resumed self.old.machine reply.now)) step self.new) }
+    {
+        match self.state {
+            State::Running => Ok(Step::Again),
+            State::Awaiting(awaits) => self.answer(awaits, reply),
+            State::Stopped(end) => Ok(Step::Stopped(end)),
+        }
+    }
+
+    fn answer(&mut self, awaits: Awaits, reply: &Reply) -> Result<Step, AllocError>
+        requires ready { self.old.is_out_of_memory ≡ false }
+        requires inside { self.old.machine.next < length self.old.machine.instructions }
+        ensures { IfOk result (λ step. Moves self.old (silent (answered self.old.machine awaits reply.now)) step self.new) }
+    {
+        match reply {
+            Reply::Done => self.answer_done(awaits),
+            Reply::Fault(_) => Ok(self.stop(End::BadInstruction(self.next as u64))),
+            Reply::NoMemory => Ok(self.finish()),
+        }
+    }
+
+    fn answer_done(&mut self, awaits: Awaits) -> Result<Step, AllocError>
+        requires ready { self.old.is_out_of_memory ≡ false }
+        requires inside { self.old.machine.next < length self.old.machine.instructions }
+        ensures { IfOk result (λ step. Moves self.old (silent (answered_done self.old.machine awaits)) step self.new) }
+    {
+        match awaits {
+            Awaits::Nothing => Ok(self.finish()),
+            Awaits::NotPresent => self.push_text(b"RESULT_NOT_PRESENT"),
+        }
+    }
+
+    // Pushes a fixed text.
+    fn push_text(&mut self, text: &[u8]) -> Result<Step, AllocError>
+        requires ready { self.old.is_out_of_memory ≡ false }
+        requires inside { self.old.machine.next < length self.old.machine.instructions }
+        ensures { IfOk result (λ step. Moves self.old (silent (done self.old.machine (self.old.machine.stack ++ item self.old.machine (Elem.Bytes text.now) ∷ []))) step self.new) }
+    {
+        let text = Bytes::from_slice(self.alloc, text)?;
+        self.push(Elem::Bytes(text))
+    }
+
+    fn run_next(&mut self) -> Result<Step, AllocError>
+        requires ready { self.old.is_out_of_memory ≡ false }
+        requires running { self.old.machine.state ≡ Running }
+        ensures { IfOk result (λ step. Moves self.old (run_next self.old.machine (slice_get self.old.machine.instructions self.old.machine.next)) step self.new) }
+    {
+        if self.next < self.instructions.len() {
+            let value = self.instructions.get(self.next).value.as_slice();
+            let instruction = instruction_of(self.alloc, value)?;
+            self.run(instruction)
+        } else {
+            Ok(self.stop(End::Ended))
+        }
+    }
+
+    fn run(&mut self, instruction: Option<Instruction>) -> Result<Step, AllocError>
+        requires ready { self.old.is_out_of_memory ≡ false }
+        requires inside { self.old.machine.next < length self.old.machine.instructions }
+        ensures { IfOk result (λ step. Moves self.old (run_instruction self.old.machine instruction) step self.new) }
+    {
+        match instruction {
+            None => Ok(self.stop(End::BadInstruction(self.next as u64))),
+            Some(Instruction::Push(element)) => self.push(element),
+            Some(Instruction::Set) => self.set(),
+            Some(Instruction::Commit) => self.ask(TxnCall::Commit, Awaits::NotPresent),
+        }
+    }
+
+    fn push(&mut self, element: Elem) -> Result<Step, AllocError>
+        requires ready { self.old.is_out_of_memory ≡ false }
+        requires inside { self.old.machine.next < length self.old.machine.instructions }
+        ensures { IfOk result (λ step. Moves self.old (silent (done self.old.machine (self.old.machine.stack ++ item self.old.machine element ∷ []))) step self.new) }
+    {
+        self.stack.put(Item {
+            element,
+            instruction: self.next as u64,
+        })?;
+        Ok(self.finish())
+    }
+
+    fn set(&mut self) -> Result<Step, AllocError>
+        requires ready { self.old.is_out_of_memory ≡ false }
+        requires inside { self.old.machine.next < length self.old.machine.instructions }
+        ensures { IfOk result (λ step. Moves self.old (set_key self.old.machine (bytes_operand self.old.machine.stack)) step self.new) }
+    {
+        match self.stack.pop_bytes() {
+            Ok(key) => self.set_value(key),
+            Err(fault) => Ok(self.refuse(fault)),
+        }
+    }
+
+    fn set_value(&mut self, key: Bytes) -> Result<Step, AllocError>
+        requires ready { self.old.is_out_of_memory ≡ false }
+        requires inside { self.old.machine.next < length self.old.machine.instructions }
+        ensures { IfOk result (λ step. Moves self.old (set_value self.old.machine key (bytes_operand self.old.machine.stack)) step self.new) }
+    {
+        match self.stack.pop_bytes() {
+            Ok(value) => self.ask(TxnCall::Set { key, value }, Awaits::Nothing),
+            Err(fault) => Ok(self.refuse(fault)),
+        }
+    }
+
+    fn refuse(&mut self, fault: StackFault) -> Step
+        requires ready { self.old.is_out_of_memory ≡ false }
+        requires fault { fault ≢ StackFault.NoMemory }
+        requires inside { self.old.machine.next < length self.old.machine.instructions }
+        ensures { Moves self.old (silent (stopped self.old.machine self.old.machine.stack (end_of fault self.old.machine.next))) result self.new }
+    {
+        let number = self.next as u64;
+        match fault {
+            StackFault::Underflow => self.stop(End::Underflow(number)),
+            StackFault::Operand => self.stop(End::BadInstruction(number)),
+            StackFault::NoMemory => unreachable!(),
+        }
+    }
+
+    fn stop(&mut self, end: End) -> Step
+        requires ready { self.old.is_out_of_memory ≡ false }
+        ensures { Moves self.old (silent (stopped self.old.machine self.old.machine.stack end)) result self.new }
     {
         self.state = State::Stopped(end);
         Step::Stopped(end)
+    }
+
+    fn finish(&mut self) -> Step
+        requires ready { self.old.is_out_of_memory ≡ false }
+        requires inside { self.old.machine.next < length self.old.machine.instructions }
+        ensures { Moves self.old (silent (done self.old.machine self.old.machine.stack)) result self.new }
+    {
+        // Gives the bound of the next number.
+        let _count = self.instructions.len();
+        self.next += 1;
+        self.state = State::Running;
+        Step::Again
+    }
+
+    fn ask(&mut self, call: TxnCall, awaits: Awaits) -> Result<Step, AllocError>
+        requires ready { self.old.is_out_of_memory ≡ false }
+        requires inside { self.old.machine.next < length self.old.machine.instructions }
+        ensures { IfOk result (λ step. Moves self.old (asking self.old.machine self.old.machine.stack call awaits) step self.new) }
+    {
+        let name = self.prefix.copy()?;
+        self.state = State::Awaiting(awaits);
+        Ok(Step::Ask(Request::On { name, call }))
     }
 }
