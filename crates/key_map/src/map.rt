@@ -1,0 +1,176 @@
+//! An ordered map from keys to values.
+
+ghost use Rattle.std.specs.Prelude.{◌≡◌, ◌==◌, ℕ, List, not, IfOk, OnOk, OnErr};
+ghost use Rattle.std.specs.Borrow.{sem};
+ghost use Rattle.std.specs.List.{filter};
+ghost use Rattle.std.specs.Option.{option_map, option_copied, option_copied_mut};
+ghost use Rattle.std.specs.FinMap as finite;
+ghost use Rattle.std.specs.Map.Iter.{ShowsInOrder, deref_pair};
+ghost use Rattle.key_bytes.specs.Keys.{key_le, key_lt, within};
+ghost use Rattle.key_map.specs.Ends.{first, last};
+ghost use Rattle.key_map.specs.Inserted.{inserted};
+
+use key_bytes::{Bytes, Key, Pair, Pairs};
+use std::alloc::{AllocError, Global};
+use std::collections::BTreeMap;
+use std::collections::btree_map::{Iter, Range};
+use std::marker::Model;
+
+/// An ordered map from keys to values. Contracts see the finite map.
+#[derive(Drop)]
+pub struct KeyMap<V> {
+    alloc: Global,
+    tree: BTreeMap<Bytes, V>,
+}
+
+impl<V> Model for KeyMap<V> {
+    ghost use Rattle.std.specs.FinMap as finite;
+    ghost use Rattle.std.specs.Coded.{coded_ℕ, coded_list};
+    ghost use Rattle.key_bytes.specs.Keys.{key_cmp};
+
+    ghost Value = { finite.FinMap key_cmp V };
+
+    ghost coded = { finite.code (coded_list coded_ℕ) V.code };
+
+    ghost view = { λ map. finite.from_entries map.tree.entries };
+}
+
+impl<V> KeyMap<V> {
+    ghost use Rattle.key_map.specs.Lends.{LendsValue};
+
+    /// The empty map. It takes no memory, and keeps the allocator for what is added later.
+    pub fn new(alloc: Global) -> KeyMap<V>
+        ensures { result ≡ finite.empty }
+    {
+        KeyMap {
+            alloc,
+            tree: BTreeMap::new(alloc),
+        }
+    }
+
+    /// How many keys there are. It takes no memory.
+    pub fn len(&self) -> usize
+        ensures { result ≡ finite.len self.now }
+    {
+        self.tree.len()
+    }
+
+    /// Whether there is no key. It takes no memory.
+    pub fn is_empty(&self) -> bool
+        ensures { result ≡ (finite.len self.now == 0) }
+    {
+        self.len() == 0
+    }
+
+    /// The value of `key`, if it has one. It takes no memory.
+    pub fn get(&self, key: &Key) -> Option<&V>
+        ensures { option_copied result ≡ finite.get self.now key.now }
+    {
+        self.tree.get(key)
+    }
+
+    /// Whether `key` has a value. It takes no memory.
+    pub fn contains_key(&self, key: &Key) -> bool
+        ensures { result ≡ finite.contains_key self.now key.now }
+    {
+        self.get(key).is_some()
+    }
+
+    /// The value of `key`, if it has one, to write. It takes no memory.
+    pub fn get_mut(&mut self, key: &Key) -> Option<&mut V>
+        // Once the borrow ends the key has what was written last, and without the key the map is unchanged.
+        ensures* writes_back { sem 𝓛 (LendsValue V.row self.entry key.now result) }
+        ensures value { option_copied_mut result ≡ finite.get self.old key.now }
+    {
+        self.tree.get_mut(key)
+    }
+
+    /// Gives `key` this value, and answers the value before. After a refusal the map is unchanged.
+    pub fn insert(&mut self, key: Key, value: V) -> Result<Option<V>, AllocError>
+    where
+        V: Drop,
+        ensures before { IfOk result (λ before. before ≡ finite.get self.old key) }
+        ensures ok { OnOk result (self.new ≡ finite.insert self.old key value) }
+        ensures err { OnErr result (self.new ≡ self.old) }
+    {
+        Ok(self.tree.insert(key, value)?)
+    }
+
+    /// Removes `key`, and answers its value. It takes no memory.
+    pub fn remove(&mut self, key: &Key) -> Option<V>
+        ensures before { result ≡ finite.get self.old key.now }
+        ensures removed { self.new ≡ finite.remove self.old key.now }
+    {
+        self.tree.remove(key)
+    }
+
+    /// The first pair with a key that is at least `key`. It takes no memory.
+    pub fn next(&self, key: &Key) -> Option<(&Key, &V)>
+        ensures { option_map deref_pair result ≡ first (filter (λ e. key_le key.now e.0) (finite.entries self.now)) }
+    {
+        self.tree.range(key..).next()
+    }
+
+    /// The last pair with a key that is less than `key`. It takes no memory.
+    pub fn prev(&self, key: &Key) -> Option<(&Key, &V)>
+        ensures { option_map deref_pair result ≡ last (filter (λ e. key_lt e.0 key.now) (finite.entries self.now)) }
+    {
+        self.tree.range(..key).next_back()
+    }
+
+    /// The pairs in the order of their keys, for a loop over them. It takes no memory.
+    pub fn entries(&self) -> Iter<'_, Bytes, V>
+        ensures rest { result ≡ finite.entries self.now }
+        ensures runs { ShowsInOrder (deref_pair {K = List ℕ} {X = V}) }
+    {
+        self.tree.iter()
+    }
+}
+
+impl KeyMap<Bytes> {
+    /// The map that these pairs make when they are inserted one by one: of two values of one key the later stays.
+    /// It moves the keys and values, and copies none. Pairs that are already in the order of their keys take two
+    /// comparisons each, and no search.
+    pub fn from_pairs(alloc: Global, pairs: Pairs) -> Result<KeyMap<Bytes>, AllocError>
+        ensures { IfOk result (λ map. map ≡ inserted pairs finite.empty) }
+    {
+        let tree = pairs
+            .into_vec()
+            .into_iter()
+            .map(|pair| (pair.key, pair.value))
+            .collect(alloc)?;
+        Ok(KeyMap { alloc, tree })
+    }
+
+    /// A copy of the pairs, in the order of their keys.
+    pub fn pairs(&self) -> Result<Pairs, AllocError>
+        ensures { IfOk result (λ pairs. pairs ≡ finite.entries self.now) }
+    {
+        copied(self.alloc, self.tree.range(..))
+    }
+
+    /// A copy of the pairs with keys from `begin` up to `end`, `end` left out, in the order of their keys.
+    pub fn pairs_between(&self, begin: &Key, end: &Key) -> Result<Pairs, AllocError>
+        ensures { IfOk result (λ pairs. pairs ≡ filter (λ e. within begin.now end.now e.0) (finite.entries self.now)) }
+    {
+        if !begin.cmp(end).is_lt() {
+            return Ok(Pairs::new(self.alloc));
+        }
+        copied(self.alloc, self.tree.range(begin..end))
+    }
+}
+
+// A copy of the pairs that are left.
+fn copied(alloc: Global, rest: Range<'_, Bytes, Bytes>) -> Result<Pairs, AllocError>
+    ensures { IfOk result (λ pairs. pairs ≡ rest.entry) }
+{
+    let mut pairs = Pairs::new(alloc);
+    for (key, value) in rest {
+        let pair = Pair {
+            key: key.copy()?,
+            value: value.copy()?,
+        };
+        pairs.push(pair)?;
+    }
+    Ok(pairs)
+}
