@@ -1,12 +1,9 @@
 -- A transaction, and the checks of its calls in their order.
 use Rattle.std.specs.Prelude.{ℕ, ◌+◌, Bool, true, false, not, ◌&&◌, if◌then◌else◌, List, [], ◌∷◌, ◌++◌, length, min, nat_lt, Option, Some, None}
 use Rattle.key_bytes.specs.Keys.{key_lt, top}
+use Rattle.database_rules.specs.declared.Phase.{Phase}
+use Rattle.database_rules.specs.declared.Phase.TheVariants.{Active, Tried}
 use Rattle.database_rules.specs.Databases.{Operation, Set}
-
--- whether a commit was tried in this life of the transaction
-pub data Phase : Type 0 where
-  Active : Phase
-  Tried : Phase
 
 pub record Transaction : Type 0 where
   pub operations : List Operation

@@ -1,0 +1,4 @@
+pub mod Commits
+pub mod Loads
+pub mod Made
+pub mod Steps

@@ -1,0 +1,3 @@
+pub mod Stands
+pub mod Calls
+pub mod Commits
