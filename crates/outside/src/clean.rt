@@ -1,7 +1,6 @@
 //! A source and a sink that never fail.
 
-ghost use Rattle.std.specs.Prelude.{◌≡◌, ◌<◌, ◌≤◌, length, min, Some, None, IfOk};
-ghost use Rattle.outside.specs.Counts.{Rose};
+ghost use Rattle.std.specs.Prelude.{◌≡◌, ◌≢◌, ◌<◌, length, min, Some, None, IfOk};
 ghost use Rattle.outside.specs.Streams.{GotWithin, Reads, TookWithin, Writes};
 ghost use Rattle.outside.specs.Memory.{clean_of, clean_answer, after_clean_read};
 
@@ -52,8 +51,7 @@ impl Source for CleanSource {
         requires { 0 < length buf.old }
         ensures bound { GotWithin result (length buf.new) }
         ensures bytes { Reads result (Some self.old.left) (Some self.new.left) buf.new }
-        ensures later { 0 ≤ 0 }
-        ensures cause { result ≡ Taken.Failed → Rose 0 0 }
+        ensures never_fails { result ≢ Taken.Failed }
 
         // Beyond what each source promises: how much a call gives.
         ensures answer { result ≡ clean_answer self.old (length buf.new) }
@@ -100,8 +98,7 @@ impl Sink for CleanSink {
         requires { 0 < length piece.now }
         ensures bound { TookWithin result (length piece.now) }
         ensures bytes { Writes result None None piece.now }
-        ensures later { 0 ≤ 0 }
-        ensures cause { result ≡ Put.Failed → Rose 0 0 }
+        ensures never_fails { result ≢ Put.Failed }
 
         // Beyond what each sink promises: how much a call takes.
         ensures answer { result ≡ Put.Took (min (length piece.now) self.old) }
