@@ -3,8 +3,8 @@ use Rattle.std.proofs.Common.{◌≡◌, ℕ, ◌+◌, ◌-◌, ◌≤◌, List,
 use Rattle.std.specs.Prelude.{Option}
 use Rattle.std.proofs.Math.Seq.{take-add}
 use Rattle.std.proofs.lemmas.List.{take_rest, take_at, drop-drop}
-use Rattle.std.specs.Io.KnownBytes.{Appends}
-use Rattle.std.proofs.KnownBytes.{Appends-trans}
+use Rattle.std.specs.Io.KnownBytes.{Appends, Consumes}
+use Rattle.std.proofs.KnownBytes.{Appends-trans, Consumes-trans}
 
 -- a front, and then n bytes of the rest, are a longer front
 pub Appends-more : (a b c : Option (List ℕ)) (bytes : List ℕ) (done n : ℕ) → Appends a b (take done bytes)
@@ -18,3 +18,9 @@ pub copied_front : (left copied buf : List ℕ) (n : ℕ) → n ≤ length left 
 copied_front left copied buf n within is =
     let long : length copied ≡ n = ap length is ∙ length-take-le n left within in
     sym (ap (λ l. l ++ drop n left) (take_at copied buf n long ∙ is) ∙ take-append-drop n left)
+
+-- what filled a front, and then n bytes behind it, fill a longer front
+pub Consumes-more : (a b c : Option (List ℕ)) (xs ys : List ℕ) (filled n : ℕ) → Consumes a b (take filled xs) → take filled ys ≡ take filled xs
+    → Consumes b c (take n (drop filled ys)) → Consumes a c (take (filled + n) ys)
+Consumes-more a b c xs ys filled n before same read =
+    subst (Consumes a c) (sym (take-add filled n ys)) (Consumes-trans a b c _ _ (subst (Consumes a b) (sym same) before) read)

@@ -1,11 +1,13 @@
 -- What a call does to the bytes that a source has left, or that were written to a sink, where those are told.
-use Rattle.std.specs.Prelude.{ℕ, ◌<◌, ◌≤◌, List, length, take, ⊤, Option}
+use Rattle.std.specs.Prelude.{◌≡◌, ℕ, ◌<◌, ◌≤◌, List, length, take, ⊤, Option}
 use Rattle.std.specs.Io.KnownBytes.{Keeps, Appends, Consumes, IsAtEnd}
 use Rattle.outside.specs.Counts.{risen}
 use Rattle.outside.specs.declared.source.Taken.{Taken}
 use Rattle.outside.specs.declared.source.Taken.TheVariants as taken
 use Rattle.outside.specs.declared.sink.Put.{Put}
 use Rattle.outside.specs.declared.sink.Put.TheVariants as put
+use Rattle.outside.specs.declared.transfers.Input.{Input}
+use Rattle.outside.specs.declared.transfers.Input.TheVariants as input
 
 -- a read gave at least one byte, and no more than there was room for
 abbrev pub GotWithin : Taken → ℕ → Type 0
@@ -43,6 +45,28 @@ faults_after_write put.Failed before = risen before
 -- some front of `bytes`, not the whole, was put behind the bytes that were written
 abbrev pub AppendsFront : Option (List ℕ) → Option (List ℕ) → List ℕ → Type 0
 AppendsFront before after bytes = (n : ℕ) × (n < length bytes) × Appends before after (take n bytes)
+
+-- `items` are all the bytes that were left, fewer than the limit, and none is left after them
+pub record IsWhole (limit : ℕ) (before after : Option (List ℕ)) (items : List ℕ) : Type 0 where
+  pub fewer : length items < limit
+  pub consumed : Consumes before after items
+  pub end : IsAtEnd after
+
+-- `items` are as many bytes as the limit says, taken off the bytes that were left
+pub record IsFull (limit : ℕ) (before after : Option (List ℕ)) (items : List ℕ) : Type 0 where
+  pub exact : length items ≡ limit
+  pub consumed : Consumes before after items
+
+-- some bytes, fewer than the limit, were taken off the bytes that were left
+abbrev pub ConsumesFewer : ℕ → Option (List ℕ) → Option (List ℕ) → Type 0
+ConsumesFewer limit before after = (bytes : List ℕ) × (length bytes < limit) × Consumes before after bytes
+
+-- what was read of a source, up to a limit
+abbrev pub IsInput : Input → ℕ → Option (List ℕ) → Option (List ℕ) → Type 0
+IsInput (input.Whole bytes) limit before after = IsWhole limit before after bytes.items
+IsInput (input.Full bytes) limit before after = IsFull limit before after bytes.items
+IsInput input.Failed limit before after = ConsumesFewer limit before after
+IsInput input.NoMemory limit before after = ConsumesFewer limit before after
 
 -- a reader or a writer, and how many of its calls failed so far
 pub record Counted (T : Type 0) : Type 0 where

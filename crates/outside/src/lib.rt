@@ -29,4 +29,4 @@ pub use mem_source::MemSource;
 pub use sink::{Put, Sink};
 pub use source::{Source, Taken};
 pub use streams::{ReadSource, WriteSink};
-pub use transfers::write_all;
+pub use transfers::{Input, read_all, write_all};
