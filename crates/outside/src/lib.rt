@@ -30,3 +30,6 @@ pub use sink::{Put, Sink};
 pub use source::{Source, Taken};
 pub use streams::{ReadSource, WriteSink};
 pub use transfers::{Input, read_all, write_all};
+
+#[cfg(test)]
+mod tests;

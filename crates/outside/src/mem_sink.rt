@@ -28,12 +28,12 @@ impl Model for MemSink {
     ghost Value = { SinkState };
 
     ghost view = { λ s. record {
-        written = s.bytes.items;
-        room = s.room;
-        piece = s.piece;
-        failing = s.failing.items;
-        calls = s.calls;
-        faults = s.faults
+      written = s.bytes.items;
+      room = s.room;
+      piece = s.piece;
+      failing = s.failing.items;
+      calls = s.calls;
+      faults = s.faults;
     } };
 
     ghost invariant = { λ s. (length s.bytes.items ≤ s.room) × (s.room ≤ vec_capacity s.bytes) × (0 < s.piece) };

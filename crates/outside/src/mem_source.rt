@@ -27,11 +27,11 @@ impl Model for MemSource {
     ghost Value = { SourceState };
 
     ghost view = { λ s. record {
-        left = s.left;
-        piece = s.piece;
-        failing = s.failing.items;
-        calls = s.calls;
-        faults = s.faults
+      left = s.left;
+      piece = s.piece;
+      failing = s.failing.items;
+      calls = s.calls;
+      faults = s.faults;
     } };
 
     ghost invariant = { λ s. 0 < s.piece };
