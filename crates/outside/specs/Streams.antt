@@ -1,6 +1,7 @@
 -- What a call does to the bytes that a source has left, or that were written to a sink, where those are told.
-use Rattle.std.specs.Prelude.{◌≡◌, ℕ, ◌<◌, ◌≤◌, List, length, take, ⊤, Option}
+use Rattle.std.specs.Prelude.{◌≡◌, ℕ, ◌<◌, ◌≤◌, List, length, take, ⊤, Option, IfSome, refl}
 use Rattle.std.specs.Io.KnownBytes.{Keeps, Appends, Consumes, IsAtEnd}
+use Rattle.std.proofs.KnownBytes.{Consumes-whole}
 use Rattle.outside.specs.Counts.{risen}
 use Rattle.outside.specs.declared.source.Taken.{Taken}
 use Rattle.outside.specs.declared.source.Taken.TheVariants as taken
@@ -15,7 +16,8 @@ GotWithin (taken.Got n) room = (1 ≤ n) × (n ≤ room)
 GotWithin taken.End room = ⊤
 GotWithin taken.Failed room = ⊤
 
--- a read took what it gave, the front of `buf`, off the bytes that were left; the end comes only where none are left
+-- a read took what it gave, the front of `buf`, off the bytes that were left; the end comes only where none are left,
+-- and a read that failed took none
 abbrev pub Reads : Taken → Option (List ℕ) → Option (List ℕ) → List ℕ → Type 0
 Reads (taken.Got n) before after buf = Consumes before after (take n buf)
 Reads taken.End before after buf = Keeps before after × IsAtEnd after
@@ -32,7 +34,7 @@ abbrev pub TookWithin : Put → ℕ → Type 0
 TookWithin (put.Took n) len = (1 ≤ n) × (n ≤ len)
 TookWithin put.Failed len = ⊤
 
--- a write put what it took, the front of `piece`, behind the bytes that were written
+-- a write put what it took, the front of `piece`, behind the bytes that were written; one that failed put nothing there
 abbrev pub Writes : Put → Option (List ℕ) → Option (List ℕ) → List ℕ → Type 0
 Writes (put.Took n) before after piece = Appends before after (take n piece)
 Writes put.Failed before after piece = Keeps before after
@@ -52,7 +54,11 @@ pub record IsWhole (limit : ℕ) (before after : Option (List ℕ)) (items : Lis
   pub consumed : Consumes before after items
   pub end : IsAtEnd after
 
--- `items` are as many bytes as the limit says, taken off the bytes that were left
+-- so they are the bytes that were left, where those were told
+pub IsWhole-left : (limit : ℕ) (before after : Option (List ℕ)) (items : List ℕ) → IsWhole limit before after items → IfSome before (λ left. left ≡ items)
+IsWhole-left limit before after items whole = Consumes-whole before after items (λ left. left ≡ items) whole.consumed whole.end refl
+
+-- `items` are as many bytes as the limit says, the front of those that were left
 pub record IsFull (limit : ℕ) (before after : Option (List ℕ)) (items : List ℕ) : Type 0 where
   pub exact : length items ≡ limit
   pub consumed : Consumes before after items

@@ -62,7 +62,8 @@ impl Source for CleanSource {
     }
 }
 
-/// A sink that never fails and keeps no bytes. It tells nothing of what was written, and its count of faults is always 0.
+/// A sink that never fails and keeps no bytes. It tells nothing of what was written, and its count of
+/// faults is always 0.
 #[derive(Debug, Drop)]
 pub struct CleanSink {
     piece: usize,

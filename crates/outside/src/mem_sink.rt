@@ -9,8 +9,8 @@ use crate::sink::{Put, Sink};
 use std::alloc::{AllocError, Global};
 use std::marker::Model;
 
-/// A sink that keeps what is written to it, in pieces. It fails at the calls that it is told to fail at, and where all
-/// its room is full, and counts those calls.
+/// A sink that keeps what is written to it, in pieces. It fails at the calls that it is told to fail at,
+/// and where all its room is full, and counts those calls.
 #[derive(Debug, Drop)]
 pub struct MemSink {
     bytes: Vec<u8>,
@@ -36,12 +36,13 @@ impl Model for MemSink {
       faults = s.faults;
     } };
 
-    ghost invariant = { λ s. (length s.bytes.items ≤ s.room) × (s.room ≤ vec_capacity s.bytes) × (0 < s.piece) };
+    ghost invariant = { λ s.
+        (length s.bytes.items ≤ s.room) × (s.room ≤ vec_capacity s.bytes) × (0 < s.piece) };
 }
 
 impl MemSink {
-    /// A sink with room for `room` bytes, that takes at most `piece` of them in a call. The calls in `failing`, counted
-    /// from 1, fail. All its memory is taken here.
+    /// A sink with room for `room` bytes, that takes at most `piece` of them in a call. The calls in
+    /// `failing`, counted from 1, fail. All its memory is taken here.
     pub fn new(
         alloc: Global,
         room: usize,

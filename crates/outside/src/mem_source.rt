@@ -10,7 +10,8 @@ use crate::source::{Source, Taken};
 use std::alloc::{AllocError, Global};
 use std::marker::Model;
 
-/// A source over bytes in memory, in pieces. It fails at the calls that it is told to fail at, and counts them.
+/// A source over bytes in memory, in pieces. It fails at the calls that it is told to fail at, and counts
+/// them.
 #[derive(Debug, Drop)]
 pub struct MemSource {
     left: BytesLeft,
@@ -38,7 +39,8 @@ impl Model for MemSource {
 }
 
 impl MemSource {
-    /// A source that gives `bytes`, at most `piece` of them in a call. The calls in `failing`, counted from 1, fail.
+    /// A source that gives `bytes`, at most `piece` of them in a call. The calls in `failing`, counted
+    /// from 1, fail.
     pub fn new(
         alloc: Global,
         bytes: &[u8],

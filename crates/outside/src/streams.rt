@@ -46,11 +46,13 @@ impl<R: Read + Drop> Source for ReadSource<R> {
 
     ghost faults = { λ s. s.faults };
 
-    /// Fails where the reader answers an error, and ends where it gives no byte. It takes no memory of its own.
+    /// Fails where the reader answers an error, and ends where it gives no byte. It takes no memory of
+    /// its own.
     fn read(&mut self, buf: &mut [u8]) -> Taken
         requires { 0 < length buf.old }
         ensures bound { GotWithin result (length buf.new) }
-        ensures bytes { Reads result (R.remaining self.old.inner) (R.remaining self.new.inner) buf.new }
+        ensures bytes { Reads result
+            (R.remaining self.old.inner) (R.remaining self.new.inner) buf.new }
         ensures later { self.old.faults ≤ self.new.faults }
         ensures cause { result ≡ Taken.Failed → Rose self.old.faults self.new.faults }
 
@@ -68,7 +70,8 @@ impl<R: Read + Drop> Source for ReadSource<R> {
     }
 }
 
-/// A sink over a writer. It tells of bytes what the writer tells, and counts each error and each write that takes nothing.
+/// A sink over a writer. It tells of bytes what the writer tells, and counts each error and each write
+/// that takes nothing.
 #[derive(Drop)]
 pub struct WriteSink<W: Write + Drop> {
     writer: W,
@@ -109,7 +112,8 @@ impl<W: Write + Drop> Sink for WriteSink<W> {
     fn write(&mut self, piece: &[u8]) -> Put
         requires { 0 < length piece.now }
         ensures bound { TookWithin result (length piece.now) }
-        ensures bytes { Writes result (W.contents self.old.inner) (W.contents self.new.inner) piece.now }
+        ensures bytes { Writes result
+            (W.contents self.old.inner) (W.contents self.new.inner) piece.now }
         ensures later { self.old.faults ≤ self.new.faults }
         ensures cause { result ≡ Put.Failed → Rose self.old.faults self.new.faults }
 

@@ -23,8 +23,8 @@ pub enum Input {
     NoMemory,
 }
 
-/// Reads `source` to its end, or until `limit` bytes were read, or until a read fails or memory runs out. Then the bytes
-/// that were read before are lost. Never more than `limit` bytes are read.
+/// Reads `source` to its end, or until `limit` bytes were read, and no further. Where a read fails or
+/// memory runs out it stops, and the bytes that it took before, fewer than `limit`, are lost.
 pub fn read_all<S: Source>(alloc: Global, source: &mut S, limit: usize) -> Input
     ensures input { IsInput result limit (S.left source.old) (S.left source.new) }
     ensures later { S.faults source.old ≤ S.faults source.new }
@@ -50,8 +50,8 @@ pub fn read_all<S: Source>(alloc: Global, source: &mut S, limit: usize) -> Input
 /// The least room of a read, while the limit allows it.
 const CHUNK: usize = 64 * 1024;
 
-/// One read into `bytes` behind its first `filled` items. Room is made first, so that nothing is read where there is no
-/// memory for it.
+/// One read into `bytes` behind its first `filled` items. Room is made first, so that nothing is read
+/// where there is no memory for it.
 fn read_chunk<S: Source>(
     source: &mut S,
     bytes: &mut Vec<u8>,
@@ -65,9 +65,11 @@ fn read_chunk<S: Source>(
     ensures clipped { vec_len bytes.new ≤ limit }
     ensures front { take filled bytes.new.items ≡ take filled bytes.old.items }
     ensures bound { IfOk result (λ taken. GotWithin taken (vec_len bytes.new - filled)) }
-    ensures bytes { IfOk result (λ taken. Reads taken (S.left source.old) (S.left source.new) (drop filled bytes.new.items)) }
+    ensures bytes { IfOk result
+        (λ taken. Reads taken (S.left source.old) (S.left source.new) (drop filled bytes.new.items)) }
     ensures later { S.faults source.old ≤ S.faults source.new }
-    ensures cause { IfOk result (λ taken. taken ≡ Taken.Failed → Rose (S.faults source.old) (S.faults source.new)) }
+    ensures cause { IfOk result
+        (λ taken. taken ≡ Taken.Failed → Rose (S.faults source.old) (S.faults source.new)) }
     ensures err { OnErr result (source.new ≡ source.old) }
 {
     make_room(bytes, filled, limit)?;
@@ -103,8 +105,8 @@ fn read_at<S: Source>(source: &mut S, buf: &mut [u8], at: usize) -> Taken
     source.read(&mut buf[at..])
 }
 
-/// Writes all of `bytes`, piece by piece, and answers whether that was done. After a failed write a front of them
-/// was written, and the count of faults rose. It takes no memory.
+/// Writes all of `bytes`, piece by piece, and answers whether that was done. After a failed write a front
+/// of them was written, and the count of faults rose. It takes no memory.
 pub fn write_all<K: Sink>(sink: &mut K, bytes: &[u8]) -> bool
     ensures whole { OnTrue result (Appends (K.written sink.old) (K.written sink.new) bytes.now) }
     ensures front { OnFalse result (AppendsFront (K.written sink.old) (K.written sink.new) bytes.now) }
