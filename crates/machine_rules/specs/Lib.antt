@@ -1,3 +1,4 @@
 pub mod Worlds
 pub mod Machines
 pub mod Runs
+pub mod Laws

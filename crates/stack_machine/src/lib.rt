@@ -8,7 +8,7 @@ mod instruction;
 mod machine;
 
 pub use machine::{Machine, Step};
-pub use machine_rules::End;
+pub use machine_rules::{End, State};
 
 #[cfg(test)]
 mod tests;

@@ -1,6 +1,6 @@
 //! A machine and its steps.
 
-ghost use Rattle.std.specs.Prelude.{◌≡◌, ◌≢◌, ◌+◌, ◌<◌, ◌^◌, false, true, List, [], ◌∷◌, ◌++◌, length, map, Some, None, option_copied, slice_get, IfOk, IsErr, OnErr, IsTrue};
+ghost use Rattle.std.specs.Prelude.{◌≡◌, ◌≢◌, ◌+◌, ◌<◌, ◌^◌, false, true, List, [], ◌∷◌, ◌++◌, length, map, Some, None, Ok, option_copied, slice_get, IfOk, IsErr, OnErr, IsTrue};
 ghost use Rattle.machine_rules.specs.declared.State.TheVariants.{Running, Awaiting, Stopped};
 ghost use Rattle.machine_rules.specs.Machines.{stopped, done, asking, silent, set_key, bytes_operand, run_instruction, run_next, advance, resumed, item, result_not_present, answered, answered_done, set_value};
 
@@ -87,6 +87,34 @@ impl Machine {
         }
     }
 
+    /// The machine's number. It takes no memory.
+    pub fn number(&self) -> u16
+        ensures { result ≡ self.now.machine.number }
+    {
+        self.number
+    }
+
+    /// The prefix that the machine was started under. It takes no memory.
+    pub fn prefix(&self) -> &Bytes
+        ensures { result.now ≡ self.now.machine.prefix }
+    {
+        &self.prefix
+    }
+
+    /// What the machine is about to do. It takes no memory.
+    pub fn state(&self) -> State
+        ensures { result ≡ self.now.machine.state }
+    {
+        self.state
+    }
+
+    /// How many instructions the machine has. It takes no memory.
+    pub fn instruction_count(&self) -> usize
+        ensures { result ≡ length self.now.machine.instructions }
+    {
+        self.instructions.len()
+    }
+
     /// The machine's stack. It takes no memory.
     pub fn stack(&self) -> &Stack
         ensures { result.now ≡ self.now.machine.stack }
@@ -100,20 +128,29 @@ impl Machine {
     pub fn step(&mut self, reply: Option<&Reply>) -> Result<Step, AllocError>
         requires { MayStep self.old.is_out_of_memory self.old.machine.state (option_copied reply) }
         ensures ok { IfOk result (λ step. Moves self.old (moved self.old.machine (option_copied reply.entry)) step self.new) }
+        // Again comes only where an instruction was finished.
+        ensures again { result ≡ Ok Step.Again → self.new.machine.next ≡ self.old.machine.next + 1 }
         ensures refused { self.old.is_out_of_memory ≡ true → IsErr result }
         ensures err { OnErr result (self.new.is_out_of_memory ≡ true) }
     {
         if self.is_out_of_memory {
             return Err(AllocError);
         }
-        let step = match reply {
-            None => self.advance(),
-            Some(reply) => self.resume(reply),
-        };
+        let step = self.move_on(reply);
         if step.is_err() {
             self.is_out_of_memory = true;
         }
         step
+    }
+
+    fn move_on(&mut self, reply: Option<&Reply>) -> Result<Step, AllocError>
+        requires { self.old.is_out_of_memory ≡ false }
+        ensures { IfOk result (λ step. Moves self.old (moved self.old.machine (option_copied reply.entry)) step self.new) }
+    {
+        match reply {
+            None => self.advance(),
+            Some(reply) => self.resume(reply),
+        }
     }
 
     #[tactic(auto, unfolding(machine_rules::specs::Machines::advance))]

@@ -1,0 +1,212 @@
+-- What follows from the definitions of machines and runs, for the layers above.
+use Rattle.std.specs.Prelude.{◌≡◌, ℕ, zero, suc, ◌+◌, ◌-◌, ◌<◌, Bool, true, false, List, [], ◌∷◌, ◌++◌, length, Option, Some, None, option_and_then, slice_get, cond, refl}
+use Rattle.std.proofs.Common.{sym, ap, ◌∙◌, subst, add-one, arith}
+use Rattle.std.proofs.lemmas.Option.{slice_get_within}
+use Rattle.fdb_calls.specs.declared.Code.{Code}
+use Rattle.fdb_calls.specs.declared.Request.{Request}
+use Rattle.fdb_calls.specs.declared.Reply.TheVariants as reply
+use Rattle.machine_rules.specs.declared.Awaits.{Awaits}
+use Rattle.machine_rules.specs.declared.End.{End}
+use Rattle.machine_rules.specs.declared.State.{State}
+use Rattle.machine_rules.specs.declared.State.TheVariants as state
+use Rattle.machine_rules.specs.declared.Instruction.{Instruction}
+use Rattle.machine_rules.specs.declared.Instruction.TheVariants as instruction
+use Rattle.machine_rules.specs.Worlds.{World, refusal}
+use Rattle.machine_rules.specs.Machines.{Machine, Progress, Operand, Popped, Missing, Unfit, silent, set_key, set_value, bytes_operand, run_instruction, run_next, instruction_of, advance_by, advance, resumed, resumed_by, answered}
+use Rattle.machine_rules.specs.Runs.{Run, is_running, rested, at_rest, judged_by, judged, standing, take_place, run_from}
+
+-- ---- one step of a machine
+
+-- the machine finished one of its instructions, and goes on
+pub record Finishes (before : Machine) (progress : Progress) : Type 0 where
+  pub silent_is : progress.asks ≡ None
+  pub instructions : progress.machine.instructions ≡ before.instructions
+  pub next : progress.machine.next ≡ before.next + 1
+  pub inside : before.next < length before.instructions
+
+not_running : {A : Type 0} → false ≡ true → A
+not_running e = absurd cc
+
+value_running : (machine : Machine) (key : List ℕ) (operand : Operand) → is_running (set_value machine key operand).machine.state ≡ true → Finishes machine (set_value machine key operand)
+value_running machine key (Popped value below) e = not_running e
+value_running machine key Missing e = not_running e
+value_running machine key (Unfit below) e = not_running e
+
+key_running : (machine : Machine) (operand : Operand) → is_running (set_key machine operand).machine.state ≡ true → Finishes machine (set_key machine operand)
+key_running machine (Popped key below) e = value_running machine key (bytes_operand below) e
+key_running machine Missing e = not_running e
+key_running machine (Unfit below) e = not_running e
+
+instruction_running : (machine : Machine) (found : Option Instruction) → machine.next < length machine.instructions → is_running (run_instruction machine found).machine.state ≡ true → Finishes machine (run_instruction machine found)
+instruction_running machine None inside e = not_running e
+instruction_running machine (Some (instruction.Push element)) inside e = record { silent_is = refl; instructions = refl; next = refl; inside = inside }
+instruction_running machine (Some instruction.Set) inside e = key_running machine (bytes_operand machine.stack) e
+instruction_running machine (Some instruction.Commit) inside e = not_running e
+
+next_running : (machine : Machine) (value : Option (List ℕ)) → slice_get machine.instructions machine.next ≡ value → is_running (run_next machine value).machine.state ≡ true → Finishes machine (run_next machine value)
+next_running machine None is e = not_running e
+next_running machine (Some value) is e = instruction_running machine (instruction_of value) (slice_get_within machine.instructions machine.next value is) e
+
+state_running : (state : State) (machine : Machine) → is_running state ≡ true → is_running (advance_by state machine).machine.state ≡ true → Finishes machine (advance_by state machine)
+state_running state.Running machine was e = next_running machine (slice_get machine.instructions machine.next) refl e
+state_running (state.Awaiting awaits) machine was e = not_running was
+state_running (state.Stopped end) machine was e = not_running was
+
+-- a running machine that still runs after a step has finished an instruction
+pub advance_finishes : (machine : Machine) → is_running machine.state ≡ true → is_running (advance machine).machine.state ≡ true → Finishes machine (advance machine)
+unfolding advance
+advance_finishes machine was e = state_running machine.state machine was e
+
+abbrev pub is_awaiting : State → Bool
+is_awaiting state.Running = false
+is_awaiting (state.Awaiting awaits) = true
+is_awaiting (state.Stopped end) = false
+
+-- a machine that asks awaits the reply
+abbrev AsksAwaiting : Progress → Type 0
+AsksAwaiting progress = (request : Request) → progress.asks ≡ Some request → is_awaiting progress.machine.state ≡ true
+
+silent_asks : (machine : Machine) → AsksAwaiting (silent machine)
+silent_asks machine request e = absurd cc
+
+value_asks : (machine : Machine) (key : List ℕ) (operand : Operand) → AsksAwaiting (set_value machine key operand)
+value_asks machine key (Popped value below) request e = refl
+value_asks machine key Missing request e = absurd cc
+value_asks machine key (Unfit below) request e = absurd cc
+
+key_asks : (machine : Machine) (operand : Operand) → AsksAwaiting (set_key machine operand)
+key_asks machine (Popped key below) request e = value_asks machine key (bytes_operand below) request e
+key_asks machine Missing request e = absurd cc
+key_asks machine (Unfit below) request e = absurd cc
+
+instruction_asks : (machine : Machine) (found : Option Instruction) → AsksAwaiting (run_instruction machine found)
+instruction_asks machine None request e = absurd cc
+instruction_asks machine (Some (instruction.Push element)) request e = absurd cc
+instruction_asks machine (Some instruction.Set) request e = key_asks machine (bytes_operand machine.stack) request e
+instruction_asks machine (Some instruction.Commit) request e = refl
+
+next_asks : (machine : Machine) (value : Option (List ℕ)) → AsksAwaiting (run_next machine value)
+next_asks machine None request e = absurd cc
+next_asks machine (Some value) request e = instruction_asks machine (instruction_of value) request e
+
+state_asks : (state : State) (machine : Machine) → AsksAwaiting (advance_by state machine)
+state_asks state.Running machine request e = next_asks machine (slice_get machine.instructions machine.next) request e
+state_asks (state.Awaiting awaits) machine request e = absurd cc
+state_asks (state.Stopped end) machine request e = absurd cc
+
+pub advance_asks : (machine : Machine) (request : Request) → (advance machine).asks ≡ Some request → is_awaiting (advance machine).machine.state ≡ true
+unfolding advance
+advance_asks machine request e = state_asks machine.state machine request e
+
+awaiting_rests : (state : State) → is_awaiting state ≡ true → is_running state ≡ false
+awaiting_rests state.Running e = absurd cc
+awaiting_rests (state.Awaiting awaits) e = refl
+awaiting_rests (state.Stopped end) e = refl
+
+refused_by : (state : State) (machine : Machine) (code : Code) → is_awaiting state ≡ true → is_running (resumed_by state machine (reply.Fault code)).state ≡ false
+refused_by state.Running machine code e = absurd cc
+refused_by (state.Awaiting awaits) machine code e = refl
+refused_by (state.Stopped end) machine code e = absurd cc
+
+-- a refusal ends the machine
+pub refused_rests : (machine : Machine) (code : Code) → is_awaiting machine.state ≡ true → is_running (resumed machine (reply.Fault code)).state ≡ false
+unfolding resumed
+refused_rests machine code e = refused_by machine.state machine code e
+
+-- ---- coming to rest
+
+rested_still : (n : ℕ) (progress : Progress) → is_running progress.machine.state ≡ false → rested n progress ≡ progress
+unfolding rested
+rested_still zero progress e = refl
+rested_still (suc n) progress e = ap (λ b. cond b (rested n (advance progress.machine)) progress) e
+
+rested_once : (n : ℕ) (progress : Progress) → is_running progress.machine.state ≡ true → rested (suc n) progress ≡ rested n (advance progress.machine)
+unfolding rested
+rested_once n progress e = ap (λ b. cond b (rested n (advance progress.machine)) progress) e
+
+-- a machine that doesn't run is at rest
+pub at_rest_still : (machine : Machine) → is_running machine.state ≡ false → at_rest machine ≡ silent machine
+unfolding at_rest
+at_rest_still machine e = rested_still (length machine.instructions - machine.next + 1) (silent machine) e
+
+at_rest_once : (machine : Machine) → is_running machine.state ≡ true → at_rest machine ≡ rested (length machine.instructions - machine.next) (advance machine)
+unfolding at_rest
+at_rest_once machine e =
+    ap (λ n. rested n (silent machine)) (add-one (length machine.instructions - machine.next)) ∙ rested_once (length machine.instructions - machine.next) (silent machine) e
+
+-- a step that leaves the machine not running leaves it at rest
+pub at_rest_after : (machine : Machine) → is_running machine.state ≡ true → is_running (advance machine).machine.state ≡ false → at_rest machine ≡ advance machine
+at_rest_after machine was e = at_rest_once machine was ∙ rested_still (length machine.instructions - machine.next) (advance machine) e
+
+silent_of : (progress : Progress) → progress.asks ≡ None → progress ≡ silent progress.machine
+silent_of progress e = ap (λ (asks : Option Request). record { machine = progress.machine; asks = asks }) e
+
+fewer : (i j n m : ℕ) → j ≡ i + 1 → m ≡ n → i < n → n - i ≡ m - j + 1
+fewer i j n m next same inside = omega arith
+
+-- a step after which the machine still runs leads to the same rest
+pub at_rest_again : (machine : Machine) → is_running machine.state ≡ true → is_running (advance machine).machine.state ≡ true → at_rest machine ≡ at_rest (advance machine).machine
+unfolding at_rest
+at_rest_again machine was e =
+    let finishes = advance_finishes machine was e in
+    let progress = advance machine in
+    at_rest_once machine was
+    ∙ ap (λ n. rested n progress) (fewer machine.next progress.machine.next (length machine.instructions) (length progress.machine.instructions) finishes.next (ap length finishes.instructions) finishes.inside)
+    ∙ ap (rested (length progress.machine.instructions - progress.machine.next + 1)) (silent_of progress finishes.silent_is)
+
+-- ---- standing in a world
+
+-- a machine that still runs after a step stands where it stood
+pub standing_again : (world : World) (machine : Machine) → is_running machine.state ≡ true → is_running (advance machine).machine.state ≡ true
+    → standing world machine ≡ standing world (advance machine).machine
+unfolding standing
+standing_again world machine was e = ap (judged world) (at_rest_again machine was e)
+
+-- one that has stopped stands there
+pub standing_still : (world : World) (machine : Machine) → is_running machine.state ≡ false → standing world machine ≡ silent machine
+unfolding standing
+standing_still world machine e = ap (judged world) (at_rest_still machine e)
+
+-- one that stops in a step stands there
+pub standing_stops : (world : World) (machine : Machine) → is_running machine.state ≡ true → is_running (advance machine).machine.state ≡ false → (advance machine).asks ≡ None
+    → standing world machine ≡ standing world (advance machine).machine
+unfolding standing
+standing_stops world machine was e quiet =
+    ap (judged world) (at_rest_after machine was e ∙ silent_of (advance machine) quiet) ∙ ap (judged world) (sym (at_rest_still (advance machine).machine e))
+
+asking_at : (machine : Machine) (request : Request) → is_running machine.state ≡ true → (advance machine).asks ≡ Some request
+    → at_rest machine ≡ record { machine = (advance machine).machine; asks = Some request }
+asking_at machine request was asks =
+    at_rest_after machine was (awaiting_rests (advance machine).machine.state (advance_asks machine request asks))
+    ∙ ap (λ (a : Option Request). record { machine = (advance machine).machine; asks = a }) asks
+
+-- one that asks what is taken stands at its request
+pub standing_asks : (world : World) (machine : Machine) (request : Request) → is_running machine.state ≡ true → (advance machine).asks ≡ Some request → refusal world request ≡ None
+    → standing world machine ≡ record { machine = (advance machine).machine; asks = Some request }
+unfolding standing
+standing_asks world machine request was asks taken =
+    let progress : Progress = record { machine = (advance machine).machine; asks = Some request } in
+    ap (judged world) (asking_at machine request was asks) ∙ ap (λ code. judged_by code progress) taken
+
+-- one that asks what is refused ends by the refusal
+pub standing_refused : (world : World) (machine : Machine) (request : Request) (code : ℕ) → is_running machine.state ≡ true → (advance machine).asks ≡ Some request → refusal world request ≡ Some code
+    → standing world machine ≡ standing world (resumed (advance machine).machine (reply.Fault (record { 0 = code })))
+unfolding standing
+standing_refused world machine request code was asks refused =
+    let progress : Progress = record { machine = (advance machine).machine; asks = Some request } in
+    let ended = resumed (advance machine).machine (reply.Fault (record { 0 = code })) in
+    ap (judged world) (asking_at machine request was asks) ∙ ap (λ found. judged_by found progress) refused
+    ∙ ap (judged world) (sym (at_rest_still ended (refused_rests (advance machine).machine (record { 0 = code }) (advance_asks machine request asks))))
+
+-- ---- orders
+
+-- a run goes on from the run of the order's front
+pub run_from-append : (front rest : List ℕ) (run : Run) → run_from (front ++ rest) run ≡ option_and_then (run_from rest) (run_from front run)
+unfolding run_from
+run_from-append [] rest run = refl
+run_from-append (place ∷ front) rest run = run_append (take_place place run) (run_from-append front rest)
+  where
+    run_append : (next : Option Run) → ((run : Run) → run_from (front ++ rest) run ≡ option_and_then (run_from rest) (run_from front run))
+        → option_and_then (run_from (front ++ rest)) next ≡ option_and_then (run_from rest) (option_and_then (run_from front) next)
+    run_append None again = refl
+    run_append (Some next) again = again next

@@ -1,0 +1,73 @@
+-- A step answers Again only where an instruction was finished.
+use Rattle.std.proofs.Common.{◌≡◌, ℕ, ◌+◌, Bool, true, false, List, Option, Some, None, Result, Ok, Err, refl, sym, ap, ◌∙◌}
+use Rattle.std.specs.Prelude.{slice_get, IfOk, ⊤}
+use Rattle.fdb_calls.specs.declared.Reply.{Reply}
+use Rattle.fdb_calls.specs.declared.Reply.TheVariants as reply
+use Rattle.machine_rules.specs.declared.Awaits.{Awaits}
+use Rattle.machine_rules.specs.declared.Awaits.TheVariants as awaits
+use Rattle.machine_rules.specs.declared.State.{State}
+use Rattle.machine_rules.specs.declared.State.TheVariants as state
+use Rattle.machine_rules.specs.declared.Instruction.{Instruction}
+use Rattle.machine_rules.specs.declared.Instruction.TheVariants as instruction
+use Rattle.machine_rules.specs.Machines.{Machine, Progress, Operand, Popped, Missing, Unfit, silent, set_key, set_value, bytes_operand, run_instruction, run_next, instruction_of, answered, advance_by, advance, resumed, resumed_by}
+use Rattle.stack_machine.specs.Held.{Held}
+use Rattle.stack_machine.specs.Steps.{IsDue, MayStep, moved, answer_of, Moves}
+use Rattle.stack_machine.specs.declared.machine.Step.{Step}
+use Rattle.stack_machine.specs.declared.machine.Step.TheVariants as step
+
+abbrev FinishesAtAgain : Machine → Progress → Type 0
+FinishesAtAgain machine progress = answer_of progress ≡ step.Again → progress.machine.next ≡ machine.next + 1
+
+value_again : (machine : Machine) (key : List ℕ) (operand : Operand) → FinishesAtAgain machine (set_value machine key operand)
+value_again machine key (Popped value below) e = absurd cc
+value_again machine key Missing e = absurd cc
+value_again machine key (Unfit below) e = absurd cc
+
+key_again : (machine : Machine) (operand : Operand) → FinishesAtAgain machine (set_key machine operand)
+key_again machine (Popped key below) e = value_again machine key (bytes_operand below) e
+key_again machine Missing e = absurd cc
+key_again machine (Unfit below) e = absurd cc
+
+instruction_again : (machine : Machine) (found : Option Instruction) → FinishesAtAgain machine (run_instruction machine found)
+instruction_again machine None e = absurd cc
+instruction_again machine (Some (instruction.Push element)) e = refl
+instruction_again machine (Some instruction.Set) e = key_again machine (bytes_operand machine.stack) e
+instruction_again machine (Some instruction.Commit) e = absurd cc
+
+next_again : (machine : Machine) (value : Option (List ℕ)) → FinishesAtAgain machine (run_next machine value)
+next_again machine None e = absurd cc
+next_again machine (Some value) e = instruction_again machine (instruction_of value) e
+
+advance_again : (state : State) (machine : Machine) → machine.state ≡ state → IsDue state None → FinishesAtAgain machine (advance_by state machine)
+advance_again state.Running machine is due e = next_again machine (slice_get machine.instructions machine.next) e
+advance_again (state.Awaiting awaits) machine is due e = absurd due
+advance_again (state.Stopped end) machine is due e = absurd (let stopped : answer_of (silent machine) ≡ step.Stopped end = ap (λ s. answer_of (silent (record machine { state = s }))) is in cc (sym e ∙ stopped))
+
+answered_again : (machine : Machine) (awaits : Awaits) (given : Reply) → FinishesAtAgain machine (silent (answered machine awaits given))
+answered_again machine awaits.Nothing reply.Done e = refl
+answered_again machine awaits.NotPresent reply.Done e = refl
+answered_again machine awaits (reply.Fault code) e = absurd cc
+answered_again machine awaits reply.NoMemory e = refl
+
+resumed_again : (state : State) (machine : Machine) (given : Reply) → IsDue state (Some given) → FinishesAtAgain machine (silent (resumed_by state machine given))
+resumed_again state.Running machine given due e = absurd due
+resumed_again (state.Awaiting awaits) machine given due e = answered_again machine awaits given e
+resumed_again (state.Stopped end) machine given due e = absurd due
+
+moved_again : (machine : Machine) (given : Option Reply) → IsDue machine.state given → FinishesAtAgain machine (moved machine given)
+unfolding advance resumed
+moved_again machine None due e = advance_again machine.state machine refl due e
+moved_again machine (Some given) due e = resumed_again machine.state machine given due e
+
+due_of : (out : Bool) (state : State) (given : Option Reply) → out ≡ false → MayStep out state given → IsDue state given
+due_of true state given e may = absurd cc
+due_of false state given e may = may
+
+-- from what a step ensures where it is Ok
+pub step_again : {E : Type 0} (old new : Held) (given : Option Reply) (result : Result Step E) → MayStep old.is_out_of_memory old.machine.state given
+    → IfOk result (λ answer. Moves old (moved old.machine given) answer new) → result ≡ Ok step.Again → new.machine.next ≡ old.machine.next + 1
+step_again old new given (Ok answer) may moves e =
+    let again : answer ≡ step.Again = cc in
+    ap (λ (m : Machine). m.next) moves.machine
+    ∙ moved_again old.machine given (due_of old.is_out_of_memory old.machine.state given moves.before may) (sym moves.answer_is ∙ again)
+step_again old new given (Err e') may moves e = absurd cc
