@@ -209,3 +209,6 @@ read_more front bytes rest run left byte total e f g so_far =
     let one = text_step bytes rest run left byte e f g in
     let joined : ((front ++ byte ∷ []) ++ run) ++ (text_of left).bytes ≡ front ++ ((byte ∷ run) ++ (text_of left).bytes) = simp append_assoc in
     ap (λ (x : List ℕ). record (text_of left) { bytes = x }) joined ∙ ap (with_front front) (sym one) ∙ so_far
+
+pub separator_within : (bytes rest : List ℕ) → Separator rest ≡ piece_at bytes → length rest + 1 < length bytes
+separator_within bytes rest e = rw (← e) at (shorter bytes)

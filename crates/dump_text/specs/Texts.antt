@@ -20,3 +20,9 @@ stop_is stops.AtFault = reading.AtFault
 
 abbrev pub text_is : Text → reading.Text
 text_is text = record { bytes = text.bytes.items; stop = stop_is text.stop; left = text.left.now }
+
+-- how many bytes stand between what was read and what is left
+abbrev pub passed : Stop → ℕ
+passed stops.AtEnd = 0
+passed stops.AtSeparator = 2
+passed stops.AtFault = 0

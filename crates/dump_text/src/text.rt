@@ -1,8 +1,8 @@
 //! Reading of the printable form of bytes.
 
-ghost use Rattle.std.specs.Prelude.{◌≡◌, ◌≤◌, ◌∷◌, ◌++◌, length, IfOk, OnOk, OnErr};
+ghost use Rattle.std.specs.Prelude.{◌≡◌, ◌+◌, ◌≤◌, ◌∷◌, ◌++◌, length, IfOk, OnOk, OnErr};
 ghost use Rattle.line_rules.specs.Reading.{piece_at, escaped_piece, hexadecimal_piece, digit_of, text_of};
-ghost use Rattle.dump_text.specs.Texts.{piece_is, text_is};
+ghost use Rattle.dump_text.specs.Texts.{piece_is, text_is, passed};
 
 use crate::plain::{is_plain, split_plain};
 use std::alloc::{AllocError, Global};
@@ -125,7 +125,8 @@ fn add_run(text: &mut Vec<u8>, run: &[u8]) -> Result<(), AllocError>
 
 /// The bytes that are spelled up to the end, the separator or a fault.
 pub fn read_text(alloc: Global, bytes: &[u8]) -> Result<Text<'_>, AllocError>
-    ensures { IfOk result (λ text. text_is text ≡ text_of bytes.now) }
+    ensures value { IfOk result (λ text. text_is text ≡ text_of bytes.now) }
+    ensures within { IfOk result (λ text. length text.left.now + passed text.stop ≤ length bytes.now) }
 {
     let (run, mut left) = split_plain(bytes);
     let mut text = Vec::with_capacity(alloc, run.len() + text_len(left))?;
