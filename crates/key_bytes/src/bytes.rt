@@ -1,6 +1,6 @@
 //! A byte string.
 
-ghost use Rattle.std.specs.Prelude.{◌≡◌, ℕ, ◌<◌, List, [], ◌∷◌, ◌++◌, Some, IfOk, OnOk, OnErr, nat_eq};
+ghost use Rattle.std.specs.Prelude.{◌≡◌, ℕ, ◌<◌, ◌==◌, List, [], ◌∷◌, ◌++◌, Some, length, take, IfOk, OnOk, OnErr, nat_eq};
 ghost use Rattle.std.specs.Ordering.{nat_cmp};
 ghost use Rattle.std.specs.Cmp.{partial_equiv_from_equiv};
 ghost use Rattle.std.specs.Cmp.Lexicographic.{pointwise, nat_list_eq_equiv, nat_list_cmp_total, texts_po, texts_ties, slice_cmp};
@@ -69,6 +69,36 @@ impl Bytes {
         ensures { result.now ≡ self.now }
     {
         self.items.as_slice()
+    }
+
+    /// How many bytes there are. It takes no memory.
+    pub fn len(&self) -> usize
+        ensures { result ≡ length self.now }
+    {
+        self.items.len()
+    }
+
+    /// Whether there is no byte. It takes no memory.
+    pub fn is_empty(&self) -> bool
+        ensures { result ≡ (length self.now == 0) }
+    {
+        self.items.is_empty()
+    }
+
+    /// Keeps the first `len` bytes, or all where there are no more. It takes no memory.
+    pub fn truncate(&mut self, len: usize)
+        ensures { self.new ≡ take len self.old }
+    {
+        self.items.truncate(len);
+    }
+
+    /// Adds one byte at the end. After a refusal this byte string is unchanged.
+    pub fn push(&mut self, byte: u8) -> Result<(), AllocError>
+        ensures ok { OnOk result (self.new ≡ self.old ++ byte ∷ []) }
+        ensures err { OnErr result (self.new ≡ self.old) }
+    {
+        self.items.push(byte)?;
+        Ok(())
     }
 
     /// Adds `bytes` at the end. After a refusal this byte string is unchanged.

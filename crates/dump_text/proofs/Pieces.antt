@@ -1,0 +1,214 @@
+-- The printable form, a run or a piece at a time.
+use Rattle.std.proofs.Common.{◌≡◌, ℕ, zero, suc, ◌+◌, ◌<◌, ◌≤◌, Bool, true, false, cond, not, ◌&&◌, ◌==◌, ltb, ◌*◌, List, [], ◌∷◌, ◌++◌, length, take, drop, refl, sym, ap, subst, ◌∙◌, append_assoc, arith, rules}
+use Rattle.std.specs.List.{prefix_len, take_while}
+use Rattle.std.proofs.lemmas.List.{length-append, take-append-drop, append-nil}
+use Rattle.line_rules.specs.Printing.{is_plain, backslash}
+use Rattle.line_rules.specs.Reading.{Piece, Nothing, Spelled, Separator, Unfit, piece_at, hexadecimal_piece, escaped_piece, digit_of, behind, begun, Text, pieces, text_of, Stop, AtEnd, AtSeparator, AtFault}
+
+-- what was read before, put before what is read
+abbrev pub with_front : List ℕ → Text → Text
+with_front front text = record text { bytes = front ++ text.bytes }
+
+-- behind each piece fewer bytes are left than before it, two fewer behind the separator
+abbrev pub Shorter : ℕ → Piece → Type 0
+Shorter n Nothing = Unit {0}
+Shorter n (Spelled byte rest) = length rest < n
+Shorter n (Separator rest) = length rest + 1 < n
+Shorter n Unfit = Unit {0}
+
+shorter_cond : (n : ℕ) (test : Bool) (p q : Piece) → Shorter n p → Shorter n q → Shorter n (cond test p q)
+shorter_cond n true p q h k = h
+shorter_cond n false p q h k = k
+
+shorter_hexadecimal : (n : ℕ) (bytes : List ℕ) → length bytes < n → Shorter n (hexadecimal_piece bytes)
+shorter_hexadecimal n [] h = tt
+shorter_hexadecimal n (high ∷ []) h = tt
+shorter_hexadecimal n (high ∷ low ∷ rest) h =
+    let byte = 16 * digit_of high + digit_of low in
+    shorter_cond n (ltb (digit_of high) 16 && ltb (digit_of low) 16 && not (is_plain byte) && not (byte == backslash)) (Spelled byte rest) Unfit (omega arith) tt
+
+shorter_escaped : (n : ℕ) (bytes : List ℕ) → length bytes < n → Shorter n (escaped_piece bytes)
+shorter_escaped n [] h = tt
+shorter_escaped n (byte ∷ rest) h =
+    let hexadecimal = cond (byte == 120) (hexadecimal_piece rest) Unfit in
+    let separated = cond (byte == 61) (Separator rest) hexadecimal in
+    shorter_cond n (byte == backslash) (Spelled backslash rest) separated (omega arith)
+    (shorter_cond n (byte == 61) (Separator rest) hexadecimal (omega arith)
+    (shorter_cond n (byte == 120) (hexadecimal_piece rest) Unfit (shorter_hexadecimal n rest (omega arith)) tt))
+
+pub shorter : (bytes : List ℕ) → Shorter (length bytes) (piece_at bytes)
+unfolding piece_at
+shorter [] = tt
+shorter (byte ∷ rest) =
+    let escaped = cond (byte == backslash) (escaped_piece rest) Unfit in
+    shorter_cond (suc (length rest)) (is_plain byte) (Spelled byte rest) escaped (omega arith)
+    (shorter_cond (suc (length rest)) (byte == backslash) (escaped_piece rest) Unfit (shorter_escaped (suc (length rest)) rest (omega arith)) tt)
+
+-- ---- text_of, a piece at a time
+
+-- what is begun depends on the text behind a spelled byte alone
+same_begun : (bytes : List ℕ) (n : ℕ) (p : Piece) (s t : Text) → Shorter n p → (length (behind p) < n → s ≡ t) → begun bytes p s ≡ begun bytes p t
+same_begun bytes n Nothing s t h e = refl
+same_begun bytes n (Spelled byte rest) s t h e = ap (λ (x : Text). begun bytes (Spelled byte rest) x) (e h)
+same_begun bytes n (Separator rest) s t h e = refl
+same_begun bytes n Unfit s t h e = refl
+
+-- as many pieces as bytes are enough, and more change nothing
+enough : (n m : ℕ) (bytes : List ℕ) → length bytes < n → length bytes < m → pieces n bytes ≡ pieces m bytes
+unfolding pieces
+enough zero m bytes h k = absurd (omega arith)
+enough (suc n) zero bytes h k = absurd (omega arith)
+enough (suc n) (suc m) bytes h k =
+    same_begun bytes (length bytes) (piece_at bytes) (pieces n (behind (piece_at bytes))) (pieces m (behind (piece_at bytes))) (shorter bytes)
+    (λ l. enough n m (behind (piece_at bytes)) (omega arith) (omega arith))
+
+pub text_begun : (bytes : List ℕ) → text_of bytes ≡ begun bytes (piece_at bytes) (text_of (behind (piece_at bytes)))
+unfolding text_of pieces
+text_begun bytes =
+    let next : length bytes + 1 ≡ suc (length bytes) = omega arith in
+    let one : pieces (length bytes + 1) bytes ≡ begun bytes (piece_at bytes) (pieces (length bytes) (behind (piece_at bytes))) = ap (λ (n : ℕ). pieces n bytes) next in
+    one ∙ same_begun bytes (length bytes) (piece_at bytes) (pieces (length bytes) (behind (piece_at bytes))) (text_of (behind (piece_at bytes))) (shorter bytes)
+        (λ l. enough (length bytes) (length (behind (piece_at bytes)) + 1) (behind (piece_at bytes)) l (omega arith))
+
+-- what stands at each piece
+pub text_spelled : (bytes rest : List ℕ) (byte : ℕ) → piece_at bytes ≡ Spelled byte rest → text_of bytes ≡ with_front (byte ∷ []) (text_of rest)
+text_spelled bytes rest byte e = text_begun bytes ∙ ap (λ (p : Piece). begun bytes p (text_of (behind p))) e
+
+pub text_nothing : (bytes : List ℕ) → piece_at bytes ≡ Nothing → text_of bytes ≡ record { bytes = []; stop = AtEnd; left = [] }
+text_nothing bytes e = text_begun bytes ∙ ap (λ (p : Piece). begun bytes p (text_of (behind p))) e
+
+pub text_separator : (bytes rest : List ℕ) → piece_at bytes ≡ Separator rest → text_of bytes ≡ record { bytes = []; stop = AtSeparator; left = rest }
+text_separator bytes rest e = text_begun bytes ∙ ap (λ (p : Piece). begun bytes p (text_of (behind p))) e
+
+pub text_unfit : (bytes : List ℕ) → piece_at bytes ≡ Unfit → text_of bytes ≡ record { bytes = []; stop = AtFault; left = bytes }
+text_unfit bytes e = text_begun bytes ∙ ap (λ (p : Piece). begun bytes p (text_of (behind p))) e
+
+-- ---- runs of plain bytes
+
+-- the front of bytes that pass a test, and what is left behind it
+abbrev pub after : (ℕ → Bool) → List ℕ → List ℕ
+after p bytes = drop (prefix_len p bytes) bytes
+
+passes : (p : ℕ → Bool) (byte : ℕ) (rest : List ℕ) → p byte ≡ true → (take_while p (byte ∷ rest) ≡ byte ∷ take_while p rest) × (after p (byte ∷ rest) ≡ after p rest)
+passes p byte rest e =
+    let next : 1 + prefix_len p rest ≡ suc (prefix_len p rest) = omega arith in
+    (rw (e, next) refl, rw (e, next) refl)
+
+fails : (p : ℕ → Bool) (byte : ℕ) (rest : List ℕ) → p byte ≡ false → (take_while p (byte ∷ rest) ≡ []) × (after p (byte ∷ rest) ≡ byte ∷ rest)
+fails p byte rest e = (rw e refl, rw e refl)
+
+plain_text : (byte : ℕ) (rest : List ℕ) → is_plain byte ≡ true → text_of (byte ∷ rest) ≡ with_front (byte ∷ []) (text_of rest)
+unfolding piece_at
+plain_text byte rest e = text_spelled (byte ∷ rest) rest byte (rw e refl)
+
+run_with : (p : ℕ → Bool) → ((byte : ℕ) (rest : List ℕ) → p byte ≡ true → text_of (byte ∷ rest) ≡ with_front (byte ∷ []) (text_of rest)) → (bytes : List ℕ) → text_of bytes ≡ with_front (take_while p bytes) (text_of (after p bytes))
+run_with p step [] = refl
+run_with p step (byte ∷ rest) =
+    elim (p byte) as (λ b. p byte ≡ b → text_of (byte ∷ rest) ≡ with_front (take_while p (byte ∷ rest)) (text_of (after p (byte ∷ rest)))) [
+      | true ↦ λ e.
+        let parts = passes p byte rest e in
+        step byte rest e ∙ ap (with_front (byte ∷ [])) (run_with p step rest) ∙ rw (parts.0, parts.1) refl
+      | false ↦ λ e. let parts = fails p byte rest e in rw (parts.0, parts.1) refl
+    ] refl
+
+pub text_run : (bytes : List ℕ) → text_of bytes ≡ with_front (take_while is_plain bytes) (text_of (after is_plain bytes))
+text_run bytes = run_with is_plain plain_text bytes
+
+pub length-run : (bytes : List ℕ) → length (take_while is_plain bytes) + length (after is_plain bytes) ≡ length bytes
+length-run bytes =
+    let n = prefix_len is_plain bytes in
+    sym (length-append (take n bytes) (drop n bytes)) ∙ ap length (take-append-drop n bytes)
+
+-- a spelled byte and the run behind it
+pub text_step : (bytes rest run left : List ℕ) (byte : ℕ) → Spelled byte rest ≡ piece_at bytes → run ≡ take_while is_plain rest → left ≡ after is_plain rest
+    → text_of bytes ≡ with_front (byte ∷ run) (text_of left)
+text_step bytes rest run left byte e f g = text_spelled bytes rest byte (sym e) ∙ ap (with_front (byte ∷ [])) (text_run rest) ∙ rw (f, g) refl
+
+pub step_within : (bytes rest run left : List ℕ) (byte : ℕ) → Spelled byte rest ≡ piece_at bytes → run ≡ take_while is_plain rest → left ≡ after is_plain rest
+    → length run + length left < length bytes
+step_within bytes rest run left byte e f g =
+    let less : length rest < length bytes = rw (← e) at (shorter bytes) in
+    rw (f, g, length-run rest) less
+
+-- where no byte is spelled, none is read
+abbrev pub IsSpelled : Piece → Type 0
+IsSpelled Nothing = ⊥
+IsSpelled (Spelled byte rest) = Unit {0}
+IsSpelled (Separator rest) = ⊥
+IsSpelled Unfit = ⊥
+
+nothing_begun : (bytes : List ℕ) (p : Piece) (t : Text) → (IsSpelled p → ⊥) → (begun bytes p t).bytes ≡ []
+nothing_begun bytes Nothing t h = refl
+nothing_begun bytes (Spelled byte rest) t h = absurd (h tt)
+nothing_begun bytes (Separator rest) t h = refl
+nothing_begun bytes Unfit t h = refl
+
+pub none_read : (bytes : List ℕ) → (IsSpelled (piece_at bytes) → ⊥) → (text_of bytes).bytes ≡ []
+none_read bytes h = ap (λ (t : Text). t.bytes) (text_begun bytes) ∙ nothing_begun bytes (piece_at bytes) (text_of (behind (piece_at bytes))) h
+
+-- ---- where reading stops
+
+-- nothing is left only where no byte is
+abbrev IsSome : Piece → Type 0
+IsSome Nothing = ⊥
+IsSome (Spelled byte rest) = Unit {0}
+IsSome (Separator rest) = Unit {0}
+IsSome Unfit = Unit {0}
+
+some_cond : (test : Bool) (p q : Piece) → IsSome p → IsSome q → IsSome (cond test p q)
+some_cond true p q h k = h
+some_cond false p q h k = k
+
+some_hexadecimal : (bytes : List ℕ) → IsSome (hexadecimal_piece bytes)
+some_hexadecimal [] = tt
+some_hexadecimal (high ∷ []) = tt
+some_hexadecimal (high ∷ low ∷ rest) =
+    let byte = 16 * digit_of high + digit_of low in
+    some_cond (ltb (digit_of high) 16 && ltb (digit_of low) 16 && not (is_plain byte) && not (byte == backslash)) (Spelled byte rest) Unfit tt tt
+
+some_escaped : (bytes : List ℕ) → IsSome (escaped_piece bytes)
+some_escaped [] = tt
+some_escaped (byte ∷ rest) =
+    let hexadecimal = cond (byte == 120) (hexadecimal_piece rest) Unfit in
+    let separated = cond (byte == 61) (Separator rest) hexadecimal in
+    some_cond (byte == backslash) (Spelled backslash rest) separated tt
+    (some_cond (byte == 61) (Separator rest) hexadecimal tt
+    (some_cond (byte == 120) (hexadecimal_piece rest) Unfit (some_hexadecimal rest) tt))
+
+pub some_piece : (byte : ℕ) (rest : List ℕ) → IsSome (piece_at (byte ∷ rest))
+unfolding piece_at
+some_piece byte rest =
+    let escaped = cond (byte == backslash) (escaped_piece rest) Unfit in
+    some_cond (is_plain byte) (Spelled byte rest) escaped tt (some_cond (byte == backslash) (escaped_piece rest) Unfit (some_escaped rest) tt)
+
+pub nothing_left : (bytes : List ℕ) → piece_at bytes ≡ Nothing → bytes ≡ []
+nothing_left [] e = refl
+nothing_left (byte ∷ rest) e = absurd (subst IsSome e (some_piece byte rest))
+
+-- what was read before a place where no byte is spelled is all
+text_done : (front bytes : List ℕ) (stop : Stop) (left : List ℕ) (total : Text) → text_of bytes ≡ record { bytes = []; stop = stop; left = left } → with_front front (text_of bytes) ≡ total
+    → record { bytes = front; stop = stop; left = left } ≡ total
+text_done front bytes stop left total e so_far =
+    ap (λ (x : List ℕ). record { bytes = x; stop = stop; left = left }) (sym (append-nil front)) ∙ ap (with_front front) (sym e) ∙ so_far
+
+pub done_nothing : (front bytes : List ℕ) (total : Text) → Nothing ≡ piece_at bytes → with_front front (text_of bytes) ≡ total → record { bytes = front; stop = AtEnd; left = bytes } ≡ total
+done_nothing front bytes total e so_far =
+    let nothing = nothing_left bytes (sym e) in
+    rw nothing (text_done front bytes AtEnd [] total (text_nothing bytes (sym e)) so_far)
+
+pub done_separator : (front bytes rest : List ℕ) (total : Text) → Separator rest ≡ piece_at bytes → with_front front (text_of bytes) ≡ total → record { bytes = front; stop = AtSeparator; left = rest } ≡ total
+done_separator front bytes rest total e so_far = text_done front bytes AtSeparator rest total (text_separator bytes rest (sym e)) so_far
+
+pub done_unfit : (front bytes : List ℕ) (total : Text) → Unfit ≡ piece_at bytes → with_front front (text_of bytes) ≡ total → record { bytes = front; stop = AtFault; left = bytes } ≡ total
+done_unfit front bytes total e so_far = text_done front bytes AtFault bytes total (text_unfit bytes (sym e)) so_far
+
+-- one more byte and the run behind it
+pub read_more : (front bytes rest run left : List ℕ) (byte : ℕ) (total : Text) → Spelled byte rest ≡ piece_at bytes → run ≡ take_while is_plain rest → left ≡ after is_plain rest
+    → with_front front (text_of bytes) ≡ total → with_front ((front ++ byte ∷ []) ++ run) (text_of left) ≡ total
+read_more front bytes rest run left byte total e f g so_far =
+    let one = text_step bytes rest run left byte e f g in
+    let joined : ((front ++ byte ∷ []) ++ run) ++ (text_of left).bytes ≡ front ++ ((byte ∷ run) ++ (text_of left).bytes) = simp append_assoc in
+    ap (λ (x : List ℕ). record (text_of left) { bytes = x }) joined ∙ ap (with_front front) (sym one) ∙ so_far
+
+pub separator_within : (bytes rest : List ℕ) → Separator rest ≡ piece_at bytes → length rest + 1 < length bytes
+separator_within bytes rest e = rw (← e) at (shorter bytes)

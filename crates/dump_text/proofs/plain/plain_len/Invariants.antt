@@ -1,0 +1,8 @@
+use Rattle.std.proofs.Common.{◌≡◌, ◌+◌, drop}
+use Rattle.std.specs.List.{prefix_len}
+use Rattle.line_rules.specs.Printing.{is_plain}
+use Rattle.dump_text.proofs.plain.plain_len.Given as goal
+
+-- what was passed is plain
+abbrev pub invariant-loop-i : goal.invariant-loop-i
+invariant-loop-i l = l.i + prefix_len is_plain (drop l.i l.bytes) ≡ prefix_len is_plain l.bytes

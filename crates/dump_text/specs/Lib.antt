@@ -1,0 +1,6 @@
+pub mod Ends
+pub mod Lines
+pub mod Growing
+pub mod InputLines
+pub mod Reading
+pub mod Texts

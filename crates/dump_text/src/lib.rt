@@ -1,0 +1,24 @@
+//! Lines of text: the pairs of an input are read, and the lines of a dump are written.
+//!
+//! `line_rules` says what the lines are. What is written is the one spelling of a line. What is read is exactly
+//! the pairs that an input spells, and a fault is the first one from the left, with its line and its place.
+//! Clauses say more than that reading follows its rules: what is read is the spelling of the pairs that come out,
+//! and each spelling of pairs within the limits is read.
+#![tactic(auto)]
+
+mod fault;
+mod input;
+mod line;
+mod order;
+mod pair;
+mod plain;
+mod printing;
+mod text;
+mod writing;
+
+pub use fault::LineFault;
+pub use input::read_lines;
+pub use line::{EndWord, Line};
+pub use order::Order;
+pub use printing::write_printable;
+pub use writing::write_pair_line;

@@ -1,0 +1,86 @@
+//! The printable form of bytes.
+
+ghost use Rattle.std.specs.Prelude.{◌≡◌, ◌<◌, ◌++◌, false, take, length, OnOk, OnErr};
+ghost use Rattle.line_rules.specs.Printing.{is_plain, printed, printable, hexadecimal_digit};
+ghost use Rattle.dump_text.specs.Growing.{Grew};
+
+use crate::plain::split_plain;
+use key_bytes::Bytes;
+use std::alloc::AllocError;
+
+/// The digit of a number below 16. It takes no memory.
+#[inline(always)]
+fn hexadecimal_digit(n: u8) -> u8
+    requires { n < 16 }
+    ensures { result ≡ hexadecimal_digit n }
+{
+    if n < 10 { b'0' + n } else { b'a' - 10 + n }
+}
+
+/// Adds the spelling of a byte that isn't plain. After a refusal `to` is unchanged.
+fn add_escape(to: &mut Bytes, byte: u8) -> Result<(), AllocError>
+    requires { is_plain byte ≡ false }
+    ensures ok { OnOk result (to.new ≡ to.old ++ printed byte) }
+    ensures err { OnErr result (to.new ≡ to.old) }
+{
+    if byte == b'\\' {
+        return to.extend(b"\\\\");
+    }
+    let high = hexadecimal_digit(byte / 16);
+    let low = hexadecimal_digit(byte % 16);
+    to.extend(&[b'\\', b'x', high, low])
+}
+
+/// Adds bytes at the end, often none. After a refusal `to` is unchanged.
+#[inline(always)]
+fn add_run(to: &mut Bytes, run: &[u8]) -> Result<(), AllocError>
+    ensures ok { OnOk result (to.new ≡ to.old ++ run.now) }
+    ensures err { OnErr result (to.new ≡ to.old) }
+{
+    if run.is_empty() {
+        return Ok(());
+    }
+    to.extend(run)
+}
+
+/// Adds the printable form of `bytes`. After a refusal a part of it stands behind what `to` held.
+pub fn add_printable(to: &mut Bytes, bytes: &[u8]) -> Result<(), AllocError>
+    ensures ok { OnOk result (to.new ≡ to.old ++ printable bytes.now) }
+    ensures err { OnErr result (Grew to.old to.new) }
+{
+    let (run, mut left) = split_plain(bytes);
+    to.extend(run)?;
+    while let [byte, rest @ ..] = left {
+        let (run, after) = split_plain(rest);
+        add_escape(to, *byte)?;
+        add_run(to, run)?;
+        left = after;
+    }
+    Ok(())
+}
+
+/// What `written` tells; where it is a refusal, `to` is cut back to `len` bytes. It takes no memory.
+pub fn or_cut_back(
+    to: &mut Bytes,
+    len: usize,
+    written: Result<(), AllocError>,
+) -> Result<(), AllocError>
+    ensures told { result ≡ written }
+    ensures ok { OnOk written (to.new ≡ to.old) }
+    ensures err { OnErr written (to.new ≡ take len to.old) }
+{
+    if written.is_err() {
+        to.truncate(len);
+    }
+    written
+}
+
+/// Adds the printable form of `bytes` at the end. After a refusal `to` is as before.
+pub fn write_printable(to: &mut Bytes, bytes: &[u8]) -> Result<(), AllocError>
+    ensures ok { OnOk result (to.new ≡ to.old ++ printable bytes.now) }
+    ensures err { OnErr result (to.new ≡ to.old) }
+{
+    let len = to.len();
+    let written = add_printable(to, bytes);
+    or_cut_back(to, len, written)
+}
