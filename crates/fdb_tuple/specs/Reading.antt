@@ -6,7 +6,7 @@ use Rattle.fdb_tuple.specs.declared.fault.UnpackFault.{UnpackFault}
 use Rattle.fdb_tuple.specs.declared.fault.UnpackFault.TheVariants as faults
 use Rattle.fdb_tuple.specs.declared.tuple.Elem.{Elem}
 use Rattle.fdb_tuple.specs.declared.tuple.Elem.TheVariants as elem
-use Rattle.fdb_tuple.specs.Spelling.{complement}
+use Rattle.fdb_tuple.specs.Spelling.{with_sign}
 
 -- What is wrong, and where.
 pub data Fault : Type 0 where
@@ -71,17 +71,12 @@ leads_with_zero [] = false
 leads_with_zero (zero ∷ bytes) = true
 leads_with_zero (suc b ∷ bytes) = false
 
--- the bytes of a magnitude, as they stand or complemented
-abbrev pub magnitude : Bool → List ℕ → List ℕ
-magnitude false bytes = bytes
-magnitude true bytes = complement bytes
-
 abbrev pub int_from : ℕ → Bool → List ℕ → List ℕ → Result (Elem × List ℕ) Fault
 int_from place negative bytes rest = if leads_with_zero bytes then Err (NotMinimal place) else Ok (elem.Int (int_of negative bytes), rest)
 
 -- an integer of this sign whose magnitude has n bytes
 unfoldable pub int_at : ℕ → ℕ → Bool → ℕ → List ℕ → Result (Elem × List ℕ) Fault
-int_at whole place negative n rest = if nat_lt (length rest) n then Err (Truncated whole) else int_from place negative (magnitude negative (take n rest)) (drop n rest)
+int_at whole place negative n rest = if nat_lt (length rest) n then Err (Truncated whole) else int_from place negative (with_sign negative (take n rest)) (drop n rest)
 
 -- ---- elements and tuples
 
