@@ -1,8 +1,7 @@
 -- The definitions at a few byte strings and integers, computed.
-use Rattle.std.proofs.Common.{◌≡◌, ℕ, ◌-◌, ◌^◌, List, [], ◌∷◌, replicate, Result, Ok, Err, pos, negsuc, refl}
+use Rattle.std.proofs.Common.{◌≡◌, ℕ, ◌-◌, ◌^◌, List, [], ◌∷◌, replicate, Result, Err, pos, negsuc, refl}
 use Rattle.std.specs.Str.{is_utf8, chars}
 use Rattle.fdb_tuple.specs.declared.tuple.Elem.{Elem}
-use Rattle.fdb_tuple.specs.declared.tuple.Elem.TheVariants as elem
 use Rattle.fdb_tuple.specs.Spelling.{low_first, least_bytes, signed_spelled, int_spelled}
 use Rattle.fdb_tuple.specs.Reading.{Fault, Truncated, BadCode, NotMinimal, BadUtf8, string_at, number_low, int_at, coded_at, elements_at, tuple_of}
 

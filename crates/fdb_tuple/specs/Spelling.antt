@@ -1,5 +1,5 @@
 -- How elements and tuples are spelled as byte strings, by the table of the tuple layer (tuple.md).
-use Rattle.std.specs.Prelude.{ℕ, zero, suc, ◌+◌, ◌-◌, ◌/◌, ◌%◌, ◌^◌, ◌<◌, ◌==◌, nat_le, Bool, true, false, if◌then◌else◌, List, [], ◌∷◌, ◌++◌, length, map, reverse, ℤ, unsigned_abs, IsUtf8}
+use Rattle.std.specs.Prelude.{ℕ, zero, suc, ◌+◌, ◌-◌, ◌/◌, ◌%◌, ◌^◌, ◌<◌, nat_le, Bool, true, false, if◌then◌else◌, List, [], ◌∷◌, ◌++◌, length, map, reverse, ℤ, unsigned_abs, IsUtf8}
 use Rattle.std.specs.Int.{is_negative}
 use Rattle.std.specs.List.{flat_map, AllByRecursion}
 use Rattle.key_bytes.specs.Keys.{IsByteString}
@@ -22,7 +22,8 @@ string_spelled bytes = flat_map escaped_byte bytes ++ 0 ∷ []
 -- the digits of n to the base 256, the lowest first, with no 0 as the last; at most as many as the first number says
 unfoldable pub low_first : ℕ → ℕ → List ℕ
 low_first zero n = []
-low_first (suc most) n = if n == 0 then [] else n % 256 ∷ low_first most (n / 256)
+low_first (suc most) zero = []
+low_first (suc most) (suc n) = suc n % 256 ∷ low_first most (suc n / 256)
 
 -- the least bytes of a magnitude, the highest first; the magnitude of an integer of 128 bits has at most 16
 unfoldable pub least_bytes : ℕ → List ℕ
