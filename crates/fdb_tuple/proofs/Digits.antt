@@ -1,10 +1,10 @@
 -- Numbers and their digits to the base 256.
-use Rattle.std.proofs.Common.{◌≡◌, ℕ, zero, suc, ◌+◌, ◌-◌, ◌*◌, ◌/◌, ◌%◌, ◌^◌, ◌<◌, ◌≤◌, List, [], ◌∷◌, ◌++◌, length, drop, map, reverse, refl, sym, ap, ◌∙◌, arith}
+use Rattle.std.proofs.Common.{◌≡◌, ℕ, zero, suc, ◌+◌, ◌-◌, ◌*◌, ◌/◌, ◌%◌, ◌^◌, ◌<◌, ◌≤◌, Bool, true, false, List, [], ◌∷◌, ◌++◌, length, drop, map, reverse, refl, sym, ap, ◌∙◌, arith}
 use Rattle.std.specs.Int.{byte_at, bytes_high_first}
 use Rattle.std.proofs.Math.Nat.{pow-suc, pow-succ', div-div-eq-div-mul}
 use Rattle.std.proofs.lemmas.Nat.{div_below, le-div}
 use Rattle.std.proofs.lemmas.List.{reverse-append, map-append}
-use Rattle.fdb_tuple.specs.Spelling.{low_first}
+use Rattle.fdb_tuple.specs.Spelling.{low_first, with_sign}
 use Rattle.fdb_tuple.specs.Reading.{number_low}
 
 -- ---- a number of its digits, and the digits of a number
@@ -126,6 +126,11 @@ drop-high_first (suc j) k n =
     rw more (drop-high_first j k n)
 
 -- ---- complements
+
+-- what is not negative is spelled as it is
+pub with_sign-false : (bytes : List ℕ) → with_sign false bytes ≡ bytes
+with_sign-false [] = refl
+with_sign-false (b ∷ bytes) = ap (λ (bs : List ℕ). b ∷ bs) (with_sign-false bytes)
 
 pub high_first_complement : (k n : ℕ) → n < 256 ^ k → bytes_high_first k (256 ^ k - 1 - n) ≡ map (λ b. 255 - b) (bytes_high_first k n)
 high_first_complement zero n lt = refl

@@ -3,30 +3,30 @@ use Rattle.std.proofs.Common.{◌≡◌, ℕ, ◌-◌, ◌^◌, List, [], ◌∷
 use Rattle.std.specs.Str.{is_utf8, chars}
 use Rattle.fdb_tuple.specs.declared.tuple.Elem.{Elem}
 use Rattle.fdb_tuple.specs.Spelling.{low_first, least_bytes, signed_spelled, int_spelled}
-use Rattle.fdb_tuple.specs.Reading.{Fault, Truncated, BadCode, NotMinimal, BadUtf8, string_at, number_low, int_at, coded_at, elements_at, tuple_of}
+use Rattle.fdb_tuple.specs.Reading.{Fault, Truncated, BadCode, NotMinimal, BadUtf8, string_at, bytes_at, text_at, number_low, int_at, coded_at, elements_at, tuple_of}
 
 abbrev reads : List ℕ → Result (List Elem) Fault
-unfolding tuple_of elements_at coded_at int_at string_at number_low is_utf8 chars
+unfolding tuple_of elements_at coded_at int_at text_at bytes_at string_at number_low is_utf8 chars
 reads bytes = tuple_of bytes
 
 not_minimal : reads (0x16 ∷ 0 ∷ 5 ∷ []) ≡ Err (NotMinimal 0)
-unfolding tuple_of elements_at coded_at int_at string_at number_low is_utf8 chars
+unfolding tuple_of elements_at coded_at int_at text_at bytes_at string_at number_low is_utf8 chars
 not_minimal = refl
 
 truncated_integer : reads (0x16 ∷ 0 ∷ []) ≡ Err (Truncated 2)
-unfolding tuple_of elements_at coded_at int_at string_at number_low is_utf8 chars
+unfolding tuple_of elements_at coded_at int_at text_at bytes_at string_at number_low is_utf8 chars
 truncated_integer = refl
 
 truncated_string : reads (1 ∷ 0x61 ∷ []) ≡ Err (Truncated 2)
-unfolding tuple_of elements_at coded_at int_at string_at number_low is_utf8 chars
+unfolding tuple_of elements_at coded_at int_at text_at bytes_at string_at number_low is_utf8 chars
 truncated_string = refl
 
 bad_code : reads (0x14 ∷ 0x32 ∷ []) ≡ Err (BadCode 1)
-unfolding tuple_of elements_at coded_at int_at string_at number_low is_utf8 chars
+unfolding tuple_of elements_at coded_at int_at text_at bytes_at string_at number_low is_utf8 chars
 bad_code = refl
 
 bad_utf8 : reads (2 ∷ 0xFF ∷ 0 ∷ []) ≡ Err (BadUtf8 0)
-unfolding tuple_of elements_at coded_at int_at string_at number_low is_utf8 chars
+unfolding tuple_of elements_at coded_at int_at text_at bytes_at string_at number_low is_utf8 chars
 bad_utf8 = refl
 
 zero_is : int_spelled (pos 0) ≡ 0x14 ∷ []

@@ -5,7 +5,7 @@ use Rattle.std.specs.Int.Count.{count_leading_zeros, leading_of_zero}
 use Rattle.std.proofs.Math.Nat.{pow-suc, pow-le-pow_right}
 use Rattle.std.proofs.lemmas.Nat.{leading_top, pow-add}
 use Rattle.std.proofs.lemmas.List.{length-reverse, length-map, drop-map, take_all}
-use Rattle.fdb_tuple.specs.Spelling.{low_first, least_bytes, with_sign, int_code, signed_spelled}
+use Rattle.fdb_tuple.specs.Spelling.{low_first, least_bytes, signed_byte, with_sign, int_code, signed_spelled}
 use Rattle.fdb_tuple.proofs.Digits.{length-low_first_le, length-low_first_ge, high_first_least, drop-high_first}
 
 pow_256 : (k : ℕ) → 256 ^ k ≡ 2 ^ (8 * k)
@@ -41,14 +41,9 @@ dropped_all n most skipped size e =
 -- the bytes that are left when the zeros in front are dropped
 pub dropped : (negative : Bool) (n skipped : ℕ) → skipped + length (least_bytes n) ≡ 16 → drop skipped (with_sign negative (to_be_bytes w128 n)) ≡ with_sign negative (least_bytes n)
 unfolding least_bytes
-dropped false n skipped e = dropped_all n 16 skipped 16 (omega (arith, length-reverse (low_first 16 n)))
-dropped true n skipped e =
-    drop-map (λ b. 255 - b) skipped (to_be_bytes w128 n)
-    ∙ ap (map (λ b. 255 - b)) (dropped_all n 16 skipped 16 (omega (arith, length-reverse (low_first 16 n))))
-
-length-with_sign : (negative : Bool) (bytes : List ℕ) → length (with_sign negative bytes) ≡ length bytes
-length-with_sign false bytes = refl
-length-with_sign true bytes = length-map bytes (λ b. 255 - b)
+dropped negative n skipped e =
+    drop-map (signed_byte negative) skipped (to_be_bytes w128 n)
+    ∙ ap (map (signed_byte negative)) (dropped_all n 16 skipped 16 (omega (arith, length-reverse (low_first 16 n))))
 
 -- the code and the bytes that are left
 pub int_written : (negative : Bool) (n skipped : ℕ) (bytes : List ℕ) → skipped + length (least_bytes n) ≡ 16 → bytes ≡ with_sign negative (to_be_bytes w128 n) → int_code negative (16 - skipped) ++ take (16 - skipped) (drop skipped bytes) ≡ signed_spelled negative (least_bytes n)
@@ -56,5 +51,5 @@ unfolding signed_spelled
 int_written negative n skipped bytes e is =
     let size : 16 - skipped ≡ length (least_bytes n) = omega arith in
     let rest : drop skipped bytes ≡ with_sign negative (least_bytes n) = ap (drop skipped) is ∙ dropped negative n skipped e in
-    let whole : take (length (least_bytes n)) (with_sign negative (least_bytes n)) ≡ with_sign negative (least_bytes n) = take_all (length (least_bytes n)) (with_sign negative (least_bytes n)) (omega (arith, length-with_sign negative (least_bytes n))) in
+    let whole : take (length (least_bytes n)) (with_sign negative (least_bytes n)) ≡ with_sign negative (least_bytes n) = take_all (length (least_bytes n)) (with_sign negative (least_bytes n)) (omega (arith, length-map (least_bytes n) (signed_byte negative))) in
     rw (size, rest, whole) refl

@@ -29,10 +29,13 @@ low_first (suc most) (suc n) = suc n % 256 ∷ low_first most (suc n / 256)
 unfoldable pub least_bytes : ℕ → List ℕ
 least_bytes n = reverse (low_first 16 n)
 
--- the bytes of a magnitude as they are spelled: those of a negative integer have each bit the other way round
+-- the bytes of a magnitude as they are spelled: for a negative integer with each bit the other way round
+abbrev pub signed_byte : Bool → ℕ → ℕ
+signed_byte false b = b
+signed_byte true b = 0xFF - b
+
 abbrev pub with_sign : Bool → List ℕ → List ℕ
-with_sign false bytes = bytes
-with_sign true bytes = map (λ b. 255 - b) bytes
+with_sign negative bytes = map (signed_byte negative) bytes
 
 -- the code of an integer whose magnitude has this many least bytes, 0 for the integer 0; from 9 bytes on their number follows the code
 abbrev pub int_code : Bool → ℕ → List ℕ
