@@ -21,6 +21,13 @@ pub fn unpack(alloc: Global, bytes: &[u8]) -> Result<Tuple, UnpackFault>
     // NotBuilt comes exactly where reading from the left meets a fault.
     ensures exact { Gives (λ t. t) result (tuple_of bytes.now) }
 {
+    elements_of(alloc, bytes)
+}
+
+// The elements one after the other, up to the end.
+fn elements_of(alloc: Global, bytes: &[u8]) -> Result<Tuple, UnpackFault>
+    ensures { Gives (λ t. t) result (tuple_of bytes.now) }
+{
     let mut tuple = Tuple::new(alloc);
     let mut rest = bytes;
     while !rest.is_empty() {

@@ -23,6 +23,6 @@ returns-in-20-to-28 c = λ whole place.
 
 pub returns-in_default : goal.returns-in_default
 returns-in_default c = λ whole place. elim c.in_default.branch [
-    in_default-via-then-code-lt12 w ↦ no_code_low whole place c.args.code c.args.rest.now (λ e. omega arith) (λ e. omega arith) (omega arith)
+  | in_default-via-then-code-lt12 w ↦ no_code_low whole place c.args.code c.args.rest.now (λ e. omega arith) (λ e. omega arith) (omega arith)
   | in_default-via-else-code-lt12+else-code-lt20+else-code-lt29 w ↦ no_code_high whole place c.args.code c.args.rest.now (omega arith)
-  ]
+]
