@@ -1,5 +1,5 @@
 -- How elements and tuples are spelled as byte strings, by the table of the tuple layer (tuple.md).
-use Rattle.std.specs.Prelude.{ℕ, zero, suc, ◌+◌, ◌-◌, ◌/◌, ◌%◌, ◌^◌, ◌<◌, ◌==◌, nat_le, if◌then◌else◌, List, [], ◌∷◌, ◌++◌, length, map, reverse, ℤ, unsigned_abs, IsUtf8}
+use Rattle.std.specs.Prelude.{ℕ, zero, suc, ◌+◌, ◌-◌, ◌/◌, ◌%◌, ◌^◌, ◌<◌, nat_le, Bool, true, false, if◌then◌else◌, List, [], ◌∷◌, ◌++◌, length, map, reverse, ℤ, unsigned_abs, IsUtf8}
 use Rattle.std.specs.Int.{is_negative}
 use Rattle.std.specs.List.{flat_map, AllByRecursion}
 use Rattle.key_bytes.specs.Keys.{IsByteString}
@@ -22,27 +22,32 @@ string_spelled bytes = flat_map escaped_byte bytes ++ 0 ∷ []
 -- the digits of n to the base 256, the lowest first, with no 0 as the last; at most as many as the first number says
 unfoldable pub low_first : ℕ → ℕ → List ℕ
 low_first zero n = []
-low_first (suc most) n = if n == 0 then [] else n % 256 ∷ low_first most (n / 256)
+low_first (suc most) zero = []
+low_first (suc most) (suc n) = suc n % 256 ∷ low_first most (suc n / 256)
 
 -- the least bytes of a magnitude, the highest first; the magnitude of an integer of 128 bits has at most 16
 unfoldable pub least_bytes : ℕ → List ℕ
 least_bytes n = reverse (low_first 16 n)
 
--- each bit the other way round
-abbrev pub complement : List ℕ → List ℕ
-complement bytes = map (λ b. 255 - b) bytes
+-- the bytes of a magnitude as they are spelled: for a negative integer with each bit the other way round
+abbrev pub signed_byte : Bool → ℕ → ℕ
+signed_byte false b = b
+signed_byte true b = 0xFF - b
 
--- the positive integer with these least bytes, or 0 where there is none
-unfoldable pub positive_spelled : List ℕ → List ℕ
-positive_spelled bytes = if nat_le (length bytes) 8 then (0x14 + length bytes) ∷ bytes else 0x1D ∷ length bytes ∷ bytes
+abbrev pub with_sign : Bool → List ℕ → List ℕ
+with_sign negative bytes = map (signed_byte negative) bytes
 
--- the negative integer whose magnitude has these least bytes
-unfoldable pub negative_spelled : List ℕ → List ℕ
-negative_spelled bytes = if nat_le (length bytes) 8 then (0x14 - length bytes) ∷ complement bytes else 0x0B ∷ (0xFF - length bytes) ∷ complement bytes
+-- the code of an integer whose magnitude has this many least bytes, 0 for the integer 0; from 9 bytes on their number follows the code
+abbrev pub int_code : Bool → ℕ → List ℕ
+int_code false size = if nat_le size 8 then (0x14 + size) ∷ [] else 0x1D ∷ size ∷ []
+int_code true size = if nat_le size 8 then (0x14 - size) ∷ [] else 0x0B ∷ (0xFF - size) ∷ []
 
--- an integer, by its sign and its magnitude
-unfoldable pub int_spelled : ℤ → List ℕ
-int_spelled z = if is_negative z then negative_spelled (least_bytes (unsigned_abs z)) else positive_spelled (least_bytes (unsigned_abs z))
+-- the integer of this sign whose magnitude has these least bytes
+unfoldable pub signed_spelled : Bool → List ℕ → List ℕ
+signed_spelled negative bytes = int_code negative (length bytes) ++ with_sign negative bytes
+
+abbrev pub int_spelled : ℤ → List ℕ
+int_spelled z = signed_spelled (is_negative z) (least_bytes (unsigned_abs z))
 
 -- ---- elements and tuples
 

@@ -7,9 +7,14 @@
 #![tactic(auto)]
 
 mod fault;
+mod packing;
 mod text;
 mod tuple;
+mod unpacking;
+mod zeros;
 
 pub use fault::UnpackFault;
+pub use packing::{pack, pack_element};
 pub use text::Text;
 pub use tuple::{Elem, Tuple};
+pub use unpacking::unpack;

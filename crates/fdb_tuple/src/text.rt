@@ -1,6 +1,7 @@
 //! A Unicode string.
 
-ghost use Rattle.std.specs.Prelude.{◌≡◌, IfOk, IsUtf8};
+ghost use Rattle.std.specs.Prelude.{◌≡◌, IfOk, MatchOption, IsTrue, IsFalse, IsUtf8};
+ghost use Rattle.std.specs.Str.{is_utf8};
 
 use key_bytes::Bytes;
 use std::alloc::{AllocError, Global};
@@ -31,6 +32,14 @@ impl Text {
         Ok(Text {
             content: String::from_str(alloc, s)?,
         })
+    }
+
+    // The text with these bytes, if they are UTF-8. It takes no memory.
+    pub(crate) fn from_utf8(bytes: Vec<u8>) -> Option<Text>
+        ensures { MatchOption result (IsFalse (is_utf8 bytes.items)) (λ text. (text ≡ bytes.items) × IsTrue (is_utf8 bytes.items)) }
+    {
+        let content = String::from_utf8(bytes).ok()?;
+        Some(Text { content })
     }
 
     /// The text. It takes no memory.
