@@ -4,8 +4,10 @@ use Rattle.std.proofs.Common.{sym, ap, ◌∙◌, subst, add-one, arith}
 use Rattle.std.proofs.lemmas.Option.{slice_get_within}
 use Rattle.fdb_calls.specs.declared.Code.{Code}
 use Rattle.fdb_calls.specs.declared.Request.{Request}
+use Rattle.fdb_calls.specs.declared.Reply.{Reply}
 use Rattle.fdb_calls.specs.declared.Reply.TheVariants as reply
 use Rattle.machine_rules.specs.declared.Awaits.{Awaits}
+use Rattle.machine_rules.specs.declared.Awaits.TheVariants as awaits
 use Rattle.machine_rules.specs.declared.End.{End}
 use Rattle.machine_rules.specs.declared.State.{State}
 use Rattle.machine_rules.specs.declared.State.TheVariants as state
@@ -97,6 +99,122 @@ state_asks (state.Stopped end) machine request e = absurd cc
 pub advance_asks : (machine : Machine) (request : Request) → (advance machine).asks ≡ Some request → is_awaiting (advance machine).machine.state ≡ true
 unfolding advance
 advance_asks machine request e = state_asks machine.state machine request e
+
+-- a running machine awaits a reply after a step only where it asks
+abbrev IsQuiet : Progress → Type 0
+IsQuiet progress = progress.asks ≡ None → is_awaiting progress.machine.state ≡ false
+
+value_quiet : (machine : Machine) (key : List ℕ) (operand : Operand) → IsQuiet (set_value machine key operand)
+value_quiet machine key (Popped value below) e = absurd cc
+value_quiet machine key Missing e = refl
+value_quiet machine key (Unfit below) e = refl
+
+key_quiet : (machine : Machine) (operand : Operand) → IsQuiet (set_key machine operand)
+key_quiet machine (Popped key below) e = value_quiet machine key (bytes_operand below) e
+key_quiet machine Missing e = refl
+key_quiet machine (Unfit below) e = refl
+
+instruction_quiet : (machine : Machine) (found : Option Instruction) → IsQuiet (run_instruction machine found)
+instruction_quiet machine None e = refl
+instruction_quiet machine (Some (instruction.Push element)) e = refl
+instruction_quiet machine (Some instruction.Set) e = key_quiet machine (bytes_operand machine.stack) e
+instruction_quiet machine (Some instruction.Commit) e = absurd cc
+
+next_quiet : (machine : Machine) (value : Option (List ℕ)) → IsQuiet (run_next machine value)
+next_quiet machine None e = refl
+next_quiet machine (Some value) e = instruction_quiet machine (instruction_of value) e
+
+state_quiet : (state : State) (machine : Machine) → is_running state ≡ true → IsQuiet (advance_by state machine)
+state_quiet state.Running machine was e = next_quiet machine (slice_get machine.instructions machine.next) e
+state_quiet (state.Awaiting awaits) machine was e = not_running was
+state_quiet (state.Stopped end) machine was e = not_running was
+
+pub advance_quiet : (machine : Machine) → is_running machine.state ≡ true → (advance machine).asks ≡ None → is_awaiting (advance machine).machine.state ≡ false
+unfolding advance
+advance_quiet machine was e = state_quiet machine.state machine was e
+
+-- a machine that has stopped stays as it is
+stopped_by : (state : State) (machine : Machine) → is_running state ≡ false → advance_by state machine ≡ silent machine
+stopped_by state.Running machine e = absurd cc
+stopped_by (state.Awaiting awaits) machine e = refl
+stopped_by (state.Stopped end) machine e = refl
+
+pub advance_still : (machine : Machine) → is_running machine.state ≡ false → advance machine ≡ silent machine
+unfolding advance
+advance_still machine e = stopped_by machine.state machine e
+
+-- a machine that used a reply awaits none, and has gone on by one instruction where it runs
+answered_goes : (machine : Machine) (awaits : Awaits) (given : Reply) → (is_awaiting (answered machine awaits given).state ≡ false) × (is_running (answered machine awaits given).state ≡ true → (answered machine awaits given).next ≡ machine.next + 1)
+answered_goes machine awaits.Nothing reply.Done = (refl, λ e. refl)
+answered_goes machine awaits.NotPresent reply.Done = (refl, λ e. refl)
+answered_goes machine awaits (reply.Fault code) = (refl, λ e. not_running e)
+answered_goes machine awaits reply.NoMemory = (refl, λ e. refl)
+
+resumed_goes_by : (state : State) (machine : Machine) (given : Reply) → is_awaiting state ≡ true → (is_awaiting (resumed_by state machine given).state ≡ false) × (is_running (resumed_by state machine given).state ≡ true → (resumed_by state machine given).next ≡ machine.next + 1)
+resumed_goes_by state.Running machine given e = not_running e
+resumed_goes_by (state.Awaiting awaits) machine given e = answered_goes machine awaits given
+resumed_goes_by (state.Stopped end) machine given e = not_running e
+
+pub resumed_goes : (machine : Machine) (given : Reply) → is_awaiting machine.state ≡ true → (is_awaiting (resumed machine given).state ≡ false) × (is_running (resumed machine given).state ≡ true → (resumed machine given).next ≡ machine.next + 1)
+unfolding resumed
+resumed_goes machine given e = resumed_goes_by machine.state machine given e
+
+-- no step changes what the instructions are
+abbrev SameInstructions : Machine → Machine → Type 0
+SameInstructions before after = after.instructions ≡ before.instructions
+
+answered_same : (machine : Machine) (awaits : Awaits) (given : Reply) → SameInstructions machine (answered machine awaits given)
+answered_same machine awaits.Nothing reply.Done = refl
+answered_same machine awaits.NotPresent reply.Done = refl
+answered_same machine awaits (reply.Fault code) = refl
+answered_same machine awaits reply.NoMemory = refl
+
+resumed_same_by : (state : State) (machine : Machine) (given : Reply) → SameInstructions machine (resumed_by state machine given)
+resumed_same_by state.Running machine given = refl
+resumed_same_by (state.Awaiting awaits) machine given = answered_same machine awaits given
+resumed_same_by (state.Stopped end) machine given = refl
+
+pub resumed_same : (machine : Machine) (given : Reply) → (resumed machine given).instructions ≡ machine.instructions
+unfolding resumed
+resumed_same machine given = resumed_same_by machine.state machine given
+
+-- where a machine asks, it stands at one of its instructions
+pub record AsksInside (before : Machine) (progress : Progress) : Type 0 where
+  pub instructions : progress.machine.instructions ≡ before.instructions
+  pub next : progress.machine.next ≡ before.next
+  pub inside : before.next < length before.instructions
+
+abbrev AsksAt : Machine → Progress → Type 0
+AsksAt machine progress = (request : Request) → progress.asks ≡ Some request → AsksInside machine progress
+
+value_at : (machine : Machine) (key : List ℕ) (operand : Operand) → machine.next < length machine.instructions → AsksAt machine (set_value machine key operand)
+value_at machine key (Popped value below) inside request e = record { instructions = refl; next = refl; inside = inside }
+value_at machine key Missing inside request e = absurd cc
+value_at machine key (Unfit below) inside request e = absurd cc
+
+key_at : (machine : Machine) (operand : Operand) → machine.next < length machine.instructions → AsksAt machine (set_key machine operand)
+key_at machine (Popped key below) inside request e = value_at machine key (bytes_operand below) inside request e
+key_at machine Missing inside request e = absurd cc
+key_at machine (Unfit below) inside request e = absurd cc
+
+instruction_at : (machine : Machine) (found : Option Instruction) → machine.next < length machine.instructions → AsksAt machine (run_instruction machine found)
+instruction_at machine None inside request e = absurd cc
+instruction_at machine (Some (instruction.Push element)) inside request e = absurd cc
+instruction_at machine (Some instruction.Set) inside request e = key_at machine (bytes_operand machine.stack) inside request e
+instruction_at machine (Some instruction.Commit) inside request e = record { instructions = refl; next = refl; inside = inside }
+
+next_at : (machine : Machine) (value : Option (List ℕ)) → slice_get machine.instructions machine.next ≡ value → AsksAt machine (run_next machine value)
+next_at machine None is request e = absurd cc
+next_at machine (Some value) is request e = instruction_at machine (instruction_of value) (slice_get_within machine.instructions machine.next value is) request e
+
+state_at : (state : State) (machine : Machine) → AsksAt machine (advance_by state machine)
+state_at state.Running machine request e = next_at machine (slice_get machine.instructions machine.next) refl request e
+state_at (state.Awaiting awaits) machine request e = absurd cc
+state_at (state.Stopped end) machine request e = absurd cc
+
+pub advance_asks_inside : (machine : Machine) (request : Request) → (advance machine).asks ≡ Some request → AsksInside machine (advance machine)
+unfolding advance
+advance_asks_inside machine request e = state_at machine.state machine request e
 
 awaiting_rests : (state : State) → is_awaiting state ≡ true → is_running state ≡ false
 awaiting_rests state.Running e = absurd cc

@@ -1,18 +1,51 @@
 -- How the core and the machine stand to a run while it goes on.
-use Rattle.std.specs.Prelude.{◌≡◌, ℕ, List, [], ◌∷◌, length, Some, IsTrue}
-use Rattle.client_core.specs.Stands.{Kept, StandsFor}
-use Rattle.stack_machine.specs.Held.{Held}
-use Rattle.machine_rules.specs.Worlds.{World}
-use Rattle.machine_rules.specs.Machines.{Machine, silent}
-use Rattle.machine_rules.specs.Runs.{Run, start, standing, run_from, RunsTo, has_stopped}
+use Rattle.std.specs.Prelude.{◌≡◌, ◌≢◌, ℕ, ◌+◌, ◌-◌, ◌<◌, true, cond, List, [], ◌∷◌, ◌++◌, length, Some}
+use Rattle.fdb_calls.specs.declared.Request.{Request}
+use Rattle.fdb_calls.specs.declared.Reply.{Reply}
+use Rattle.fdb_calls.specs.declared.Reply.TheVariants as reply
+use Rattle.client_core.specs.Stands.{Kept, StandsFor, Answers}
+use Rattle.machine_rules.specs.Worlds.{World, step}
+use Rattle.machine_rules.specs.Machines.{Machine, advance, resumed}
+use Rattle.machine_rules.specs.Runs.{Run, start, standing, run_from, is_running}
 
 -- the run of a world and one machine
 abbrev pub run_of : World → Machine → Run
 run_of world machine = record { world = world; machines = standing world machine ∷ [] }
 
 -- The order so far leads from the start to a run: the core stands for its world, and its one machine is this one come to rest.
-pub record Leads (pairs : List (List ℕ × List ℕ)) (prefix : List ℕ) (core : Kept) (machine : Held) (order : List ℕ) : Type 0 where
+pub record Leads (pairs : List (List ℕ × List ℕ)) (prefix : List ℕ) (core : Kept) (machine : Machine) (order : List ℕ) : Type 0 where
   pub world : World
   pub stands : StandsFor core world
-  pub applied : core.applied ≡ length order
-  pub runs : run_from order (start pairs prefix) ≡ Some (run_of world machine.machine)
+  pub runs : run_from order (start pairs prefix) ≡ Some (run_of world machine)
+
+-- wherever the order led before, it leads now
+abbrev pub GoesOn : Kept → Machine → List ℕ → Kept → Machine → List ℕ → Type 0
+GoesOn core machine order core_after machine_after order_after =
+    (pairs : List (List ℕ × List ℕ)) (prefix : List ℕ) → Leads pairs prefix core machine order → Leads pairs prefix core_after machine_after order_after
+
+-- a machine that runs comes to ask this request in its next step, and is then the second machine
+pub record ComesToAsk (before after : Machine) (request : Request) : Type 0 where
+  pub was_running : is_running before.state ≡ true
+  pub asks : (advance before).asks ≡ Some request
+  pub machine : after ≡ (advance before).machine
+
+-- how many instructions are left, and one step to end
+abbrev pub work_left : Machine → ℕ
+work_left machine = cond (is_running machine.state) (length machine.instructions - machine.next + 1) 0
+
+-- a request was taken: the core answered it by the step of each world for which it stood, and the machine used the reply
+pub record Takes (core : Kept) (machine : Machine) (order : List ℕ) (request : Request) (core_after : Kept) (machine_after : Machine) (order_after : List ℕ) : Type 0 where
+  pub given : Reply
+  pub is_given : given ≢ reply.NoMemory
+  pub answers : (world : World) → StandsFor core world → Answers given core_after (step world request)
+  pub machine_is : machine_after ≡ resumed machine given
+  pub order_is : order_after ≡ order ++ 0 ∷ []
+
+-- wherever the order led with a machine that comes to ask, it leads with the machine that has its reply
+abbrev pub GoesOnFromAsking : Kept → Machine → List ℕ → Request → Kept → Machine → List ℕ → Type 0
+GoesOnFromAsking core asking order request core_after machine_after order_after =
+    (before : Machine) → ComesToAsk before asking request → GoesOn core before order core_after machine_after order_after
+
+-- the machine that has its reply has less left than one that comes to ask
+abbrev pub IsNearerThanAsking : Machine → Request → Machine → Type 0
+IsNearerThanAsking asking request machine_after = (before : Machine) → ComesToAsk before asking request → work_left machine_after < work_left before

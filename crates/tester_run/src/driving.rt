@@ -1,11 +1,129 @@
-//! Running machine 0 over the core.
+//! Running a machine over the core.
 
-ghost use Rattle.std.specs.Prelude.{◌≡◌, ◌≢◌, ◌×◌, ℕ, List, false, OnOk, IsTrue};
+ghost use Rattle.std.specs.Prelude.{◌≡◌, ◌≢◌, ◌<◌, false, true, length, Some, Ok, OnOk, IfOk};
+ghost use Rattle.fdb_calls.specs.declared.Reply.TheVariants.{NoMemory};
+ghost use Rattle.machine_rules.specs.Machines.{resumed};
 ghost use Rattle.machine_rules.specs.Runs.{has_stopped, is_running};
-ghost use Rattle.tester_run.specs.Driving.{Leads};
+ghost use Rattle.machine_rules.specs.Laws.{is_awaiting};
+ghost use Rattle.stack_machine.specs.Steps.{IsDue};
+ghost use Rattle.tester_run.specs.Driving.{GoesOn, GoesOnFromAsking, IsNearerThanAsking, Takes, work_left};
 
 use client_core::Core;
 use dump_text::Order;
 use fdb_calls::{Reply, Request};
 use stack_machine::{Machine, Step};
 use std::alloc::AllocError;
+
+/// The number of the one machine.
+const MACHINE: u16 = 0;
+
+// Whether a machine goes on.
+#[derive(Drop)]
+enum Motion {
+    GoesOn,
+    Stopped,
+}
+
+/// Runs a machine until it has stopped. Each request that it asks and that isn't refused is taken, and is one
+/// more place of the order. It is refused for want of memory alone, and nothing is said of the three then.
+pub fn drive(core: &mut Core, machine: &mut Machine, order: &mut Order) -> Result<(), AllocError>
+    requires ready { machine.old.is_out_of_memory ≡ false }
+    requires silent { is_awaiting machine.old.machine.state ≡ false }
+    requires counted { core.old.applied ≡ length order.old }
+    ensures goes_on { OnOk result (GoesOn core.old machine.old.machine order.old core.new machine.new.machine order.new) }
+    ensures stopped { OnOk result (has_stopped machine.new.machine.state ≡ true) }
+{
+    loop {
+        if let Motion::Stopped = turn(core, machine, order)? {
+            return Ok(());
+        }
+    }
+}
+
+// One instruction of the machine, with the request that it asks.
+fn turn(core: &mut Core, machine: &mut Machine, order: &mut Order) -> Result<Motion, AllocError>
+    requires ready { machine.old.is_out_of_memory ≡ false }
+    requires silent { is_awaiting machine.old.machine.state ≡ false }
+    requires counted { core.old.applied ≡ length order.old }
+    ensures goes_on { OnOk result (GoesOn core.old machine.old.machine order.old core.new machine.new.machine order.new) }
+    ensures ready { OnOk result (machine.new.is_out_of_memory ≡ false) }
+    ensures silent { OnOk result (is_awaiting machine.new.machine.state ≡ false) }
+    ensures counted { OnOk result (core.new.applied ≡ length order.new) }
+    ensures stopped { result ≡ Ok Motion.Stopped → has_stopped machine.new.machine.state ≡ true }
+    ensures nearer { result ≡ Ok Motion.GoesOn → work_left machine.new.machine < work_left machine.old.machine }
+{
+    match machine.step(None)? {
+        Step::Again => Ok(Motion::GoesOn),
+        Step::Ask(request) => {
+            answer(core, machine, order, &request)?;
+            Ok(Motion::GoesOn)
+        }
+        Step::Stopped(_) => Ok(Motion::Stopped),
+    }
+}
+
+// Gives the machine the reply to what it asks: its refusal, or the reply of the core that takes it.
+fn answer(
+    core: &mut Core,
+    machine: &mut Machine,
+    order: &mut Order,
+    request: &Request,
+) -> Result<(), AllocError>
+    requires ready { machine.old.is_out_of_memory ≡ false }
+    requires awaits { is_awaiting machine.old.machine.state ≡ true }
+    requires counted { core.old.applied ≡ length order.old }
+    ensures goes_on { OnOk result (GoesOnFromAsking core.old machine.old.machine order.old request.now core.new machine.new.machine order.new) }
+    ensures ready { OnOk result (machine.new.is_out_of_memory ≡ false) }
+    ensures silent { OnOk result (is_awaiting machine.new.machine.state ≡ false) }
+    ensures counted { OnOk result (core.new.applied ≡ length order.new) }
+    ensures nearer { OnOk result (IsNearerThanAsking machine.old.machine request.now machine.new.machine) }
+{
+    match core.refusal(request) {
+        Some(code) => hand(machine, &Reply::Fault(code)),
+        None => take(core, machine, order, request),
+    }
+}
+
+// Has the core take the request that the machine asks: one more place of the order.
+fn take(
+    core: &mut Core,
+    machine: &mut Machine,
+    order: &mut Order,
+    request: &Request,
+) -> Result<(), AllocError>
+    requires ready { machine.old.is_out_of_memory ≡ false }
+    requires awaits { is_awaiting machine.old.machine.state ≡ true }
+    requires counted { core.old.applied ≡ length order.old }
+    ensures taken { OnOk result (Takes core.old machine.old.machine order.old request.now core.new machine.new.machine order.new) }
+    ensures ready { OnOk result (machine.new.is_out_of_memory ≡ false) }
+    ensures counted { OnOk result (core.new.applied ≡ length order.new) }
+{
+    order.is_short();
+    order.push(MACHINE)?;
+    let reply = core.apply(MACHINE, request);
+    hand(machine, &reply)
+}
+
+// Has the machine use a reply.
+fn hand(machine: &mut Machine, reply: &Reply) -> Result<(), AllocError>
+    requires ready { machine.old.is_out_of_memory ≡ false }
+    requires awaits { is_awaiting machine.old.machine.state ≡ true }
+    ensures resumed { OnOk result (machine.new.machine ≡ resumed machine.old.machine reply.now) }
+    ensures ready { OnOk result (machine.new.is_out_of_memory ≡ false) }
+    ensures given { OnOk result (reply.now ≢ NoMemory) }
+{
+    match reply {
+        Reply::NoMemory => Err(AllocError),
+        Reply::Done | Reply::Fault(_) => use_reply(machine, reply),
+    }
+}
+
+fn use_reply(machine: &mut Machine, reply: &Reply) -> Result<(), AllocError>
+    requires ready { machine.old.is_out_of_memory ≡ false }
+    requires due { IsDue machine.old.machine.state (Some reply.now) }
+    ensures resumed { OnOk result (machine.new.machine ≡ resumed machine.old.machine reply.now) }
+    ensures ready { OnOk result (machine.new.is_out_of_memory ≡ false) }
+{
+    machine.step(Some(reply))?;
+    Ok(())
+}
