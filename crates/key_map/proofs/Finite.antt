@@ -4,6 +4,7 @@ use Rattle.std.proofs.lemmas.List.{nil_from_length}
 use Rattle.std.proofs.lemmas.Map.Entries.{lookup-filter-keys}
 use Rattle.std.proofs.lemmas.Map.Keys.{sorted_head, sorted_tail}
 use Rattle.std.proofs.lemmas.Map.Lookups.{exact_bytes}
+use Rattle.std.proofs.lemmas.Map.Views.{tells_apart}
 use Rattle.std.specs.declared.cmp.Ordering.{Ordering}
 use Rattle.std.specs.declared.cmp.Ordering.TheVariants.{Less, Equal}
 use Rattle.std.specs.BTreeMap.{is_at}
@@ -51,6 +52,12 @@ module _ {X : Type 0} where
   pub removed_of : (es fs : List (List ℕ × X)) (m : FinMap key_cmp X) → map_of es ≡ m → (k : List ℕ) → ((q : List ℕ) → lookup (is_key q) fs ≡ cond (is_key k q) None (lookup (is_key q) es)) → map_of fs ≡ remove m k
   removed_of es fs m seen k h = same_of fs (remove m k) (λ q. h q
       ∙ (λ i. cond ((eq_by_cmp_equiv nat_list_cmp_total).symm k q i) None (looked_up es m seen q i)) ∙ sym (get-remove nat_list_cmp_total m k q))
+
+  -- fs are es but for the keys that fail a test
+  pub retained_of : (es fs : List (List ℕ × X)) (m : FinMap key_cmp X) → map_of es ≡ m → (p : List ℕ → Bool) → fs ≡ filter (λ e. p e.0) es → map_of fs ≡ retain_keys m p
+  retained_of es fs m seen p h = same_of fs (retain_keys m p) (λ q.
+      ap (lookup (is_key q)) h ∙ lookup-filter-keys (is_key q) p (p q) (λ k same. ap p (sym (tells_apart exact_bytes q k same))) es
+      ∙ ap (λ v. cond (p q) v None) (looked_up es m seen q) ∙ sym (get-retain_keys m p q (λ k same. ap p (sym (exact_bytes q k same)))))
 
   put_first : (k : List ℕ) (v : X) (es : List (List ℕ × X)) → AllByRecursion (λ y. key_cmp k y ≡ Less) (keys_of es) → put key_cmp k v es ≡ (k, v) ∷ es
   put_first k v [] below = refl

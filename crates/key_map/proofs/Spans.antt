@@ -1,9 +1,10 @@
 -- What a tree's ranges give: the pairs whose keys pass a test, and the first and the last of these.
-use Rattle.std.proofs.Common.{◌≡◌, ℕ, Bool, true, false, cond, not, ◌&&◌, List, [], ◌∷◌, ◌++◌, Option, None, Some, refl, sym, ap, ◌∙◌, true≢false}
+use Rattle.std.proofs.Common.{◌≡◌, ℕ, Bool, true, false, cond, not, ◌&&◌, List, [], ◌∷◌, ◌++◌, Option, None, Some, is_some, refl, sym, ap, subst, ◌∙◌, true≢false}
 use Rattle.std.specs.declared.cmp.Ordering.{Ordering}
 use Rattle.std.specs.declared.cmp.Ordering.TheVariants.{Less, Equal, Greater}
 use Rattle.std.specs.declared.ops.Bound.TheVariants.{Included, Excluded, Unbounded}
 use Rattle.std.specs.BTreeMap.Range.{range_contains}
+use Rattle.std.specs.Bool.{OnFalse}
 use Rattle.std.specs.Cmp.Lexicographic.{nat_list_cmp_total}
 use Rattle.std.specs.List.{filter}
 use Rattle.std.specs.Map.Iter.{TakesFirst, TakesLast}
@@ -86,3 +87,20 @@ none_between b e q back = by (key_cmp q e) refl
 pub none_within : {X : Type 0} (b e : List ℕ) (es : List (List ℕ × X)) → key_lt b e ≡ false → filter (λ x. within b e x.0) es ≡ []
 none_within b e [] back = refl
 none_within b e (x ∷ es) back = ap (λ t. cond t (x ∷ filter (λ x. within b e x.0) es) (filter (λ x. within b e x.0) es)) (none_between b e x.0 back) ∙ none_within b e es back
+
+-- where `next` gave nothing, nothing was left
+pub none_left : {A X : Type 0} (shows : A → X) (s t fs : List X) (r : Option A) (b : Bool) → TakesFirst shows s r t → s ≡ fs → b ≡ is_some r → OnFalse b (fs ≡ [])
+none_left shows s t fs None b step same is = subst (λ b. OnFalse b (fs ≡ [])) (sym is) (sym same ∙ step.0)
+none_left shows s t fs (Some x) b step same is = subst (λ b. OnFalse b (fs ≡ [])) (sym is) tt
+
+cons_not_nil : {X : Type 0} (x : X) (xs : List X) → x ∷ xs ≡ [] → ⊥
+cons_not_nil x xs e = cc
+
+-- where no pair passes a test, all pairs fail it
+pub none_passes : {X : Type 0} (p : X → Bool) (xs : List X) → filter p xs ≡ [] → filter (λ x. not (p x)) xs ≡ xs
+none_passes p [] none = refl
+none_passes p (x ∷ xs) none = by (p x) refl none (none_passes p xs)
+  where
+    by : (b : Bool) → p x ≡ b → cond b (x ∷ filter p xs) (filter p xs) ≡ [] → (filter p xs ≡ [] → filter (λ x. not (p x)) xs ≡ xs) → filter (λ x. not (p x)) (x ∷ xs) ≡ x ∷ xs
+    by true is none rest = absurd (cons_not_nil x (filter p xs) none)
+    by false is none rest = ap (λ b. cond (not b) (x ∷ filter (λ x. not (p x)) xs) (filter (λ x. not (p x)) xs)) is ∙ ap (λ ys. x ∷ ys) (rest none)

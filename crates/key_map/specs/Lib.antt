@@ -1,3 +1,4 @@
 pub mod Ends
 pub mod Inserted
 pub mod Lends
+pub mod Laws

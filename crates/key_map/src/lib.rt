@@ -4,3 +4,6 @@
 mod map;
 
 pub use map::KeyMap;
+
+#[cfg(test)]
+mod tests;

@@ -1,6 +1,7 @@
 //! An ordered map from keys to values.
 
-ghost use Rattle.std.specs.Prelude.{◌≡◌, ◌==◌, ℕ, List, not, IfOk, OnOk, OnErr};
+ghost use Rattle.std.specs.Prelude.{◌≡◌, ◌==◌, ℕ, List, [], not, IfOk, OnOk, OnErr};
+ghost use Rattle.std.specs.Bool.{OnFalse};
 ghost use Rattle.std.specs.Borrow.{sem};
 ghost use Rattle.std.specs.List.{filter};
 ghost use Rattle.std.specs.Option.{option_map, option_copied, option_copied_mut};
@@ -104,6 +105,16 @@ impl<V> KeyMap<V> {
         self.tree.remove(key)
     }
 
+    /// Removes the keys from `begin` up to `end`, `end` left out. It takes no memory. Where there is such a key it goes
+    /// over the whole map.
+    pub fn clear_range(&mut self, begin: &Key, end: &Key)
+    where
+        V: Drop,
+        ensures { self.new ≡ finite.retain_keys self.old (λ k. not (within begin.now end.now k)) }
+    {
+        keep_outside(&mut self.tree, begin, end);
+    }
+
     /// The first pair with a key that is at least `key`. It takes no memory.
     pub fn next(&self, key: &Key) -> Option<(&Key, &V)>
         ensures { option_map deref_pair result ≡ first (filter (λ e. key_le key.now e.0) (finite.entries self.now)) }
@@ -173,4 +184,24 @@ fn copied(alloc: Global, rest: Range<'_, Bytes, Bytes>) -> Result<Pairs, AllocEr
         pairs.push(pair)?;
     }
     Ok(pairs)
+}
+
+// Leaves the entries with keys below `begin`, and from `end` on.
+fn keep_outside<V: Drop>(tree: &mut BTreeMap<Bytes, V>, begin: &Key, end: &Key)
+    ensures { tree.new.entries ≡ filter (λ e. not (within begin.now end.now e.0)) tree.old.entries }
+{
+    if !has_between(tree, begin, end) {
+        return;
+    }
+    tree.retain(|key, _| key.cmp(begin).is_lt() || !key.cmp(end).is_lt());
+}
+
+// Whether there is a key from `begin` up to `end`.
+fn has_between<V>(tree: &BTreeMap<Bytes, V>, begin: &Key, end: &Key) -> bool
+    ensures { OnFalse result (filter (λ e. within begin.now end.now e.0) tree.now.entries ≡ []) }
+{
+    if !begin.cmp(end).is_lt() {
+        return false;
+    }
+    tree.range(begin..end).next().is_some()
 }
