@@ -117,7 +117,7 @@ less_left before after was same next inside =
     by : (b : Bool) → is_running after.state ≡ b → work_left after < length before.instructions - before.next + 1
     by true e =
         subst (λ n. n < length before.instructions - before.next + 1) (sym (ap (λ b. cond b (length after.instructions - after.next + 1) 0) e))
-            (counts before.next after.next (length before.instructions) (length after.instructions) (next e) (ap length same) inside)
+        (counts before.next after.next (length before.instructions) (length after.instructions) (next e) (ap length same) inside)
     by false e =
         subst (λ n. n < length before.instructions - before.next + 1) (sym (ap (λ b. cond b (length after.instructions - after.next + 1) 0) e)) (above_none (length before.instructions - before.next))
 
@@ -127,12 +127,14 @@ turn_again old new answer moves silent_before e =
     let told : answer_of (advance old.machine) ≡ step.Again = sym moves.answer_is ∙ e in
     let quiet = advance_quiet old.machine was (again_is (advance old.machine).asks (advance old.machine).machine.state told) in
     let runs = again_state (advance old.machine).asks (advance old.machine).machine.state told quiet in
-    let finishes = advance_finishes old.machine was runs in
-    (record {
-      same = λ world. standing_again world old.machine was runs ∙ ap (standing world) (sym moves.machine);
-      silent_after = ap (λ (m : Machine). is_awaiting m.state) moves.machine ∙ quiet;
-    }, less_left old.machine new.machine was (ap (λ (m : Machine). m.instructions) moves.machine ∙ finishes.instructions)
-        (λ h. ap (λ (m : Machine). m.next) moves.machine ∙ finishes.next) finishes.inside)
+    let finishes = advance_finishes old.machine was runs in (
+      record {
+        same = λ world. standing_again world old.machine was runs ∙ ap (standing world) (sym moves.machine);
+        silent_after = ap (λ (m : Machine). is_awaiting m.state) moves.machine ∙ quiet;
+      },
+      less_left old.machine new.machine was (ap (λ (m : Machine). m.instructions) moves.machine ∙ finishes.instructions)
+          (λ h. ap (λ (m : Machine). m.next) moves.machine ∙ finishes.next) finishes.inside,
+    )
 
 pub turn_stopped : (old new : Held) (answer : Step) (end : End) → Moves old (advance old.machine) answer new → is_awaiting old.machine.state ≡ false → answer ≡ step.Stopped end → Quiet old.machine new.machine
 turn_stopped old new answer end moves silent_before e = by (is_running old.machine.state) refl
@@ -171,8 +173,8 @@ pub refused_goes_on : (core : Kept) (asking after : Machine) (order : List ℕ) 
     → ((world : World) → StandsFor core world → Some (number_of code) ≡ refusal world request) → after ≡ resumed asking (reply.Fault code) → GoesOnFromAsking core asking order request core after order
 refused_goes_on core asking after order request code refused is before comes pairs prefix leads =
     let same : standing leads.world before ≡ standing leads.world after =
-        standing_refused leads.world before request (number_of code) comes.was_running comes.asks (sym (refused leads.world leads.stands))
-        ∙ ap (λ (m : Machine). standing leads.world (resumed m (reply.Fault code))) (sym comes.machine) ∙ ap (standing leads.world) (sym is) in
+    standing_refused leads.world before request (number_of code) comes.was_running comes.asks (sym (refused leads.world leads.stands))
+    ∙ ap (λ (m : Machine). standing leads.world (resumed m (reply.Fault code))) (sym comes.machine) ∙ ap (standing leads.world) (sym is) in
     record {
       world = leads.world;
       stands = leads.stands;
@@ -213,7 +215,7 @@ taken_goes_on core core_after asking after order order_after request refused tak
     let stepped = world_step leads.world request in
     let answered = stands_after takes.given core_after stepped takes.is_given (takes.answers leads.world leads.stands) in
     let machine_is : resumed (advance before).machine stepped.reply ≡ after =
-        ap (resumed (advance before).machine) answered.0 ∙ ap (λ (m : Machine). resumed m takes.given) (sym comes.machine) ∙ sym takes.machine_is in
+    ap (resumed (advance before).machine) answered.0 ∙ ap (λ (m : Machine). resumed m takes.given) (sym comes.machine) ∙ sym takes.machine_is in
     record {
       world = stepped.world;
       stands = answered.1;
@@ -233,9 +235,9 @@ replied_nearer asking after request given is before comes =
     let awaits : is_awaiting asking.state ≡ true = ap (λ (m : Machine). is_awaiting m.state) comes.machine ∙ advance_asks before request comes.asks in
     let goes = resumed_goes asking given awaits in
     less_left before after comes.was_running
-        (ap (λ (m : Machine). m.instructions) is ∙ resumed_same asking given ∙ ap (λ (m : Machine). m.instructions) comes.machine ∙ inside.instructions)
-        (λ h. ap (λ (m : Machine). m.next) is ∙ goes.1 (sym (ap (λ (m : Machine). is_running m.state) is) ∙ h) ∙ ap (λ (m : Machine). m.next + 1) comes.machine ∙ ap (λ n. n + 1) inside.next)
-        inside.inside
+    (ap (λ (m : Machine). m.instructions) is ∙ resumed_same asking given ∙ ap (λ (m : Machine). m.instructions) comes.machine ∙ inside.instructions)
+    (λ h. ap (λ (m : Machine). m.next) is ∙ goes.1 (sym (ap (λ (m : Machine). is_running m.state) is) ∙ h) ∙ ap (λ (m : Machine). m.next + 1) comes.machine ∙ ap (λ n. n + 1) inside.next)
+    inside.inside
 
 pub replied_silent : (asking after : Machine) (given : Reply) → is_awaiting asking.state ≡ true → after ≡ resumed asking given → is_awaiting after.state ≡ false
 replied_silent asking after given awaits is = ap (λ (m : Machine). is_awaiting m.state) is ∙ (resumed_goes asking given awaits).0

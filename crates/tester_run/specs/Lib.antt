@@ -1,3 +1,4 @@
 pub mod Words
 pub mod Driving
+pub mod Dumps
 pub mod Outcomes

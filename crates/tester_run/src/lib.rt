@@ -6,6 +6,7 @@
 #![tactic(auto)]
 
 mod driving;
+mod dumping;
 mod words;
 
 pub use words::ArgWords;

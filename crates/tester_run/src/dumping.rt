@@ -1,0 +1,98 @@
+//! Rendering the dump of a run.
+
+ghost use Rattle.std.specs.Prelude.{◌≡◌, ℕ, ◌++◌, length, IfOk, OnOk};
+ghost use Rattle.std.specs.List.{flat_map};
+ghost use Rattle.line_rules.specs.Printing.{order_line};
+ghost use Rattle.machine_rules.specs.Runs.{end_line, stack_lines};
+ghost use Rattle.tester_run.specs.Dumps.{database_lines, machine_dump};
+
+use dump_text::{
+    EndWord, Order, write_item_line, write_machine_line, write_order_line, write_pair_line,
+};
+use fdb_tuple::pack_element;
+use key_bytes::Bytes;
+use key_map::KeyMap;
+use stack_machine::{End, Machine, State};
+use std::alloc::{AllocError, Global};
+
+/// The dump of a machine that has stopped, of the order, and of the map at the last version.
+#[tactic(auto, unfolding(crate::specs::Dumps::machine_dump))]
+pub fn render(
+    alloc: Global,
+    machine: &Machine,
+    order: &Order,
+    database: &KeyMap<Bytes>,
+) -> Result<Bytes, AllocError>
+    ensures { IfOk result (λ dump. dump ≡ machine_dump machine.now.machine order.now database.now) }
+{
+    let mut dump = Bytes::new(alloc);
+    add_end_line(&mut dump, machine)?;
+    add_stack_lines(alloc, &mut dump, machine)?;
+    add_order_lines(&mut dump, order)?;
+    add_database_lines(&mut dump, database)?;
+    Ok(dump)
+}
+
+fn add_end_line(to: &mut Bytes, machine: &Machine) -> Result<(), AllocError>
+    ensures { OnOk result (to.new ≡ to.old ++ end_line machine.now.machine machine.now.machine.state) }
+{
+    match machine.state() {
+        State::Running | State::Awaiting(_) => Ok(()),
+        State::Stopped(end) => add_end(to, machine, end),
+    }
+}
+
+fn add_end(to: &mut Bytes, machine: &Machine, end: End) -> Result<(), AllocError>
+    ensures { OnOk result (to.new ≡ to.old ++ end_line machine.now.machine (State.Stopped end)) }
+{
+    let number = machine.number();
+    let prefix = machine.prefix().as_slice();
+    match end {
+        End::Ended => {
+            let count = machine.instruction_count() as u64;
+            write_machine_line(to, number, EndWord::Ended, count, prefix)
+        }
+        End::BadInstruction(instruction) => {
+            write_machine_line(to, number, EndWord::BadInstruction, instruction, prefix)
+        }
+        End::Underflow(instruction) => {
+            write_machine_line(to, number, EndWord::Underflow, instruction, prefix)
+        }
+    }
+}
+
+fn add_stack_lines(alloc: Global, to: &mut Bytes, machine: &Machine) -> Result<(), AllocError>
+    ensures { OnOk result (to.new ≡ to.old ++ stack_lines machine.now.machine) }
+{
+    let number = machine.number();
+    let items = machine.stack().as_slice();
+    for (place, item) in items.iter().enumerate() {
+        let packed = pack_element(alloc, &item.element)?;
+        write_item_line(
+            to,
+            number,
+            place as u64,
+            item.instruction,
+            packed.as_slice(),
+        )?;
+    }
+    Ok(())
+}
+
+fn add_order_lines(to: &mut Bytes, order: &Order) -> Result<(), AllocError>
+    ensures { OnOk result (to.new ≡ to.old ++ flat_map order_line order.now) }
+{
+    for machine in order.as_slice() {
+        write_order_line(to, *machine)?;
+    }
+    Ok(())
+}
+
+fn add_database_lines(to: &mut Bytes, database: &KeyMap<Bytes>) -> Result<(), AllocError>
+    ensures { OnOk result (to.new ≡ to.old ++ database_lines database.now) }
+{
+    for (key, value) in database.entries() {
+        write_pair_line(to, key.as_slice(), value.as_slice())?;
+    }
+    Ok(())
+}
