@@ -20,7 +20,7 @@ first_line : (number : ℕ) (items : List Item) (place : ℕ) (item : Item) → 
 first_line number items place item inside is =
     let rest = drop (place + 1) items in
     let parts : drop place items ≡ item ∷ rest =
-        drop-cons items place item inside ∙ ap (λ (x : Item). x ∷ drop (suc place) items) (sym is) ∙ ap (λ n. item ∷ drop n items) (sym (add-one place)) in
+    drop-cons items place item inside ∙ ap (λ (x : Item). x ∷ drop (suc place) items) (sym is) ∙ ap (λ n. item ∷ drop n items) (sym (add-one place)) in
     let packed : spelling (item.element ∷ []) ≡ spelled item.element = flat_map-cons spelled item.element [] ∙ append-nil (spelled item.element) in
     ap (λ (xs : List Item). flat_map (line_at number) (enumerate_from place xs)) parts
     ∙ flat_map-cons (line_at number) (place, item) (enumerate_from (place + 1) rest)

@@ -1,4 +1,6 @@
 pub mod Words
 pub mod Driving
 pub mod Dumps
+pub mod Rendered
+pub mod Inputs
 pub mod Outcomes

@@ -7,6 +7,9 @@
 
 mod driving;
 mod dumping;
+mod running;
+mod top;
 mod words;
 
+pub use top::{Outcome, tester};
 pub use words::ArgWords;

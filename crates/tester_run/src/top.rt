@@ -1,0 +1,175 @@
+//! The top call.
+
+ghost use Rattle.std.specs.Prelude.{◌≡◌, ◌≢◌, ◌<◌, ◌≤◌, ◌⊎◌, [], None, Ok, length, IfOk, IfErr, IfSome, IsErr};
+ghost use Rattle.std.specs.Io.KnownBytes.{Appends, Keeps, IsAtEnd};
+ghost use Rattle.outside.specs.Counts.{Rose};
+ghost use Rattle.outside.specs.Streams.{AppendsFront};
+ghost use Rattle.line_rules.specs.Reading.{pairs_of, input_limit};
+ghost use Rattle.tester_run.specs.Words.{prefix_in};
+ghost use Rattle.tester_run.specs.Outcomes.{usage, bad_input, read_fault, write_fault, out_of_memory, IsFinal, IsSilent, Finishes, BreaksOff};
+ghost use Rattle.tester_run.specs.Inputs.{IsRefusedBy, IsJudged, AreRead, status_for};
+
+use crate::running::{Rendered, run};
+use crate::words::ArgWords;
+use dump_text::{LineFault, Order, read_lines};
+use key_bytes::Pairs;
+use outside::{Gate, Input, Sink, Source, read_all, write_all};
+use std::alloc::Global;
+use std::sync::Wait;
+use std::thread::Threads;
+
+/// The words are not the three that exist.
+const USAGE: u8 = 1;
+
+/// A line of the input is not a line of a pair, or passes a limit.
+const BAD_INPUT: u8 = 2;
+
+/// The source failed.
+const READ_FAULT: u8 = 4;
+
+/// The sink failed.
+const WRITE_FAULT: u8 = 5;
+
+/// Memory ran out.
+const OUT_OF_MEMORY: u8 = 6;
+
+/// The most bytes that are read: one more than an input may have.
+const READ_LIMIT: usize = 67_108_865;
+
+/// How a call of `tester` ended: its exit status, and the order in which requests were taken, where there is one.
+#[derive(Debug, Drop)]
+pub struct Outcome {
+    pub status: u8,
+    pub order: Order,
+}
+
+// Why there is no run.
+#[derive(Debug, Drop)]
+enum Refusal {
+    Source,
+    Line(LineFault),
+    Memory,
+}
+
+/// Does all that the program does: judges the words after the program's name, reads the source to its end, runs
+/// machine 0 over the pairs that it read, and writes the dump to `out`. The clauses say what each status means.
+pub fn tester<R: Threads + Wait, S: Source, K: Sink, N: Sink, G: Gate>(
+    _rt: &R,
+    alloc: Global,
+    args: &ArgWords,
+    source: &mut S,
+    out: &mut K,
+    _err: &mut N,
+    _gate: &G,
+) -> Outcome
+    // 1: the words are not the three that exist. Nothing was read.
+    ensures usage { result.status ≡ usage → prefix_in args.now ≡ None }
+    ensures words { prefix_in args.now ≡ None → (result.status ≡ usage) ⊎ (result.status ≡ out_of_memory) }
+    ensures unread { result.status ≡ usage → source.new ≡ source.old }
+
+    // 2: a line has a fault or passes a limit, where the source tells its bytes.
+    ensures input { result.status ≡ bad_input → IfSome (S.left source.old) (λ bytes. IsErr (pairs_of bytes)) }
+
+    // 0 and 3: the dump of the complete run of the order was written, and the status is that of the run.
+    ensures finished { IsFinal result.status → IfSome (prefix_in args.now) (λ prefix.
+        Finishes (S.left source.old) prefix result.order result.status (K.written out.old) (K.written out.new)) }
+    ensures end { IsFinal result.status → IsAtEnd (S.left source.new) }
+
+    // 4 and 5: the source, or out, has counted a fault in this call.
+    ensures read { result.status ≡ read_fault → Rose (S.faults source.old) (S.faults source.new) }
+    ensures write { result.status ≡ write_fault → Rose (K.faults out.old) (K.faults out.new) }
+    ensures front { result.status ≡ write_fault → IfSome (prefix_in args.now) (λ prefix.
+        BreaksOff (S.left source.old) prefix result.order (K.written out.old) (K.written out.new)) }
+
+    // 1, 2, 4 and 6: nothing was written, and there is no order. There is no other status.
+    ensures untouched { IsSilent result.status → Keeps (K.written out.old) (K.written out.new) }
+    ensures no_order { IsSilent result.status → result.order ≡ [] }
+    ensures statuses { result.status ≤ out_of_memory }
+{
+    let Some(prefix) = args.prefix() else {
+        return without_order(alloc, USAGE);
+    };
+    match read_pairs(alloc, source) {
+        Err(refusal) => without_order(alloc, status_of(&refusal)),
+        Ok(pairs) => match run(alloc, prefix, pairs) {
+            Err(_) => without_order(alloc, OUT_OF_MEMORY),
+            Ok(rendered) => deliver(out, rendered),
+        },
+    }
+}
+
+fn without_order(alloc: Global, status: u8) -> Outcome
+    ensures { (result.status ≡ status) × (result.order ≡ []) }
+{
+    Outcome {
+        status,
+        order: Order::new(alloc),
+    }
+}
+
+// The pairs of the source's bytes, which is read to its end, or why there are none.
+fn read_pairs<S: Source>(alloc: Global, source: &mut S) -> Result<Pairs, Refusal>
+    ensures found { IfOk result (AreRead (S.left source.old) (S.left source.new)) }
+    ensures refused { IfErr result (λ refusal. IsRefusedBy refusal (S.left source.old) (S.faults source.old) (S.faults source.new)) }
+{
+    match read_all(alloc, source, READ_LIMIT) {
+        Input::Whole(bytes) => judge(alloc, &bytes),
+        Input::Full(bytes) => Err(refuse(alloc, &bytes)),
+        Input::Failed => Err(Refusal::Source),
+        Input::NoMemory => Err(Refusal::Memory),
+    }
+}
+
+// The pairs that these bytes spell, or their first fault.
+fn judge(alloc: Global, bytes: &[u8]) -> Result<Pairs, Refusal>
+    ensures found { IfOk result (λ pairs. pairs_of bytes.now ≡ Ok pairs) }
+    ensures refused { IfErr result (λ refusal. IsJudged refusal (pairs_of bytes.now)) }
+{
+    match read_lines(alloc, bytes) {
+        Ok(pairs) => Ok(pairs),
+        Err(LineFault::NoMemory) => Err(Refusal::Memory),
+        Err(fault) => Err(Refusal::Line(fault)),
+    }
+}
+
+// The first fault of bytes that are more than an input may have.
+fn refuse(alloc: Global, bytes: &[u8]) -> Refusal
+    requires { input_limit < length bytes.now }
+    ensures { result ≢ Refusal.Source }
+{
+    match judge(alloc, bytes) {
+        Ok(_) => unreachable!(),
+        Err(refusal) => refusal,
+    }
+}
+
+fn status_of(refusal: &Refusal) -> u8
+    ensures { result ≡ status_for refusal.now }
+{
+    match refusal {
+        Refusal::Source => READ_FAULT,
+        Refusal::Line(_) => BAD_INPUT,
+        Refusal::Memory => OUT_OF_MEMORY,
+    }
+}
+
+// Writes a dump. Where the sink fails, a front of it is written.
+fn deliver<K: Sink>(out: &mut K, rendered: Rendered) -> Outcome
+    requires { IsFinal rendered.status }
+    ensures order { result.order ≡ rendered.order }
+    ensures status { (result.status ≡ rendered.status) ⊎ (result.status ≡ write_fault) }
+    ensures written { result.status ≢ write_fault → Appends (K.written out.old) (K.written out.new) rendered.dump }
+    ensures front { result.status ≡ write_fault → AppendsFront (K.written out.old) (K.written out.new) rendered.dump }
+    ensures cause { result.status ≡ write_fault → Rose (K.faults out.old) (K.faults out.new) }
+{
+    if write_all(out, rendered.dump.as_slice()) {
+        return Outcome {
+            status: rendered.status,
+            order: rendered.order,
+        };
+    }
+    Outcome {
+        status: WRITE_FAULT,
+        order: rendered.order,
+    }
+}
