@@ -92,7 +92,7 @@ fn string_of(alloc: Global, bytes: &[u8]) -> Result<(Vec<u8>, &[u8]), UnpackFaul
         string.push(0)?;
         rest = others;
     }
-    Err(UnpackFault::NotBuilt)
+    Err(UnpackFault::NotBuilt) // No 00 ends the string.
 }
 
 // What follows the FF that makes the 00 before it one of the string.
