@@ -48,6 +48,7 @@ fn element_of(alloc: Global, bytes: &[u8]) -> Result<(Elem, &[u8]), UnpackFault>
     }
 }
 
+// The element after its code.
 fn coded(alloc: Global, code: u8, rest: &[u8]) -> Result<(Elem, &[u8]), UnpackFault>
     ensures { (whole place : ℕ) → Gives (λ x. (x.0, x.1.now)) result (coded_at whole place code rest.now) }
 {
@@ -79,6 +80,7 @@ fn text_of(alloc: Global, rest: &[u8]) -> Result<(Elem, &[u8]), UnpackFault>
     }
 }
 
+// The string up to its end, and what follows that.
 fn string_of(alloc: Global, bytes: &[u8]) -> Result<(Vec<u8>, &[u8]), UnpackFault>
     ensures { (whole : ℕ) → Gives (λ x. (x.0.items, x.1.now)) result (string_at whole bytes.now) }
 {
@@ -119,10 +121,11 @@ fn int_of(negative: bool, size: u8, rest: &[u8]) -> Result<(Elem, &[u8]), Unpack
     if leads_with_zero(negative, digits) {
         return Err(UnpackFault::NotBuilt);
     }
-    let number = with_sign(negative, magnitude(negative, digits));
+    let number = signed(negative, magnitude(negative, digits));
     Ok((Elem::Int(number), after))
 }
 
+// Whether the first byte of the magnitude is 0.
 fn leads_with_zero(negative: bool, digits: &[u8]) -> bool
     ensures { result ≡ leads_with_zero (with_sign negative digits.now) }
 {
@@ -132,12 +135,14 @@ fn leads_with_zero(negative: bool, digits: &[u8]) -> bool
     }
 }
 
+// A byte of the magnitude as it is spelled, and the other way round.
 fn signed_byte(negative: bool, byte: u8) -> u8
     ensures { result ≡ signed_byte negative byte }
 {
     if negative { 0xFF - byte } else { byte }
 }
 
+// The magnitude of an integer of this sign, spelled by these bytes.
 fn magnitude(negative: bool, digits: &[u8]) -> u64
     requires { length digits.now ≤ 8 }
     ensures { result ≡ number_high (with_sign negative digits.now) }
@@ -149,7 +154,7 @@ fn magnitude(negative: bool, digits: &[u8]) -> u64
     number
 }
 
-fn with_sign(negative: bool, magnitude: u64) -> i128
+fn signed(negative: bool, magnitude: u64) -> i128
     ensures { result ≡ int_of negative magnitude }
 {
     let number = i128::from(magnitude);
