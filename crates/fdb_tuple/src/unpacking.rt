@@ -1,6 +1,6 @@
 //! Byte strings as tuples.
 
-ghost use Rattle.std.specs.Prelude.{◌≡◌, ◌≤◌, ◌<◌, ◌^◌, ℕ, List, ◌∷◌, Ok, IfOk, MatchOption, length};
+ghost use Rattle.std.specs.Prelude.{◌≡◌, ◌≤◌, ℕ, List, ◌∷◌, Ok, IfOk, MatchOption, length};
 ghost use Rattle.fdb_tuple.specs.Spelling.{AreBuilt, spelling, signed_byte, with_sign};
 ghost use Rattle.fdb_tuple.specs.Reading.{Gives, string_at, bytes_at, text_at, leads_with_zero, number_high, int_of, int_at, coded_at, element_at, tuple_of};
 ghost use Rattle.fdb_tuple.specs.Zeros.{IsNoEscape};
@@ -12,11 +12,12 @@ use crate::zeros::split_at_zero;
 use key_bytes::Bytes;
 use std::alloc::Global;
 
-/// The tuple whose spelling the bytes are, all of them.
+/// The tuple whose spelling the bytes are, all of them. NotBuilt comes exactly where there is no such tuple of byte
+/// strings, Unicode strings and integers with a magnitude of at most 8 bytes.
 pub fn unpack(alloc: Global, bytes: &[u8]) -> Result<Tuple, UnpackFault>
     // What is unpacked is spelled so.
     ensures found { IfOk result (λ tuple. AreBuilt tuple × (bytes.now ≡ spelling tuple)) }
-    // What is spelled so is unpacked, unless memory runs out.
+    // What is spelled so is unpacked, unless memory runs out. So NotBuilt comes only where no tuple is spelled so.
     ensures only { (tuple : List Elem) → AreBuilt tuple → bytes.now ≡ spelling tuple → Gives (λ t. t) result (Ok tuple) }
     // NotBuilt comes exactly where reading from the left meets a fault.
     ensures exact { Gives (λ t. t) result (tuple_of bytes.now) }
