@@ -18,3 +18,6 @@ pub use packing::{pack, pack_element};
 pub use text::Text;
 pub use tuple::{Elem, Tuple};
 pub use unpacking::unpack;
+
+#[cfg(test)]
+mod tests;

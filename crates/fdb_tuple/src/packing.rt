@@ -14,7 +14,7 @@ use std::alloc::{AllocError, Global};
 pub fn pack(alloc: Global, tuple: &Tuple) -> Result<Bytes, AllocError>
     ensures { IfOk result (λ packed. packed ≡ spelling tuple.now) }
 {
-    let mut out = Vec::new(alloc);
+    let mut out = Vec::with_capacity(alloc, room_for(tuple.as_slice()))?;
     for element in tuple.as_slice() {
         put_element(&mut out, element)?;
     }
@@ -25,9 +25,25 @@ pub fn pack(alloc: Global, tuple: &Tuple) -> Result<Bytes, AllocError>
 pub fn pack_element(alloc: Global, element: &Elem) -> Result<Bytes, AllocError>
     ensures { IfOk result (λ packed. packed ≡ spelled element.now) }
 {
-    let mut out = Vec::new(alloc);
+    let mut out = Vec::with_capacity(alloc, room_of(element))?;
     put_element(&mut out, element)?;
     Ok(Bytes::from_vec(out))
+}
+
+// How many bytes to make room for at first: enough where no string has a 00 and no integer more than 8 bytes.
+fn room_for(elements: &[Elem]) -> usize {
+    elements.iter().fold(
+        0,
+        |room: usize, element| room.saturating_add(room_of(element)),
+    )
+}
+
+fn room_of(element: &Elem) -> usize {
+    match element {
+        Elem::Bytes(bytes) => bytes.as_slice().len().saturating_add(2),
+        Elem::Text(text) => text.as_bytes().len().saturating_add(2),
+        Elem::Int(_) => 9,
+    }
 }
 
 fn put_element(out: &mut Vec<u8>, element: &Elem) -> Result<(), AllocError>

@@ -1,6 +1,6 @@
 //! Byte strings as tuples.
 
-ghost use Rattle.std.specs.Prelude.{◌≡◌, ◌≤◌, ◌<◌, ◌^◌, ℕ, List, ◌∷◌, Ok, IfOk, MatchOption, length};
+ghost use Rattle.std.specs.Prelude.{◌≡◌, ◌≤◌, ℕ, List, ◌∷◌, Ok, IfOk, MatchOption, length};
 ghost use Rattle.fdb_tuple.specs.Spelling.{AreBuilt, spelling, signed_byte, with_sign};
 ghost use Rattle.fdb_tuple.specs.Reading.{Gives, string_at, bytes_at, text_at, leads_with_zero, number_high, int_of, int_at, coded_at, element_at, tuple_of};
 ghost use Rattle.fdb_tuple.specs.Zeros.{IsNoEscape};
@@ -12,11 +12,12 @@ use crate::zeros::split_at_zero;
 use key_bytes::Bytes;
 use std::alloc::Global;
 
-/// The tuple whose spelling the bytes are, all of them.
+/// The tuple whose spelling the bytes are, all of them. NotBuilt comes exactly where there is no such tuple of byte
+/// strings, Unicode strings and integers with a magnitude of at most 8 bytes.
 pub fn unpack(alloc: Global, bytes: &[u8]) -> Result<Tuple, UnpackFault>
     // What is unpacked is spelled so.
     ensures found { IfOk result (λ tuple. AreBuilt tuple × (bytes.now ≡ spelling tuple)) }
-    // What is spelled so is unpacked, unless memory runs out.
+    // What is spelled so is unpacked, unless memory runs out. So NotBuilt comes only where no tuple is spelled so.
     ensures only { (tuple : List Elem) → AreBuilt tuple → bytes.now ≡ spelling tuple → Gives (λ t. t) result (Ok tuple) }
     // NotBuilt comes exactly where reading from the left meets a fault.
     ensures exact { Gives (λ t. t) result (tuple_of bytes.now) }
@@ -48,6 +49,7 @@ fn element_of(alloc: Global, bytes: &[u8]) -> Result<(Elem, &[u8]), UnpackFault>
     }
 }
 
+// The element after its code.
 fn coded(alloc: Global, code: u8, rest: &[u8]) -> Result<(Elem, &[u8]), UnpackFault>
     ensures { (whole place : ℕ) → Gives (λ x. (x.0, x.1.now)) result (coded_at whole place code rest.now) }
 {
@@ -79,6 +81,7 @@ fn text_of(alloc: Global, rest: &[u8]) -> Result<(Elem, &[u8]), UnpackFault>
     }
 }
 
+// The string up to its end, and what follows that.
 fn string_of(alloc: Global, bytes: &[u8]) -> Result<(Vec<u8>, &[u8]), UnpackFault>
     ensures { (whole : ℕ) → Gives (λ x. (x.0.items, x.1.now)) result (string_at whole bytes.now) }
 {
@@ -92,7 +95,7 @@ fn string_of(alloc: Global, bytes: &[u8]) -> Result<(Vec<u8>, &[u8]), UnpackFaul
         string.push(0)?;
         rest = others;
     }
-    Err(UnpackFault::NotBuilt)
+    Err(UnpackFault::NotBuilt) // No 00 ends the string.
 }
 
 // What follows the FF that makes the 00 before it one of the string.
@@ -119,10 +122,11 @@ fn int_of(negative: bool, size: u8, rest: &[u8]) -> Result<(Elem, &[u8]), Unpack
     if leads_with_zero(negative, digits) {
         return Err(UnpackFault::NotBuilt);
     }
-    let number = with_sign(negative, magnitude(negative, digits));
+    let number = signed(negative, magnitude(negative, digits));
     Ok((Elem::Int(number), after))
 }
 
+// Whether the first byte of the magnitude is 0.
 fn leads_with_zero(negative: bool, digits: &[u8]) -> bool
     ensures { result ≡ leads_with_zero (with_sign negative digits.now) }
 {
@@ -132,12 +136,14 @@ fn leads_with_zero(negative: bool, digits: &[u8]) -> bool
     }
 }
 
+// A byte of the magnitude as it is spelled, and the other way round.
 fn signed_byte(negative: bool, byte: u8) -> u8
     ensures { result ≡ signed_byte negative byte }
 {
     if negative { 0xFF - byte } else { byte }
 }
 
+// The magnitude of an integer of this sign, spelled by these bytes.
 fn magnitude(negative: bool, digits: &[u8]) -> u64
     requires { length digits.now ≤ 8 }
     ensures { result ≡ number_high (with_sign negative digits.now) }
@@ -149,7 +155,7 @@ fn magnitude(negative: bool, digits: &[u8]) -> u64
     number
 }
 
-fn with_sign(negative: bool, magnitude: u64) -> i128
+fn signed(negative: bool, magnitude: u64) -> i128
     ensures { result ≡ int_of negative magnitude }
 {
     let number = i128::from(magnitude);

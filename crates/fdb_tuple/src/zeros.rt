@@ -6,7 +6,7 @@ ghost use Rattle.fdb_tuple.specs.Zeros.{HasNoZero};
 use memchr::memchr;
 
 // The bytes before the first 00, and those after it; None where there is no 00.
-pub fn split_at_zero(bytes: &[u8]) -> Option<(&[u8], &[u8])>
+pub(crate) fn split_at_zero(bytes: &[u8]) -> Option<(&[u8], &[u8])>
     ensures { MatchOption result (HasNoZero bytes.now)
         (λ parts. HasNoZero parts.0.now × (bytes.now ≡ parts.0.now ++ 0 ∷ parts.1.now)) }
 {
