@@ -6,6 +6,7 @@ use Rattle.std.specs.FinMap.{insert}
 use Rattle.key_map.specs.declared.map.KeyMap.{KeyMap}
 use Rattle.key_map.specs.contracts.map.KeyMap.{the_row}
 
--- the key has the last value written through the reference, and where there is none the map stays as it is
-abbrev pub LendsValue : (V : RattleType) → MutBor (KeyMap V.Denot) → List ℕ → Option (MutBor V.Denot) → Fml
-LendsValue V map key value = LendsIf (the_row V) V map value (λ w. insert map.now key w) map.now
+module _ (V : RattleType) where
+  -- the key has the last value written through the reference, and at `None` the map stays as it is
+  abbrev pub LendsValue : MutBor (KeyMap V.Denot) → List ℕ → Option (MutBor V.Denot) → Fml
+  LendsValue map key value = LendsIf (the_row V) V map value (insert map.now key) map.now

@@ -1,6 +1,6 @@
 //! An ordered map from keys to values.
 
-ghost use Rattle.std.specs.Prelude.{◌≡◌, ◌==◌, ℕ, List, [], not, IfOk, OnOk, OnErr};
+ghost use Rattle.std.specs.Prelude.{◌≡◌, ◌==◌, ℕ, List, [], not, None, IfOk, OnOk, OnErr};
 ghost use Rattle.std.specs.Bool.{OnFalse};
 ghost use Rattle.std.specs.Borrow.{sem};
 ghost use Rattle.std.specs.List.{filter};
@@ -79,20 +79,22 @@ impl<V> KeyMap<V> {
 
     /// The value of `key`, if it has one, to write. It takes no memory.
     pub fn get_mut(&mut self, key: &Key) -> Option<&mut V>
-        // Once the borrow ends the key has what was written last, and without the key the map is unchanged.
+        // Once the borrow ends the key has what was written last. At `None` the map is unchanged.
         ensures* writes_back { sem 𝓛 (LendsValue V.row self.entry key.now result) }
         ensures value { option_copied_mut result ≡ finite.get self.old key.now }
     {
         self.tree.get_mut(key)
     }
 
-    /// Gives `key` this value, and answers the value before. After a refusal the map is unchanged.
+    /// Gives `key` this value, and answers the value before. Only a new key takes memory. After a refusal the map is
+    /// unchanged.
     pub fn insert(&mut self, key: Key, value: V) -> Result<Option<V>, AllocError>
     where
         V: Drop,
         ensures before { IfOk result (λ before. before ≡ finite.get self.old key) }
         ensures ok { OnOk result (self.new ≡ finite.insert self.old key value) }
         ensures err { OnErr result (self.new ≡ self.old) }
+        ensures only_new { OnErr result (finite.get self.old key ≡ None) }
     {
         Ok(self.tree.insert(key, value)?)
     }
@@ -105,8 +107,8 @@ impl<V> KeyMap<V> {
         self.tree.remove(key)
     }
 
-    /// Removes the keys from `begin` up to `end`, `end` left out. It takes no memory. Where there is such a key it goes
-    /// over the whole map.
+    /// Removes the keys from `begin` up to `end`, `end` left out. It takes no memory. Where there is such a key, it
+    /// goes over the whole map.
     pub fn clear_range(&mut self, begin: &Key, end: &Key)
     where
         V: Drop,
@@ -117,14 +119,16 @@ impl<V> KeyMap<V> {
 
     /// The first pair with a key that is at least `key`. It takes no memory.
     pub fn next(&self, key: &Key) -> Option<(&Key, &V)>
-        ensures { option_map deref_pair result ≡ first (filter (λ e. key_le key.now e.0) (finite.entries self.now)) }
+        ensures { option_map deref_pair result
+            ≡ first (filter (λ e. key_le key.now e.0) (finite.entries self.now)) }
     {
         self.tree.range(key..).next()
     }
 
     /// The last pair with a key that is less than `key`. It takes no memory.
     pub fn prev(&self, key: &Key) -> Option<(&Key, &V)>
-        ensures { option_map deref_pair result ≡ last (filter (λ e. key_lt e.0 key.now) (finite.entries self.now)) }
+        ensures { option_map deref_pair result
+            ≡ last (filter (λ e. key_lt e.0 key.now) (finite.entries self.now)) }
     {
         self.tree.range(..key).next_back()
     }
@@ -160,9 +164,11 @@ impl KeyMap<Bytes> {
         copied(self.alloc, self.tree.range(..))
     }
 
-    /// A copy of the pairs with keys from `begin` up to `end`, `end` left out, in the order of their keys.
+    /// A copy of the pairs with keys from `begin` up to `end`, `end` left out, in the order of their keys. There is
+    /// none where `begin` isn't less than `end`.
     pub fn pairs_between(&self, begin: &Key, end: &Key) -> Result<Pairs, AllocError>
-        ensures { IfOk result (λ pairs. pairs ≡ filter (λ e. within begin.now end.now e.0) (finite.entries self.now)) }
+        ensures { IfOk result (λ pairs. pairs
+            ≡ filter (λ e. within begin.now end.now e.0) (finite.entries self.now)) }
     {
         if !begin.cmp(end).is_lt() {
             return Ok(Pairs::new(self.alloc));
@@ -188,7 +194,8 @@ fn copied(alloc: Global, rest: Range<'_, Bytes, Bytes>) -> Result<Pairs, AllocEr
 
 // Leaves the entries with keys below `begin`, and from `end` on.
 fn keep_outside<V: Drop>(tree: &mut BTreeMap<Bytes, V>, begin: &Key, end: &Key)
-    ensures { tree.new.entries ≡ filter (λ e. not (within begin.now end.now e.0)) tree.old.entries }
+    ensures { tree.new.entries
+        ≡ filter (λ e. not (within begin.now end.now e.0)) tree.old.entries }
 {
     if !has_between(tree, begin, end) {
         return;

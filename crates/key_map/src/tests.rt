@@ -11,7 +11,8 @@ use std::test::Fail;
 
 // The lengths of all keys and values, as a dump goes over them.
 fn lengths(alloc: Global, map: &KeyMap<Bytes>) -> Result<Vec<usize>, AllocError>
-    ensures { IfOk result (λ lengths. lengths.items ≡ flat_map (λ e. length e.0 ∷ length e.1 ∷ []) (finite.entries map.now)) }
+    ensures { IfOk result (λ lengths. lengths.items
+        ≡ flat_map (λ e. length e.0 ∷ length e.1 ∷ []) (finite.entries map.now)) }
 {
     let mut lengths = Vec::new(alloc);
     for (key, value) in map.entries() {
@@ -23,7 +24,9 @@ fn lengths(alloc: Global, map: &KeyMap<Bytes>) -> Result<Vec<usize>, AllocError>
 
 // Sets a value where there is one.
 fn set_value(map: &mut KeyMap<u64>, key: &Key, value: u64) -> bool
-    ensures { MatchOption (finite.get map.old key.now) (map.new ≡ map.old) (λ _. map.new ≡ finite.insert map.old key.now value) }
+    ensures { MatchOption (finite.get map.old key.now)
+        (map.new ≡ map.old)
+        (λ _. map.new ≡ finite.insert map.old key.now value) }
 {
     match map.get_mut(key) {
         Some(place) => {
@@ -37,7 +40,8 @@ fn set_value(map: &mut KeyMap<u64>, key: &Key, value: u64) -> bool
 // Calls a method of a value in its place.
 fn extend_value(map: &mut KeyMap<Bytes>, key: &Key, more: &[u8]) -> Result<(), AllocError>
     requires { IsSome (finite.get map.old key.now) }
-    ensures ok { OnOk result (IfSome (finite.get map.old key.now) (λ value. map.new ≡ finite.insert map.old key.now (value ++ more.now))) }
+    ensures ok { OnOk result (IfSome (finite.get map.old key.now)
+        (λ value. map.new ≡ finite.insert map.old key.now (value ++ more.now))) }
     ensures err { OnErr result (map.new ≡ map.old) }
 {
     map.get_mut(key).unwrap().extend(more)

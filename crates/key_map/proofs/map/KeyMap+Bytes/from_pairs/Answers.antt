@@ -1,4 +1,4 @@
-use Rattle.std.proofs.Common.{rules, map, sym, ap, ◌∙◌}
+use Rattle.std.proofs.Common.{rules, ap, ◌∙◌}
 use Rattle.std.specs.BTreeMap as tree
 use Rattle.std.specs.FinMap.{empty}
 use Rattle.key_bytes.specs.Entries.{entries_of}

@@ -1,4 +1,4 @@
-use Rattle.std.proofs.Common.{sym, ◌∙◌}
+use Rattle.std.proofs.Common.{◌∙◌}
 use Rattle.key_map.proofs.Finite.{looked_up, removed_of}
 use Rattle.key_map.proofs.map.KeyMap.remove.Goals as goal
 
