@@ -320,3 +320,6 @@ module _ {T : Type 0} where
   pub closes_at : (pass : ℕ) (v : View T) (other : ℕ) (u : View T) (h : History T) → v ≡ Receives (taken_by v) (senders_in v) → u ≡ Sends h → Merges Kept pass v other u (Receives (taken_by v) (senders_in v ++ told u ∷ [])) Spent
   closes_at pass v other u h e f = subst (λ y. Merges Kept pass y other u (Receives (taken_by v) (senders_in v ++ told u ∷ [])) Spent) (sym e)
       (subst (λ z. Merges Kept pass (Receives (taken_by v) (senders_in v)) other z (Receives (taken_by v) (senders_in v ++ told z ∷ [])) Spent) (sym f) (closes pass (taken_by v) (senders_in v) other h))
+
+  pub makes_ends_at : (pass : ℕ) (v : View T) → v ≡ First → Forks Kept pass v (Sends first_history) (Receives [] [])
+  makes_ends_at pass v e = subst (λ u. Forks Kept pass u (Sends first_history) (Receives [] [])) (sym e) (makes_ends pass)

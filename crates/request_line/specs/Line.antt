@@ -8,7 +8,7 @@ use Rattle.crossbeam_channel.specs.declared.flavors.array.Rounds.{Rounds}
 use Rattle.crossbeam_channel.specs.declared.flavors.array.Lockers.{Lockers}
 use Rattle.crossbeam_channel.specs.declared.flavors.array.Whole.{Whole}
 use Rattle.crossbeam_channel.specs.declared.flavors.array.Rows.{Rows}
-use Rattle.crossbeam_channel.specs.Ends.{sends_on, receives_on}
+use Rattle.crossbeam_channel.specs.Ends.{sends_on, receives_on, ruled_capacity}
 use Rattle.crossbeam_channel.specs.Claims.{view}
 use Rattle.request_line.specs.declared.history.History.{History}
 use Rattle.request_line.specs.declared.view.View.{View}
@@ -22,6 +22,10 @@ abbrev pub Line : Type 0 → Type 0
 Line T = Rows (Badge (Key (ℕ × T))) (Doing (ℕ × T) (View T)) (Rounds OneOwner) (Option (ℕ × T)) (Key (ℕ × T)) (Lockers Whole) Global
 
 module _ {T : Type 0} where
+  -- how many items may wait in a line
+  abbrev pub capacity_of : Line T → ℕ
+  capacity_of line = ruled_capacity line
+
   -- the line of a sender, and what is known of it
   abbrev pub sender_line : Sender T → Line T
   sender_line s = sends_on s.posting

@@ -6,11 +6,15 @@ ghost use Rattle.crossbeam_channel.specs.Claims.{view, IsSeatAt};
 ghost use Rattle.request_line.specs.declared.view.View.TheVariants.{Sends, Receives};
 ghost use Rattle.request_line.specs.Spans.{told, taken_by, senders_in};
 
-use crate::view::{Closes, Ends, Halves, OneOwner, Posts, Takes, View};
-use crossbeam_channel::{Pass, RuledReceiver, RuledSender, bounded_with};
-use std::alloc::{AllocError, Global};
+use crate::view::{Closes, Halves, OneOwner, Posts, Takes, View};
+use crossbeam_channel::{Pass, RuledReceiver, RuledSender};
+use std::alloc::AllocError;
 use std::sync::Wait;
 use std::thread;
+
+mod opening;
+
+pub use opening::open;
 
 type Posting<T> = RuledSender<(u64, T), View<T>, OneOwner>;
 

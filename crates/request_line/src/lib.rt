@@ -1,9 +1,9 @@
 //! A line from many senders to one receiver.
 #![tactic(auto)]
 
+mod ends;
 mod history;
 mod view;
 
+pub use ends::{Receiver, Sender, open};
 pub use history::History;
-mod ends;
-pub use ends::{Receiver, Sender};
