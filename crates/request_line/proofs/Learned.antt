@@ -1,6 +1,6 @@
 -- What the rule tells the receiver of the senders that it took in.
-use Rattle.std.proofs.Common.{◌≡◌, ◌≢◌, ℕ, ◌+◌, ◌^◌, ◌<◌, ◌≤◌, List, [], ◌∷◌, ◌++◌, length, get_or, sym, refl, ap, ◌∙◌, subst, append_assoc, arith, lt_of_not-le}
-use Rattle.std.specs.List.{All, Any}
+use Rattle.std.proofs.Common.{◌≡◌, ◌≢◌, ℕ, ◌^◌, ◌<◌, ◌≤◌, List, [], ◌∷◌, ◌++◌, get_or, sym, ap, ◌∙◌, subst, append_assoc, arith, lt_of_not-le}
+use Rattle.std.specs.List.{Any}
 use mathlib.Core.Option.{some}
 use mathlib.Core.List.{IsPrefix}
 use native.Mathlib.Decide.{dec_le, ℕ_discrete}
@@ -10,8 +10,8 @@ use Rattle.atomic_table.proofs.Lists.{at_index}
 use Rattle.request_line.specs.declared.history.History.{History}
 use Rattle.request_line.specs.declared.view.View.{View}
 use Rattle.request_line.specs.declared.view.View.TheVariants.{Receives}
-use Rattle.request_line.specs.History.{IsInSpan, CoverAll, AreApart}
-use Rattle.request_line.specs.Taking.{items_of, TakesInOrder, TakesAllAtLength, TakesAfterSplit, IsOfThese, Agrees}
+use Rattle.request_line.specs.History.{IsInSpan, CoverAllNumbers, AreAllApart}
+use Rattle.request_line.specs.Taking.{items_of, TakesInOrder, TakesAfterSplit, IsOfThese, Agrees}
 use Rattle.request_line.specs.Spans.{Owner, taken_in, Owns, Fits, Kept, taken_by, senders_in}
 use Rattle.request_line.proofs.Items.{items_of-append, left_nil, whole_prefix, found, has_items, ends_before}
 
@@ -39,17 +39,19 @@ module _ {T : Type 0} (got items : List (ℕ × T)) (who : ℕ → Owner) where
   small p bounded some_taken (no n) = lt_of_not-le n
 
   module _ (senders : List (History T)) (own : (k : ℕ) (h : History T) → get_elem? senders k ≡ some h → Owns (got ++ items) who (taken_in k) h) (bounded : (q : ℕ) → 2 ^ 63 ≤ q → items_of q (got ++ items) ≡ []) where
-    of_these : CoverAll senders → IsOfThese got senders
+    of_these : CoverAllNumbers senders → IsOfThese got senders
     of_these cover k d h = (c.0, c.1, c.2, c.3, one_of_these c.1 m.0 (taken_in c.0) (own c.0 c.1 (at_index senders c.0 c.1 c.2 (sym c.3))) c.4 some_taken (ℕ_discrete c.1.number m.0))
       where
         m : ℕ × T
         m = get_or got k d
+
         some_taken : items_of m.0 got ≢ []
         some_taken = has_items got k d h
+
         c : Any (λ s. IsInSpan s m.0) senders
         c = cover m.0 (small m.0 bounded some_taken (dec_le (2 ^ 63) m.0))
 
-    apart : AreApart senders
+    apart : AreAllApart senders
     apart i j d before in_list p a b = absurd (omega (arith, before, same i j (sym ((own i (get_or senders i d) (found senders i d (omega arith))).owned p a) ∙ (own j (get_or senders j d) (found senders j d in_list)).owned p b)))
       where
         same : (a b : ℕ) → taken_in a ≡ taken_in b → a ≡ b
@@ -58,7 +60,7 @@ module _ {T : Type 0} (got items : List (ℕ × T)) (who : ℕ → Owner) where
     pub agrees : Agrees got senders
     agrees = record {
       in_order = λ k d h. in_order (taken_in k) (get_or senders k d) (own k (get_or senders k d) (found senders k d h));
-      all_at_length = λ k d h. whole_prefix (items_of (get_or senders k d).number got) (get_or senders k d).posted (in_order (taken_in k) (get_or senders k d) (own k (get_or senders k d) (found senders k d h)));
+      all_where_as_many = λ k d h. whole_prefix (items_of (get_or senders k d).number got) (get_or senders k d).posted (in_order (taken_in k) (get_or senders k d) (own k (get_or senders k d) (found senders k d h)));
       after_split = λ k d h. after_split (taken_in k) (get_or senders k d) (own k (get_or senders k d) (found senders k d h));
       of_these = of_these;
       apart = apart;

@@ -1,5 +1,5 @@
 -- Each move of a line keeps its rule.
-use Rattle.std.proofs.Common.{◌≡◌, ◌≢◌, ◌⊎◌, ℕ, zero, suc, ◌+◌, ◌-◌, ◌^◌, ◌<◌, ◌≤◌, List, [], ◌∷◌, ◌++◌, Bool, true, false, true≢false, cond, ◌&&◌, leb, ltb, length, set, sym, refl, ap, ◌∙◌, subst, ⊎_elim, append_assoc, append-nil, length-set, le-leb, lt-ltb, leb-true, ltb-true, pow_pos, pow-suc, lit≤, arith}
+use Rattle.std.proofs.Common.{◌≡◌, ◌≢◌, ℕ, zero, suc, ◌+◌, ◌-◌, ◌^◌, ◌<◌, ◌≤◌, List, [], ◌∷◌, ◌++◌, Bool, true, false, true≢false, cond, ◌&&◌, leb, ltb, length, set, sym, refl, ap, ◌∙◌, subst, ⊎_elim, append_assoc, append-nil, le-leb, lt-ltb, leb-true, ltb-true, pow_pos, pow-suc, lit≤, arith}
 use mathlib.Core.Option.{some, some-injective, some-ne-none}
 use lib.ListN.{get_elem?}
 use Rattle.crossbeam_channel.specs.Fifo.{Pushes, Pops, Forks, Merges}
@@ -9,7 +9,7 @@ use Rattle.request_line.specs.declared.view.View.{View}
 use Rattle.request_line.specs.declared.view.View.TheVariants.{First, Sends, Receives, Spent}
 use Rattle.request_line.specs.History.{first_history, with_post, lower_half, upper_half, IsInSpan}
 use Rattle.request_line.specs.Taking.{items_of}
-use Rattle.request_line.specs.Spans.{Owner, held, taken_in, Follows, Owns, Fits, Kept, told, taken_by, senders_in}
+use Rattle.request_line.specs.Spans.{Owner, held, taken_in, Owns, Fits, Kept, told, taken_by, senders_in}
 use Rattle.request_line.proofs.Items.{items_of-last_own, items_of-last_other, left_nil, each_set, each_last}
 
 -- the numbers from low up to high go to an owner, and the others stay
@@ -125,12 +125,16 @@ module _ {T : Type 0} where
     where
       log : List (ℕ × T)
       log = k.got ++ items
+
       new : ℕ
       new = length (set views pass (Sends first_history))
+
       first : Fits log k.got k.reader k.who pass First
       first = k.each pass First at
+
       nothing_taken : [] ≡ k.got
       nothing_taken = sym (left_nil k.got items first.1)
+
       mine : Owns log k.who (held pass) first_history
       mine = record {
         posted = ap (items_of 0) first.1;
@@ -161,6 +165,7 @@ module _ {T : Type 0} where
     where
       halves : 2 ^ (h.room - 1) + 2 ^ (h.room - 1) ≡ 2 ^ h.room
       halves = two_halves h.room some_room
+
       wider : (p : ℕ) → IsInSpan (lower_half h) p → IsInSpan h p
       wider p span = (span.0, omega (arith, halves, span.1))
 
@@ -177,8 +182,10 @@ module _ {T : Type 0} where
     where
       halves : 2 ^ (h.room - 1) + 2 ^ (h.room - 1) ≡ 2 ^ h.room
       halves = two_halves h.room some_room
+
       wider : (p : ℕ) → IsInSpan (upper_half h) p → IsInSpan h p
       wider p span = (omega (arith, span.0), omega (arith, halves, span.1))
+
       fresh : items_of (upper_half h).number log ≡ []
       fresh = k.unused (upper_half h).number (wider (upper_half h).number (own_number (upper_half h))) (λ e. absurd (omega (arith, e, pow_pos (h.room - 1))))
 
@@ -190,24 +197,31 @@ module _ {T : Type 0} where
     who = who';
     each = each_last (Fits log k.got k.reader who') cut (Sends (upper_half h)) (Owns_upper log k.who pass new h some_room mine)
         (each_set (Fits log k.got k.reader who') views pass (Sends (lower_half h)) (Owns_lower log k.who pass new h some_room mine)
-            (λ j u apart e. others_of_split log k.got k.reader k.who pass j new low high h mine gone apart u (k.each j u e)));
+        (λ j u apart e. others_of_split log k.got k.reader k.who pass j new low high h mine gone apart u (k.each j u e)));
     bounded = k.bounded;
   }
     where
       log : List (ℕ × T)
       log = k.got ++ items
+
       cut : List (View T)
       cut = set views pass (Sends (lower_half h))
+
       new : ℕ
       new = length cut
+
       low : ℕ
       low = (upper_half h).number
+
       high : ℕ
       high = h.number + 2 ^ h.room
+
       who' : ℕ → Owner
       who' = put low high (held new) k.who
+
       mine : Owns log k.who (held pass) h
       mine = k.each pass (Sends h) at
+
       gone : (p : ℕ) → low ≤ p → p < high → k.who p ≡ held pass
       gone p a b = mine.owned p (omega (arith, a), b)
 
@@ -220,22 +234,29 @@ module _ {T : Type 0} where
 
   -- a post
   pub posts : (n pass : ℕ) (h : History T) (x : T) → Pushes Kept n pass (Sends h) (h.number, x) (λ w. w ≡ Sends (with_post h x))
-  posts n pass h x items views _ k at = (Sends (with_post h x), record {
-    got = k.got;
-    reader = k.reader;
-    who = k.who;
-    each = λ j u e. subst (λ l. Fits l k.got k.reader k.who j u) along
-        (each_set (Fits longer k.got k.reader k.who) views pass (Sends (with_post h x)) (Owns_post log k.who (held pass) h x mine)
-            (λ j' u' apart e'. others_of_post log k.got k.reader k.who pass j' (h.number, x) (mine.owned h.number (own_number h)) apart u' (k.each j' u' e')) j u e);
-    bounded = λ p big. ap (items_of p) (sym along) ∙ items_of-last_other p log (h.number, x) (λ e. absurd (omega (arith, big, e, mine.within, pow_pos h.room))) ∙ k.bounded p big;
-  }, refl)
+  posts n pass h x items views _ k at = (
+    Sends (with_post h x),
+    record {
+      got = k.got;
+      reader = k.reader;
+      who = k.who;
+      each = λ j u e. subst (λ l. Fits l k.got k.reader k.who j u) along
+          (each_set (Fits longer k.got k.reader k.who) views pass (Sends (with_post h x)) (Owns_post log k.who (held pass) h x mine)
+          (λ j' u' apart e'. others_of_post log k.got k.reader k.who pass j' (h.number, x) (mine.owned h.number (own_number h)) apart u' (k.each j' u' e')) j u e);
+      bounded = λ p big. ap (items_of p) (sym along) ∙ items_of-last_other p log (h.number, x) (λ e. absurd (omega (arith, big, e, mine.within, pow_pos h.room))) ∙ k.bounded p big;
+    },
+    refl,
+  )
     where
       log : List (ℕ × T)
       log = k.got ++ items
+
       longer : List (ℕ × T)
       longer = log ++ (h.number, x) ∷ []
+
       along : longer ≡ k.got ++ (items ++ (h.number, x) ∷ [])
       along = append_assoc k.got items ((h.number, x) ∷ [])
+
       mine : Owns log k.who (held pass) h
       mine = k.each pass (Sends h) at
 
@@ -248,22 +269,29 @@ module _ {T : Type 0} where
 
   -- a take
   pub takes : (pass : ℕ) (taken : List (ℕ × T)) (senders : List (History T)) → Pops Kept pass (Receives taken senders) (λ m w. w ≡ Receives (taken ++ m ∷ []) senders)
-  takes pass taken senders m items views k at = (Receives (taken ++ m ∷ []) senders, record {
-    got = got';
-    reader = k.reader;
-    who = k.who;
-    each = λ j u e. subst (λ l. Fits l got' k.reader k.who j u) along
-        (each_set (Fits log got' k.reader k.who) views pass (Receives (taken ++ m ∷ []) senders) (mine.0, ap (λ l. l ++ m ∷ []) mine.1, mine.2)
-            (λ j' u' apart e'. others_of_take log k.got got' k.reader k.who j' (λ same. apart (same ∙ sym mine.0)) u' (k.each j' u' e')) j u e);
-    bounded = λ p big. ap (items_of p) (sym along) ∙ k.bounded p big;
-  }, refl)
+  takes pass taken senders m items views k at = (
+    Receives (taken ++ m ∷ []) senders,
+    record {
+      got = got';
+      reader = k.reader;
+      who = k.who;
+      each = λ j u e. subst (λ l. Fits l got' k.reader k.who j u) along
+          (each_set (Fits log got' k.reader k.who) views pass (Receives (taken ++ m ∷ []) senders) (mine.0, ap (λ l. l ++ m ∷ []) mine.1, mine.2)
+          (λ j' u' apart e'. others_of_take log k.got got' k.reader k.who j' (λ same. apart (same ∙ sym mine.0)) u' (k.each j' u' e')) j u e);
+      bounded = λ p big. ap (items_of p) (sym along) ∙ k.bounded p big;
+    },
+    refl,
+  )
     where
       log : List (ℕ × T)
       log = k.got ++ m ∷ items
+
       got' : List (ℕ × T)
       got' = k.got ++ m ∷ []
+
       along : log ≡ got' ++ items
       along = sym (append_assoc k.got (m ∷ []) items)
+
       mine : Fits log k.got k.reader k.who pass (Receives taken senders)
       mine = k.each pass (Receives taken senders) at
 
@@ -285,24 +313,31 @@ module _ {T : Type 0} where
     who = who';
     each = each_set (Fits log k.got k.reader who') (set views pass both) other Spent tt
         (λ j u apart e. each_set (λ i v. i ≢ other → Fits log k.got k.reader who' i v) views pass both (λ _. (mine.0, mine.1, all_in))
-            (λ i v apart' e' apart''. others_of_close log k.got k.reader k.who pass other i (length senders) h mine.0 theirs apart' apart'' v (k.each i v e')) j u e apart);
+        (λ i v apart' e' apart''. others_of_close log k.got k.reader k.who pass other i (length senders) h mine.0 theirs apart' apart'' v (k.each i v e')) j u e apart);
     bounded = k.bounded;
   }
     where
       log : List (ℕ × T)
       log = k.got ++ items
+
       both : View T
       both = Receives taken (senders ++ h ∷ [])
+
       who' : ℕ → Owner
       who' = put h.number (h.number + 2 ^ h.room) (taken_in (length senders)) k.who
+
       mine : Fits log k.got k.reader k.who pass (Receives taken senders)
       mine = k.each pass (Receives taken senders) at
+
       was : get_elem? views other ≡ some (Sends h)
       was = ⊎_elim (λ x. absurd (two x.0)) (λ x. x.1) (at_set views pass other both (Sends h) at')
+
       theirs : Owns log k.who (held other) h
       theirs = k.each other (Sends h) was
+
       new_in : Owns log who' (taken_in (length senders)) h
       new_in = Owns_by log k.who who' (held other) (taken_in (length senders)) h (λ p span _. put_in h.number (h.number + 2 ^ h.room) (taken_in (length senders)) k.who p span.0 span.1) theirs
+
       all_in : (i : ℕ) (h' : History T) → get_elem? (senders ++ h ∷ []) i ≡ some h' → Owns log who' (taken_in i) h'
       all_in = each_last (λ i h'. Owns log who' (taken_in i) h') senders h new_in
           (λ i h' e. Owns_stay log k.who h.number (h.number + 2 ^ h.room) (held other) (taken_in (length senders)) (taken_in i) h' (λ p a b. theirs.owned p (a, b)) (λ same. (cc)) (mine.2 i h' e))

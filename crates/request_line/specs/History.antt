@@ -1,5 +1,5 @@
 -- What contracts see of a sender: its number and its span of numbers, what it posted, and what its maker had posted when it was made.
-use Rattle.std.specs.Prelude.{◌≡◌, ℕ, ◌+◌, ◌-◌, ◌^◌, ◌<◌, ◌≤◌, List, [], ◌∷◌, ◌++◌}
+use Rattle.std.specs.Prelude.{ℕ, ◌+◌, ◌-◌, ◌^◌, ◌<◌, ◌≤◌, ◌⊎◌, ◌↔◌, List, [], ◌∷◌, ◌++◌}
 use Rattle.std.specs.List.{Any, AllPairs}
 use Rattle.request_line.specs.declared.history.History.{History}
 
@@ -25,9 +25,17 @@ module _ {T : Type 0} where
   IsInSpan h p = (h.number ≤ p) × (p < h.number + 2 ^ h.room)
 
   -- each number below 2 ^ 63 is in the span of one of these senders
-  abbrev pub CoverAll : List (History T) → Type 0
-  CoverAll senders = (p : ℕ) → p < 2 ^ 63 → Any (λ h. IsInSpan h p) senders
+  abbrev pub CoverAllNumbers : List (History T) → Type 0
+  CoverAllNumbers senders = (p : ℕ) → p < 2 ^ 63 → Any (λ h. IsInSpan h p) senders
+
+  -- no number is in the spans of both
+  abbrev pub AreApart : History T → History T → Type 0
+  AreApart a b = (p : ℕ) → IsInSpan a p → ¬ IsInSpan b p
 
   -- no number is in the spans of two of them
-  abbrev pub AreApart : List (History T) → Type 0
-  AreApart senders = AllPairs (λ a b. (p : ℕ) → IsInSpan a p → ¬ IsInSpan b p) senders
+  abbrev pub AreAllApart : List (History T) → Type 0
+  AreAllApart senders = AllPairs AreApart senders
+
+  -- the spans of two senders together are the span of one
+  abbrev pub AreTogether : History T → History T → History T → Type 0
+  AreTogether a b whole = (p : ℕ) → (IsInSpan a p ⊎ IsInSpan b p) ↔ IsInSpan whole p

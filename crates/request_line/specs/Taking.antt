@@ -1,9 +1,9 @@
 -- What the list of items taken, each with the number of its sender, says of the senders.
-use Rattle.std.specs.Prelude.{◌≡◌, ◌==◌, ℕ, List, [], ◌∷◌, ◌++◌, length, map, filter}
+use Rattle.std.specs.Prelude.{◌≡◌, ◌==◌, ℕ, List, ◌∷◌, ◌++◌, length, map, filter}
 use Rattle.std.specs.List.{All, Any}
 use mathlib.Core.List.{IsPrefix}
 use Rattle.request_line.specs.declared.history.History.{History}
-use Rattle.request_line.specs.History.{CoverAll, AreApart}
+use Rattle.request_line.specs.History.{CoverAllNumbers, AreAllApart}
 
 module _ {T : Type 0} where
   -- the items of the sender of that number, in the order taken
@@ -15,8 +15,8 @@ module _ {T : Type 0} where
   TakesInOrder taken h = IsPrefix (items_of h.number taken) h.posted
 
   -- where as many were taken of the sender as it posted, it is all of that
-  abbrev pub TakesAllAtLength : List (ℕ × T) → History T → Type 0
-  TakesAllAtLength taken h = length (items_of h.number taken) ≡ length h.posted → items_of h.number taken ≡ h.posted
+  abbrev pub TakesAllWhereAsMany : List (ℕ × T) → History T → Type 0
+  TakesAllWhereAsMany taken h = length (items_of h.number taken) ≡ length h.posted → items_of h.number taken ≡ h.posted
 
   -- wherever an item of the sender stands, all that its maker had posted before the split stands in front of it
   abbrev pub TakesAfterSplit : List (ℕ × T) → History T → Type 0
@@ -29,7 +29,7 @@ module _ {T : Type 0} where
   -- what is known of a receiver that has taken these items and taken in these senders
   pub record Agrees (taken : List (ℕ × T)) (senders : List (History T)) : Type 0 where
     pub in_order : All (TakesInOrder taken) senders
-    pub all_at_length : All (TakesAllAtLength taken) senders
+    pub all_where_as_many : All (TakesAllWhereAsMany taken) senders
     pub after_split : All (TakesAfterSplit taken) senders
-    pub of_these : CoverAll senders → IsOfThese taken senders
-    pub apart : AreApart senders
+    pub of_these : CoverAllNumbers senders → IsOfThese taken senders
+    pub apart : AreAllApart senders

@@ -7,7 +7,7 @@ ghost use Rattle.request_line.specs.declared.view.View.TheVariants.{Sends, Recei
 ghost use Rattle.request_line.specs.Spans.{told, taken_by, senders_in};
 
 use crate::view::{Closes, Halves, OneOwner, Posts, Takes, View};
-use crossbeam_channel::{Pass, RuledReceiver, RuledSender};
+use crossbeam_channel::{Pass, RecvError, RuledReceiver, RuledSender};
 use std::alloc::AllocError;
 use std::sync::Wait;
 use std::thread;
@@ -49,7 +49,7 @@ pub struct Receiver<T: Drop> {
 
 impl<T: Drop> Sender<T> {
     ghost use Rattle.std.specs.Prelude.{◌≡◌, ◌≤◌, IfOk, OnErr, MatchResult};
-    ghost use Rattle.request_line.specs.History.{with_post, lower_half, upper_half};
+    ghost use Rattle.request_line.specs.History.{with_post, lower_half, upper_half, AreTogether, AreApart};
     ghost use Rattle.request_line.specs.Line.{sender_line, history};
 
     /// The number of this sender, by which `Receiver::take` names it. It takes no memory.
@@ -72,6 +72,8 @@ impl<T: Drop> Sender<T> {
         requires { 1 ≤ (history self.old).room }
         ensures made { IfOk result (λ made. history made ≡ upper_half (history self.old)) }
         ensures kept { IfOk result (λ _. history self.new ≡ lower_half (history self.old)) }
+        ensures together { IfOk result (λ made. AreTogether (history self.new) (history made) (history self.old)) }
+        ensures apart { IfOk result (λ made. AreApart (history self.new) (history made)) }
         ensures err { OnErr result (history self.new ≡ history self.old) }
         ensures made_line { IfOk result (λ made. sender_line made ≡ sender_line self.old) }
         ensures line { sender_line self.new ≡ sender_line self.old }
@@ -87,12 +89,11 @@ impl<T: Drop> Sender<T> {
         })
     }
 
-    /// Posts an item. It waits while the line is full. It takes no memory.
-    pub fn post<R: Wait>(&mut self, rt: &R, item: T)
+    /// Posts an item. It waits while the line is full, and for ever once the receiver is gone. It takes no memory.
+    pub fn post<R: Wait>(&mut self, rt: &R, mut item: T)
         ensures history { history self.new ≡ with_post (history self.old) item }
         ensures line { sender_line self.new ≡ sender_line self.old }
     {
-        let mut item = item;
         for _ in rt.forever() {
             match self.try_post(rt, item) {
                 Ok(()) => return,
@@ -108,7 +109,10 @@ impl<T: Drop> Sender<T> {
         ensures history { MatchResult result (λ _. history self.new ≡ with_post (history self.old) item) (λ back. (back ≡ item) × (history self.new ≡ history self.old)) }
         ensures line { sender_line self.new ≡ sender_line self.old }
     {
-        match self.posting.send_as::<Posts, R>(rt, &mut self.pass, (self.number, item)) {
+        match self
+            .posting
+            .send_as::<Posts, R>(rt, &mut self.pass, (self.number, item))
+        {
             Ok(()) => Ok(()),
             Err(e) => Err(e.into_inner().1),
         }
@@ -116,10 +120,10 @@ impl<T: Drop> Sender<T> {
 }
 
 impl<T: Drop> Receiver<T> {
-    ghost use Rattle.std.specs.Prelude.{◌≡◌, ◌∷◌, [], ◌++◌, MatchOption};
+    ghost use Rattle.std.specs.Prelude.{◌≡◌, ◌∷◌, [], ◌++◌, MatchResult};
     ghost use Rattle.std.specs.List.{All};
-    ghost use Rattle.request_line.specs.History.{CoverAll, AreApart};
-    ghost use Rattle.request_line.specs.Taking.{TakesInOrder, TakesAllAtLength, TakesAfterSplit, IsOfThese, Agrees};
+    ghost use Rattle.request_line.specs.History.{CoverAllNumbers, AreAllApart};
+    ghost use Rattle.request_line.specs.Taking.{TakesInOrder, TakesAllWhereAsMany, TakesAfterSplit, IsOfThese, Agrees};
     ghost use Rattle.request_line.specs.Line.{sender_line, history, receiver_line, taken, closed};
 
     /// Takes the oldest item that waits in the line, and names its sender. It waits while there is none. It takes no memory.
@@ -129,7 +133,7 @@ impl<T: Drop> Receiver<T> {
         ensures line { receiver_line self.new ≡ receiver_line self.old }
     {
         for _ in rt.forever() {
-            if let Some(mail) = self.try_take(rt) {
+            if let Ok(mail) = self.try_take(rt) {
                 return mail;
             }
             thread::yield_now();
@@ -138,15 +142,12 @@ impl<T: Drop> Receiver<T> {
     }
 
     // Takes nothing, and changes nothing, if the channel says that its senders have left.
-    fn try_take<R: Wait>(&mut self, rt: &R) -> Option<(u64, T)>
-        ensures taken { MatchOption result (taken self.new ≡ taken self.old) (λ mail. taken self.new ≡ taken self.old ++ mail ∷ []) }
+    fn try_take<R: Wait>(&mut self, rt: &R) -> Result<(u64, T), RecvError>
+        ensures taken { MatchResult result (λ mail. taken self.new ≡ taken self.old ++ mail ∷ []) (λ _. taken self.new ≡ taken self.old) }
         ensures closed { closed self.new ≡ closed self.old }
         ensures line { receiver_line self.new ≡ receiver_line self.old }
     {
-        match self.taking.recv_as::<Takes, R>(rt, &mut self.pass) {
-            Ok(mail) => Some(mail),
-            Err(_) => None,
-        }
+        self.taking.recv_as::<Takes, R>(rt, &mut self.pass)
     }
 
     /// Takes a sender of this receiver's line in, for good. It takes no memory.
@@ -158,12 +159,12 @@ impl<T: Drop> Receiver<T> {
 
         // Of each sender taken in, this one included:
         ensures in_order { All (TakesInOrder (taken self.new)) (closed self.new) }
-        ensures all_at_length { All (TakesAllAtLength (taken self.new)) (closed self.new) }
+        ensures all_where_as_many { All (TakesAllWhereAsMany (taken self.new)) (closed self.new) }
         ensures after_split { All (TakesAfterSplit (taken self.new)) (closed self.new) }
 
         // Of all of them together:
-        ensures of_these { CoverAll (closed self.new) → IsOfThese (taken self.new) (closed self.new) }
-        ensures apart { AreApart (closed self.new) }
+        ensures of_these { CoverAllNumbers (closed self.new) → IsOfThese (taken self.new) (closed self.new) }
+        ensures apart { AreAllApart (closed self.new) }
     {
         let Sender {
             posting: _,

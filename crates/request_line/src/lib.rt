@@ -7,3 +7,6 @@ mod view;
 
 pub use ends::{Receiver, Sender, open};
 pub use history::History;
+
+#[cfg(test)]
+mod tests;
