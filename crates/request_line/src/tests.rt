@@ -12,16 +12,29 @@ use std::thread::{Promise, PromisedHandle, Threads};
 
 #[test]
 fn takes_in_the_order_posted(rt: HostRuntime) -> Result<(), Fail> {
-    let (mut sender, mut receiver) = open::<u32>(rt.alloc(), 4)?;
-    assert_eq!(rt; (sender.number(), sender.room()), (0, 63));
-    sender.post(&rt, 1);
-    sender.post(&rt, 2);
-    sender.post(&rt, 3);
-    assert_eq!(rt; receiver.take(&rt), (0, 1));
-    assert_eq!(rt; receiver.take(&rt), (0, 2));
-    assert_eq!(rt; receiver.take(&rt), (0, 3));
-    receiver.close_with(sender);
+    let (first, second, third) = post_three(&rt, rt.alloc())?;
+    assert_eq!(rt; first, (0, 1));
+    assert_eq!(rt; second, (0, 2));
+    assert_eq!(rt; third, (0, 3));
     Ok(())
+}
+
+// That 1, 2 and 3 are taken follows from the clauses of the line alone.
+fn post_three<R: Wait>(
+    rt: &R,
+    alloc: Global,
+) -> Result<((u64, u32), (u64, u32), (u64, u32)), AllocError>
+    ensures { IfOk result (λ r. (r.0 ≡ (0, 1)) × (r.1 ≡ (0, 2)) × (r.2 ≡ (0, 3))) }
+{
+    let (mut sender, mut receiver) = open::<u32>(alloc, 4)?;
+    sender.post(rt, 1);
+    sender.post(rt, 2);
+    sender.post(rt, 3);
+    let first = receiver.take(rt);
+    let second = receiver.take(rt);
+    let third = receiver.take(rt);
+    receiver.close_with(sender);
+    Ok((first, second, third))
 }
 
 #[test]
