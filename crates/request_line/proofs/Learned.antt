@@ -1,4 +1,4 @@
--- What the rule tells the receiver of the senders that it took in.
+-- What the rule tells the receiver of the senders that it closed.
 use Rattle.std.proofs.Common.{◌≡◌, ◌≢◌, ℕ, ◌^◌, ◌<◌, ◌≤◌, List, [], ◌∷◌, ◌++◌, get_or, sym, ap, ◌∙◌, subst, append_assoc, arith, lt_of_not-le}
 use Rattle.std.specs.List.{Any}
 use mathlib.Core.Option.{some}
@@ -12,7 +12,7 @@ use Rattle.request_line.specs.declared.view.View.{View}
 use Rattle.request_line.specs.declared.view.View.TheVariants.{Receives}
 use Rattle.request_line.specs.History.{IsInSpan, CoverAllNumbers, AreAllApart}
 use Rattle.request_line.specs.Taking.{items_of, TakesInOrder, TakesAfterSplit, IsOfThese, Agrees}
-use Rattle.request_line.specs.Spans.{Owner, taken_in, Owns, Fits, Kept, taken_by, senders_in}
+use Rattle.request_line.specs.Spans.{Owner, closed_at, Owns, Fits, Kept, taken_by, closed_by}
 use Rattle.request_line.proofs.Items.{items_of-append, left_nil, whole_prefix, found, has_items, ends_before}
 
 module _ {T : Type 0} (got items : List (ℕ × T)) (who : ℕ → Owner) where
@@ -29,7 +29,7 @@ module _ {T : Type 0} (got items : List (ℕ × T)) (who : ℕ → Owner) where
       p = ends_before h.number k.follows.front k.follows.back front x (back ++ items)
           (sym k.follows.parts ∙ ap (λ l. l ++ items) e ∙ append_assoc front ((h.number, x) ∷ back) items) k.follows.none_yet
 
-  -- a number below 2 ^ 63 of which something was taken is that of a sender that was taken in
+  -- a number below 2 ^ 63 of which something was taken is that of a sender that was closed
   one_of_these : (h : History T) (p : ℕ) (o : Owner) → Owns (got ++ items) who o h → IsInSpan h p → items_of p got ≢ [] → Dec (h.number ≡ p) → h.number ≡ p
   one_of_these h p o k span some_taken (yes e) = e
   one_of_these h p o k span some_taken (no n) = absurd (some_taken (left_nil (items_of p got) (items_of p items) (sym (items_of-append p got items) ∙ k.unused p span (λ e. n (sym e)))))
@@ -38,9 +38,9 @@ module _ {T : Type 0} (got items : List (ℕ × T)) (who : ℕ → Owner) where
   small p bounded some_taken (yes big) = absurd (some_taken (left_nil (items_of p got) (items_of p items) (sym (items_of-append p got items) ∙ bounded p big)))
   small p bounded some_taken (no n) = lt_of_not-le n
 
-  module _ (senders : List (History T)) (own : (k : ℕ) (h : History T) → get_elem? senders k ≡ some h → Owns (got ++ items) who (taken_in k) h) (bounded : (q : ℕ) → 2 ^ 63 ≤ q → items_of q (got ++ items) ≡ []) where
+  module _ (senders : List (History T)) (own : (k : ℕ) (h : History T) → get_elem? senders k ≡ some h → Owns (got ++ items) who (closed_at k) h) (bounded : (q : ℕ) → 2 ^ 63 ≤ q → items_of q (got ++ items) ≡ []) where
     of_these : CoverAllNumbers senders → IsOfThese got senders
-    of_these cover k d h = (c.0, c.1, c.2, c.3, one_of_these c.1 m.0 (taken_in c.0) (own c.0 c.1 (at_index senders c.0 c.1 c.2 (sym c.3))) c.4 some_taken (ℕ_discrete c.1.number m.0))
+    of_these cover k d h = (c.0, c.1, c.2, c.3, one_of_these c.1 m.0 (closed_at c.0) (own c.0 c.1 (at_index senders c.0 c.1 c.2 (sym c.3))) c.4 some_taken (ℕ_discrete c.1.number m.0))
       where
         m : ℕ × T
         m = get_or got k d
@@ -54,14 +54,14 @@ module _ {T : Type 0} (got items : List (ℕ × T)) (who : ℕ → Owner) where
     apart : AreAllApart senders
     apart i j d before in_list p a b = absurd (omega (arith, before, same i j (sym ((own i (get_or senders i d) (found senders i d (omega arith))).owned p a) ∙ (own j (get_or senders j d) (found senders j d in_list)).owned p b)))
       where
-        same : (a b : ℕ) → taken_in a ≡ taken_in b → a ≡ b
+        same : (a b : ℕ) → closed_at a ≡ closed_at b → a ≡ b
         same a b e = cc
 
     pub agrees : Agrees got senders
     agrees = record {
-      in_order = λ k d h. in_order (taken_in k) (get_or senders k d) (own k (get_or senders k d) (found senders k d h));
-      all_where_as_many = λ k d h. whole_prefix (items_of (get_or senders k d).number got) (get_or senders k d).posted (in_order (taken_in k) (get_or senders k d) (own k (get_or senders k d) (found senders k d h)));
-      after_split = λ k d h. after_split (taken_in k) (get_or senders k d) (own k (get_or senders k d) (found senders k d h));
+      in_order = λ k d h. in_order (closed_at k) (get_or senders k d) (own k (get_or senders k d) (found senders k d h));
+      all_where_as_many = λ k d h. whole_prefix (items_of (get_or senders k d).number got) (get_or senders k d).posted (in_order (closed_at k) (get_or senders k d) (own k (get_or senders k d) (found senders k d h)));
+      after_split = λ k d h. after_split (closed_at k) (get_or senders k d) (own k (get_or senders k d) (found senders k d h));
       of_these = of_these;
       apart = apart;
     }
@@ -70,5 +70,5 @@ pub learns : {T : Type 0} (pass : ℕ) (taken : List (ℕ × T)) (senders : List
 learns pass taken senders items views k at = let mine : Fits (k.got ++ items) k.got k.reader k.who pass (Receives taken senders) = k.each pass (Receives taken senders) at in
     subst (λ l. Agrees l senders) (sym mine.1) (agrees k.got items k.who senders mine.2 k.bounded)
 
-pub learns_at : {T : Type 0} (pass : ℕ) (v : View T) → v ≡ Receives (taken_by v) (senders_in v) → Learns Kept pass v (λ items. Agrees (taken_by v) (senders_in v))
-learns_at pass v e = subst (λ u. Learns Kept pass u (λ items. Agrees (taken_by v) (senders_in v))) (sym e) (learns pass (taken_by v) (senders_in v))
+pub learns_at : {T : Type 0} (pass : ℕ) (v : View T) → v ≡ Receives (taken_by v) (closed_by v) → Learns Kept pass v (λ items. Agrees (taken_by v) (closed_by v))
+learns_at pass v e = subst (λ u. Learns Kept pass u (λ items. Agrees (taken_by v) (closed_by v))) (sym e) (learns pass (taken_by v) (closed_by v))

@@ -9,7 +9,7 @@ use Rattle.request_line.specs.declared.view.View.{View}
 use Rattle.request_line.specs.declared.view.View.TheVariants.{First, Sends, Receives, Spent}
 use Rattle.request_line.specs.History.{first_history, with_post, lower_half, upper_half, IsInSpan}
 use Rattle.request_line.specs.Taking.{items_of}
-use Rattle.request_line.specs.Spans.{Owner, held, taken_in, Owns, Fits, Kept, told, taken_by, senders_in}
+use Rattle.request_line.specs.Spans.{Owner, held, closed_at, Owns, Fits, Kept, told, taken_by, closed_by}
 use Rattle.request_line.proofs.Items.{items_of-last_own, items_of-last_other, left_nil, each_set, each_last}
 
 -- the numbers from low up to high go to an owner, and the others stay
@@ -149,7 +149,7 @@ module _ {T : Type 0} where
       → (v : View T) → Fits log got reader who j v → Fits log got reader (put low high (held new) who) j v
   others_of_split log got reader who pass j new low high h k gone apart First g = absurd (held_apart j pass apart (sym (g.2 h.number) ∙ k.owned h.number (own_number h)))
   others_of_split log got reader who pass j new low high h k gone apart (Sends h') g = Owns_stay log who low high (held pass) (held new) (held j) h' gone (held_apart j pass apart) g
-  others_of_split log got reader who pass j new low high h k gone apart (Receives taken senders) g = (g.0, g.1, λ i h' e. Owns_stay log who low high (held pass) (held new) (taken_in i) h' gone (λ same. (cc)) (g.2 i h' e))
+  others_of_split log got reader who pass j new low high h k gone apart (Receives taken senders) g = (g.0, g.1, λ i h' e. Owns_stay log who low high (held pass) (held new) (closed_at i) h' gone (λ same. (cc)) (g.2 i h' e))
   others_of_split log got reader who pass j new low high h k gone apart Spent g = tt
 
   -- the lower half stays with its sender
@@ -229,7 +229,7 @@ module _ {T : Type 0} where
   others_of_post : (log got : List (ℕ × T)) (reader : ℕ) (who : ℕ → Owner) (pass j : ℕ) (m : ℕ × T) → who m.0 ≡ held pass → j ≢ pass → (v : View T) → Fits log got reader who j v → Fits (log ++ m ∷ []) got reader who j v
   others_of_post log got reader who pass j m e apart First f = absurd (held_apart j pass apart (sym (f.2 m.0) ∙ e))
   others_of_post log got reader who pass j m e apart (Sends h) f = Owns_more log who (held j) h m (λ x. held_apart j pass apart (sym x ∙ e)) f
-  others_of_post log got reader who pass j m e apart (Receives taken senders) f = (f.0, f.1, λ i h at. Owns_more log who (taken_in i) h m (λ x. (cc)) (f.2 i h at))
+  others_of_post log got reader who pass j m e apart (Receives taken senders) f = (f.0, f.1, λ i h at. Owns_more log who (closed_at i) h m (λ x. (cc)) (f.2 i h at))
   others_of_post log got reader who pass j m e apart Spent f = tt
 
   -- a post
@@ -295,16 +295,16 @@ module _ {T : Type 0} where
       mine : Fits log k.got k.reader k.who pass (Receives taken senders)
       mine = k.each pass (Receives taken senders) at
 
-  -- the other passes, where a sender was taken in
+  -- the other passes, where a sender was closed
   others_of_close : (log got : List (ℕ × T)) (reader : ℕ) (who : ℕ → Owner) (pass other j place : ℕ) (h : History T) → pass ≡ reader → Owns log who (held other) h → j ≢ pass → j ≢ other
-      → (v : View T) → Fits log got reader who j v → Fits log got reader (put h.number (h.number + 2 ^ h.room) (taken_in place) who) j v
+      → (v : View T) → Fits log got reader who j v → Fits log got reader (put h.number (h.number + 2 ^ h.room) (closed_at place) who) j v
   others_of_close log got reader who pass other j place h same k apart apart' First f = absurd (apart (f.0 ∙ sym same))
   others_of_close log got reader who pass other j place h same k apart apart' (Sends h') f =
-      Owns_stay log who h.number (h.number + 2 ^ h.room) (held other) (taken_in place) (held j) h' (λ p a b. k.owned p (a, b)) (held_apart j other apart') f
+      Owns_stay log who h.number (h.number + 2 ^ h.room) (held other) (closed_at place) (held j) h' (λ p a b. k.owned p (a, b)) (held_apart j other apart') f
   others_of_close log got reader who pass other j place h same k apart apart' (Receives taken senders) f = absurd (apart (f.0 ∙ sym same))
   others_of_close log got reader who pass other j place h same k apart apart' Spent f = tt
 
-  -- the reader's pass takes in a sender's
+  -- the reader's pass closes a sender
   pub closes : (pass : ℕ) (taken : List (ℕ × T)) (senders : List (History T)) (other : ℕ) (h : History T)
       → Merges Kept pass (Receives taken senders) other (Sends h) (Receives taken (senders ++ h ∷ [])) Spent
   closes pass taken senders other h items views k at two at' = record {
@@ -324,7 +324,7 @@ module _ {T : Type 0} where
       both = Receives taken (senders ++ h ∷ [])
 
       who' : ℕ → Owner
-      who' = put h.number (h.number + 2 ^ h.room) (taken_in (length senders)) k.who
+      who' = put h.number (h.number + 2 ^ h.room) (closed_at (length senders)) k.who
 
       mine : Fits log k.got k.reader k.who pass (Receives taken senders)
       mine = k.each pass (Receives taken senders) at
@@ -335,12 +335,12 @@ module _ {T : Type 0} where
       theirs : Owns log k.who (held other) h
       theirs = k.each other (Sends h) was
 
-      new_in : Owns log who' (taken_in (length senders)) h
-      new_in = Owns_by log k.who who' (held other) (taken_in (length senders)) h (λ p span _. put_in h.number (h.number + 2 ^ h.room) (taken_in (length senders)) k.who p span.0 span.1) theirs
+      new_in : Owns log who' (closed_at (length senders)) h
+      new_in = Owns_by log k.who who' (held other) (closed_at (length senders)) h (λ p span _. put_in h.number (h.number + 2 ^ h.room) (closed_at (length senders)) k.who p span.0 span.1) theirs
 
-      all_in : (i : ℕ) (h' : History T) → get_elem? (senders ++ h ∷ []) i ≡ some h' → Owns log who' (taken_in i) h'
-      all_in = each_last (λ i h'. Owns log who' (taken_in i) h') senders h new_in
-          (λ i h' e. Owns_stay log k.who h.number (h.number + 2 ^ h.room) (held other) (taken_in (length senders)) (taken_in i) h' (λ p a b. theirs.owned p (a, b)) (λ same. (cc)) (mine.2 i h' e))
+      all_in : (i : ℕ) (h' : History T) → get_elem? (senders ++ h ∷ []) i ≡ some h' → Owns log who' (closed_at i) h'
+      all_in = each_last (λ i h'. Owns log who' (closed_at i) h') senders h new_in
+          (λ i h' e. Owns_stay log k.who h.number (h.number + 2 ^ h.room) (held other) (closed_at (length senders)) (closed_at i) h' (λ p a b. theirs.owned p (a, b)) (λ same. (cc)) (mine.2 i h' e))
 
   -- the same moves, at a view that is known by an equation
   pub splits_at : (pass : ℕ) (v : View T) (h : History T) → v ≡ Sends h → 1 ≤ (told v).room → Forks Kept pass v (Sends (lower_half (told v))) (Sends (upper_half (told v)))
@@ -349,12 +349,12 @@ module _ {T : Type 0} where
   pub posts_at : (n pass : ℕ) (v : View T) (h : History T) (x : T) → v ≡ Sends h → Pushes Kept n pass v (h.number, x) (λ w. w ≡ Sends (with_post (told v) x))
   posts_at n pass v h x e = subst (λ u. Pushes Kept n pass u (h.number, x) (λ w. w ≡ Sends (with_post (told u) x))) (sym e) (posts n pass h x)
 
-  pub takes_at : (pass : ℕ) (v : View T) → v ≡ Receives (taken_by v) (senders_in v) → Pops Kept pass v (λ m w. w ≡ Receives (taken_by v ++ m ∷ []) (senders_in v))
-  takes_at pass v e = subst (λ u. Pops Kept pass u (λ m w. w ≡ Receives (taken_by v ++ m ∷ []) (senders_in v))) (sym e) (takes pass (taken_by v) (senders_in v))
+  pub takes_at : (pass : ℕ) (v : View T) → v ≡ Receives (taken_by v) (closed_by v) → Pops Kept pass v (λ m w. w ≡ Receives (taken_by v ++ m ∷ []) (closed_by v))
+  takes_at pass v e = subst (λ u. Pops Kept pass u (λ m w. w ≡ Receives (taken_by v ++ m ∷ []) (closed_by v))) (sym e) (takes pass (taken_by v) (closed_by v))
 
-  pub closes_at : (pass : ℕ) (v : View T) (other : ℕ) (u : View T) (h : History T) → v ≡ Receives (taken_by v) (senders_in v) → u ≡ Sends h → Merges Kept pass v other u (Receives (taken_by v) (senders_in v ++ told u ∷ [])) Spent
-  closes_at pass v other u h e f = subst (λ y. Merges Kept pass y other u (Receives (taken_by v) (senders_in v ++ told u ∷ [])) Spent) (sym e)
-      (subst (λ z. Merges Kept pass (Receives (taken_by v) (senders_in v)) other z (Receives (taken_by v) (senders_in v ++ told z ∷ [])) Spent) (sym f) (closes pass (taken_by v) (senders_in v) other h))
+  pub closes_at : (pass : ℕ) (v : View T) (other : ℕ) (u : View T) (h : History T) → v ≡ Receives (taken_by v) (closed_by v) → u ≡ Sends h → Merges Kept pass v other u (Receives (taken_by v) (closed_by v ++ told u ∷ [])) Spent
+  closes_at pass v other u h e f = subst (λ y. Merges Kept pass y other u (Receives (taken_by v) (closed_by v ++ told u ∷ [])) Spent) (sym e)
+      (subst (λ z. Merges Kept pass (Receives (taken_by v) (closed_by v)) other z (Receives (taken_by v) (closed_by v ++ told z ∷ [])) Spent) (sym f) (closes pass (taken_by v) (closed_by v) other h))
 
   pub makes_ends_at : (pass : ℕ) (v : View T) → v ≡ First → Forks Kept pass v (Sends first_history) (Receives [] [])
   makes_ends_at pass v e = subst (λ u. Forks Kept pass u (Sends first_history) (Receives [] [])) (sym e) (makes_ends pass)

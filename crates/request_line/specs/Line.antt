@@ -15,7 +15,7 @@ use Rattle.request_line.specs.declared.view.View.{View}
 use Rattle.request_line.specs.declared.view.OneOwner.{OneOwner}
 use Rattle.request_line.specs.declared.ends.Sender.{Sender}
 use Rattle.request_line.specs.declared.ends.Receiver.{Receiver}
-use Rattle.request_line.specs.Spans.{told, taken_by, senders_in}
+use Rattle.request_line.specs.Spans.{told, taken_by, closed_by}
 
 -- the channel under a line
 abbrev pub Line : Type 0 → Type 0
@@ -33,7 +33,7 @@ module _ {T : Type 0} where
   abbrev pub history : Sender T → History T
   history s = told (view s.pass)
 
-  -- the line of the receiver; the items that it has taken, in order, each with its sender's number; and the senders taken in, in order
+  -- the line of the receiver; the items that it has taken, in order, each with its sender's number; and the senders that it has closed, in order
   abbrev pub receiver_line : Receiver T → Line T
   receiver_line r = receives_on r.taking
 
@@ -41,4 +41,4 @@ module _ {T : Type 0} where
   taken r = taken_by (view r.pass)
 
   abbrev pub closed : Receiver T → List (History T)
-  closed r = senders_in (view r.pass)
+  closed r = closed_by (view r.pass)

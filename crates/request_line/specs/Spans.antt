@@ -9,10 +9,10 @@ use Rattle.request_line.specs.declared.view.View.TheVariants.{First, Sends, Rece
 use Rattle.request_line.specs.History.{IsInSpan, first_history}
 use Rattle.request_line.specs.Taking.{items_of}
 
--- who has a number: the pass of that number, or the sender that was taken in at that place
+-- who has a number: the pass of that number, or the sender that was closed at that place
 pub data Owner : Type 0 where
   held : ℕ → Owner
-  taken_in : ℕ → Owner
+  closed_at : ℕ → Owner
 
 module _ {T : Type 0} where
   -- before anything of the sender was posted, all stood there that its maker had posted before the split
@@ -35,7 +35,7 @@ module _ {T : Type 0} where
   abbrev pub Fits : List (ℕ × T) → List (ℕ × T) → ℕ → (ℕ → Owner) → ℕ → View T → Type 0
   Fits log got reader who pass First = (pass ≡ reader) × (log ≡ []) × ((p : ℕ) → who p ≡ held pass)
   Fits log got reader who pass (Sends h) = Owns log who (held pass) h
-  Fits log got reader who pass (Receives taken senders) = (pass ≡ reader) × (taken ≡ got) × ((k : ℕ) (h : History T) → get_elem? senders k ≡ some h → Owns log who (taken_in k) h)
+  Fits log got reader who pass (Receives taken senders) = (pass ≡ reader) × (taken ≡ got) × ((k : ℕ) (h : History T) → get_elem? senders k ≡ some h → Owns log who (closed_at k) h)
   Fits log got reader who pass Spent = ⊤
 
   -- got: what was taken; reader: the receiver's pass; who: the owners of numbers
@@ -53,15 +53,15 @@ module _ {T : Type 0} where
   told (Receives taken senders) = first_history
   told Spent = first_history
 
-  -- the list taken, and the senders taken in, that a receiver's view tells
+  -- the list taken, and the senders closed, that a receiver's view tells
   abbrev pub taken_by : View T → List (ℕ × T)
   taken_by First = []
   taken_by (Sends h) = []
   taken_by (Receives taken senders) = taken
   taken_by Spent = []
 
-  abbrev pub senders_in : View T → List (History T)
-  senders_in First = []
-  senders_in (Sends h) = []
-  senders_in (Receives taken senders) = senders
-  senders_in Spent = []
+  abbrev pub closed_by : View T → List (History T)
+  closed_by First = []
+  closed_by (Sends h) = []
+  closed_by (Receives taken senders) = senders
+  closed_by Spent = []

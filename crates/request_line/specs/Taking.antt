@@ -26,7 +26,7 @@ module _ {T : Type 0} where
   abbrev pub IsOfThese : List (ℕ × T) → List (History T) → Type 0
   IsOfThese taken senders = All (λ (m : ℕ × T). Any (λ h. h.number ≡ m.0) senders) taken
 
-  -- what is known of a receiver that has taken these items and taken in these senders
+  -- what is known of a receiver that has taken these items and closed these senders
   pub record Agrees (taken : List (ℕ × T)) (senders : List (History T)) : Type 0 where
     pub in_order : All (TakesInOrder taken) senders
     pub all_where_as_many : All (TakesAllWhereAsMany taken) senders

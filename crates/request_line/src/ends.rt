@@ -4,7 +4,7 @@ ghost use Rattle.std.specs.Prelude.{◌≡◌, ◌≤◌, ◌^◌, ◌+◌};
 ghost use Rattle.crossbeam_channel.specs.Ends.{sends_on, receives_on};
 ghost use Rattle.crossbeam_channel.specs.Claims.{view, IsSeatAt};
 ghost use Rattle.request_line.specs.declared.view.View.TheVariants.{Sends, Receives};
-ghost use Rattle.request_line.specs.Spans.{told, taken_by, senders_in};
+ghost use Rattle.request_line.specs.Spans.{told, taken_by, closed_by};
 
 use crate::view::{Closes, Halves, OneOwner, Posts, Takes, View};
 use crossbeam_channel::{Pass, RecvError, RuledReceiver, RuledSender};
@@ -36,7 +36,7 @@ pub struct Sender<T: Drop> {
 }
 
 /// The receiver of a line. Contracts see its line, the items that it has taken, each with its sender's number, and the
-/// senders that it has taken in.
+/// senders that it has closed.
 #[derive(Drop)]
 pub struct Receiver<T: Drop> {
     taking: Taking<T>,
@@ -44,7 +44,7 @@ pub struct Receiver<T: Drop> {
     pass: LinePass<T>,
     ghost one_line: { receives_on taking ≡ sends_on joining },
     ghost seated: { IsSeatAt (sends_on joining) pass },
-    ghost known: { view pass ≡ Receives (taken_by (view pass)) (senders_in (view pass)) },
+    ghost known: { view pass ≡ Receives (taken_by (view pass)) (closed_by (view pass)) },
 }
 
 impl<T: Drop> Sender<T> {
@@ -89,7 +89,7 @@ impl<T: Drop> Sender<T> {
         })
     }
 
-    /// Posts an item. It waits while the line is full, and for ever once the receiver is gone. It takes no memory.
+    /// Posts an item, at the end of the line. It waits while the line is full, and for ever once the receiver is gone. It takes no memory.
     pub fn post<R: Wait>(&mut self, rt: &R, mut item: T)
         ensures history { history self.new ≡ with_post (history self.old) item }
         ensures line { sender_line self.new ≡ sender_line self.old }
@@ -106,7 +106,8 @@ impl<T: Drop> Sender<T> {
 
     // Gives the item back, and changes nothing, if the channel says that its receiver has left.
     fn try_post<R: Wait>(&mut self, rt: &R, item: T) -> Result<(), T>
-        ensures history { MatchResult result (λ _. history self.new ≡ with_post (history self.old) item) (λ back. (back ≡ item) × (history self.new ≡ history self.old)) }
+        ensures history { MatchResult result (λ _. history self.new ≡ with_post (history self.old) item)
+            (λ back. (back ≡ item) × (history self.new ≡ history self.old)) }
         ensures line { sender_line self.new ≡ sender_line self.old }
     {
         match self
@@ -126,7 +127,7 @@ impl<T: Drop> Receiver<T> {
     ghost use Rattle.request_line.specs.Taking.{TakesInOrder, TakesAllWhereAsMany, TakesAfterSplit, IsOfThese, Agrees};
     ghost use Rattle.request_line.specs.Line.{sender_line, history, receiver_line, taken, closed};
 
-    /// Takes the oldest item that waits in the line, and names its sender. It waits while there is none. It takes no memory.
+    /// Takes the item at the front of the line, with its sender's number. It waits while there is none. It takes no memory.
     pub fn take<R: Wait>(&mut self, rt: &R) -> (u64, T)
         ensures taken { taken self.new ≡ taken self.old ++ result ∷ [] }
         ensures closed { closed self.new ≡ closed self.old }
@@ -143,21 +144,22 @@ impl<T: Drop> Receiver<T> {
 
     // Takes nothing, and changes nothing, if the channel says that its senders have left.
     fn try_take<R: Wait>(&mut self, rt: &R) -> Result<(u64, T), RecvError>
-        ensures taken { MatchResult result (λ mail. taken self.new ≡ taken self.old ++ mail ∷ []) (λ _. taken self.new ≡ taken self.old) }
+        ensures taken { MatchResult result (λ mail. taken self.new ≡ taken self.old ++ mail ∷ [])
+            (λ _. taken self.new ≡ taken self.old) }
         ensures closed { closed self.new ≡ closed self.old }
         ensures line { receiver_line self.new ≡ receiver_line self.old }
     {
         self.taking.recv_as::<Takes, R>(rt, &mut self.pass)
     }
 
-    /// Takes a sender of this receiver's line in, for good. It takes no memory.
+    /// Closes a sender of this receiver's line, and tells what was taken of it and of each sender closed before. It takes no memory.
     pub fn close_with(&mut self, sender: Sender<T>)
         requires { sender_line sender ≡ receiver_line self.old }
         ensures closed { closed self.new ≡ closed self.old ++ history sender ∷ [] }
         ensures taken { taken self.new ≡ taken self.old }
         ensures line { receiver_line self.new ≡ receiver_line self.old }
 
-        // Of each sender taken in, this one included:
+        // Of each sender closed so far, this one included:
         ensures in_order { All (TakesInOrder (taken self.new)) (closed self.new) }
         ensures all_where_as_many { All (TakesAllWhereAsMany (taken self.new)) (closed self.new) }
         ensures after_split { All (TakesAfterSplit (taken self.new)) (closed self.new) }
@@ -176,7 +178,7 @@ impl<T: Drop> Receiver<T> {
         self.learn();
     }
 
-    // What the rule says of the senders taken in.
+    // What the rule says of the senders closed so far.
     fn learn(&mut self)
         ensures agrees { Agrees (taken self.new) (closed self.new) }
         ensures taken { taken self.new ≡ taken self.old }

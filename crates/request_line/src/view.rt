@@ -4,8 +4,8 @@ use crate::history::History;
 use crossbeam_channel::protocol::{Join, Lesson, Outcome, Protocol, Split};
 use std::collections::LinkedList;
 
-/// What a pass knows: nothing yet, a sender's history, or what the receiver has taken and which senders it has taken in.
-/// A sender that was taken in leaves its pass spent. No value of it is made.
+/// What a pass knows: nothing yet, a sender's history, or what the receiver has taken and which senders it has closed.
+/// A closed sender leaves its pass spent. No value of it is made.
 pub enum View<T> {
     First,
     Sends(History<T>),
@@ -75,9 +75,9 @@ pub struct Takes;
 impl<T> Outcome<(u64, T), View<T>> for Takes {
     ghost use Rattle.std.specs.Prelude.{◌≡◌, [], ◌∷◌, ◌++◌};
     ghost use Rattle.request_line.specs.declared.view.View.TheVariants.{Receives};
-    ghost use Rattle.request_line.specs.Spans.{taken_by, senders_in};
+    ghost use Rattle.request_line.specs.Spans.{taken_by, closed_by};
 
-    ghost then = { λ v m w. w ≡ Receives (taken_by v ++ m ∷ []) (senders_in v) };
+    ghost then = { λ v m w. w ≡ Receives (taken_by v ++ m ∷ []) (closed_by v) };
 }
 
 impl<T> Lesson<(u64, T), View<T>> for Takes {
@@ -86,22 +86,22 @@ impl<T> Lesson<(u64, T), View<T>> for Takes {
     ghost fact = { λ _ _. ⊤ };
 }
 
-/// The receiver takes a sender in, and learns what the rule says of all that it has taken in.
+/// The receiver closes a sender, and learns what the rule says of all that it has closed.
 pub struct Closes;
 
 impl<T> Join<View<T>> for Closes {
     ghost use Rattle.std.specs.Prelude.{[], ◌∷◌, ◌++◌};
     ghost use Rattle.request_line.specs.declared.view.View.TheVariants.{Receives, Spent};
-    ghost use Rattle.request_line.specs.Spans.{told, taken_by, senders_in};
+    ghost use Rattle.request_line.specs.Spans.{told, taken_by, closed_by};
 
-    ghost both = { λ v w. Receives (taken_by v) (senders_in v ++ told w ∷ []) };
+    ghost both = { λ v w. Receives (taken_by v) (closed_by v ++ told w ∷ []) };
 
     ghost spent = { Spent };
 }
 
 impl<T> Lesson<(u64, T), View<T>> for Closes {
     ghost use Rattle.request_line.specs.Taking.{Agrees};
-    ghost use Rattle.request_line.specs.Spans.{taken_by, senders_in};
+    ghost use Rattle.request_line.specs.Spans.{taken_by, closed_by};
 
-    ghost fact = { λ v _. Agrees (taken_by v) (senders_in v) };
+    ghost fact = { λ v _. Agrees (taken_by v) (closed_by v) };
 }

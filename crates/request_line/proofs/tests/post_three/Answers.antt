@@ -1,4 +1,4 @@
--- The senders taken in have all numbers, so each item taken is the one sender's; three were taken, as many as it posted, so they are what it posted.
+-- The sender closed has all numbers, so each item taken is the one sender's; three were taken, as many as it posted, so they are what it posted.
 use Rattle.std.proofs.Common.{◌≡◌, ℕ, zero, suc, ◌<◌, List, [], ◌∷◌, ◌++◌, length, get_or, sym, refl, ap, ◌∙◌, subst, arith}
 use Rattle.std.specs.List.{All, Any}
 use Rattle.request_line.specs.declared.history.History.{History}
