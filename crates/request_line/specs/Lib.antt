@@ -1,0 +1,4 @@
+pub mod History
+pub mod Taking
+pub mod Spans
+pub mod Line
