@@ -1,0 +1,10 @@
+//! Set-once futures with one callback.
+#![tactic(auto)]
+
+mod callback;
+mod half;
+mod rule;
+mod slot;
+mod stage;
+
+pub use callback::{Call, Ready, Registered};
