@@ -3,6 +3,7 @@
 
 mod callback;
 mod half;
+mod pairing;
 mod rule;
 mod slot;
 mod stage;
