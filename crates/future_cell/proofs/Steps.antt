@@ -20,7 +20,7 @@ use Rattle.future_cell.specs.declared.stage.WaiterStage.{WaiterStage}
 use Rattle.future_cell.specs.declared.stage.View.{View}
 use Rattle.future_cell.specs.declared.stage.View.TheVariants.{Unsplit, Sets, Waits, Meets, Over, Spent}
 use Rattle.future_cell.specs.Rule.{IsSized, Slot, Home, Phase, unsplit, shared, joined, over, words_of, homes_of, views_of, state_of, Agree, ValuesAgree, CallbacksAgree, IsSound, Ruled, is_refused, is_parked, word_before, word_of}
-use Rattle.future_cell.specs.Plays.{Place, Reached, Published, PublishedIn, Ended, Looked, looked_at, Kept, kept, Reserved, Parked, ParkedIn, Restored, Emptied, emptied_hand, is_known, Closed, setter_in, waiter_in, value_in_hand, callback_in_hand, waiter_stage, is_settled, fresh, setter_part, waiter_part, meeting, is_resting}
+use Rattle.future_cell.specs.Plays.{Place, Reached, Published, PublishedIn, Ended, Looked, looked_at, Kept, kept, Reserved, Parked, ParkedIn, Restored, Emptied, emptied_hand, is_known, Closed, setter_in, waiter_in, ran_in, value_in_hand, callback_in_hand, waiter_stage, is_settled, fresh, setter_part, waiter_part, meeting, is_resting}
 
 abbrev St : Type 0 → Type 0 → Type 0
 St V C = State (Slot V C) (View V C)
@@ -375,3 +375,18 @@ module _ {V C : Type 0} where
   -- what was read from it
   pub found : (before : Place V C) (v : View V C) (k : ℕ) (old got : Slot V C) → before ≡ (v, (k, old) ∷ []) → before.1 ≡ (k, got) ∷ rest before.1 → got ≡ old
   found before v k old got is e = ap (item_in None) (sym e ∙ ap (λ (m : Place V C). m.1) is)
+
+  finished_view : (v : View V C) (ran : Bool) → ran_in v ≡ Some ran → (x : V) × (v ≡ Sets (Finished x ran))
+  finished_view Unsplit ran e = cc
+  finished_view (Sets Unset) ran e = cc
+  finished_view (Sets Filling) ran e = cc
+  finished_view (Sets (Running x)) ran e = cc
+  finished_view (Sets (Finished x r)) ran e = let same : r ≡ ran = cc in (x, ap (λ b. Sets (Finished x b)) same)
+  finished_view (Waits w) ran e = cc
+  finished_view (Meets p w) ran e = cc
+  finished_view Over ran e = cc
+  finished_view Spent ran e = cc
+
+  -- a setter that tells whether it ran a callback has put the value out
+  pub finished : (m : Place V C) (ran : Bool) → ran_in m.0 ≡ Some ran → m.1 ≡ [] → (x : V) × ((r : Bool) × (m ≡ (Sets (Finished x r), [])))
+  finished m ran e bare = let view = finished_view m.0 ran e in (view.0, (ran, λ i. (view.1 i, bare i)))

@@ -6,17 +6,9 @@ ghost use Rattle.future_cell.specs.Rule.{IsSized};
 use crate::rule::{Cell, CellSeat, End, Keep, Look, Park, Publish, Reach, Reserve, Restore};
 use crate::slot::{callback_of, expect_empty, value_of};
 use crate::stage::Item;
+use crate::word::{EMPTY, PARKED, SET};
 use std::alloc::Global;
 use std::sync::Arc;
-
-/// The word of a cell while it is empty.
-pub const EMPTY: u64 = 0;
-
-/// The word once a callback is parked, and the value is not there.
-pub const PARKED: u64 = 1;
-
-/// The word once the value is there.
-pub const SET: u64 = 2;
 
 #[derive(Drop)]
 pub struct Half<V, C> {

@@ -6,9 +6,10 @@ ghost use Rattle.future_cell.specs.Rule.{IsSized};
 ghost use Rattle.future_cell.specs.Plays.{setter_in, waiter_in, value_out, known_of, is_settled, is_resting, fresh, Settles};
 ghost use Rattle.future_cell.specs.Halves.{cell_of, place_of};
 
-use crate::half::{EMPTY, Half};
+use crate::half::Half;
 use crate::rule::{Cell, CellSeat, Close, Double, Empty, Meet, Part};
 use crate::slot::{expect_empty, value_of};
+use crate::word::EMPTY;
 use atomic_table::Table;
 use std::alloc::{AllocError, AllocFailed, Global};
 use std::sync::Arc;
