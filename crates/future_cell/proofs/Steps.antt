@@ -337,14 +337,14 @@ module _ {V C : Type 0} where
   pub meets : (id : ℕ) (v : View V C) (other : ℕ) (v' : View V C) (p : SetterStage V) (w : WaiterStage V C) → v ≡ Sets p → v' ≡ Waits w → Joins Ruled id v other v' (meeting v v') Spent
   meets id v other v' p w is is' = subst (λ (t : View V C × View V C). Joins Ruled id t.0 other t.1 (meeting t.0 t.1) Spent) (λ i. (sym is i, sym is' i))
       (λ s r at apart there.
-          let seat : At r.0 id (Sets p) = subst (λ (t : St V C). get_elem? t.views id ≡ some (Sets p)) r.2 at in
-          let here = setter_seat r.0 id p seat in
-          let u = here.1.0 in
-          let sound : Agree p u = subst IsSound here.1.1 r.1 in
-          let same : s ≡ state_of (shared p u) = r.2 ∙ ap state_of here.1.1 in
-          let there' : get_elem? (Meets p w ∷ Waits u ∷ []) other ≡ some (Waits w) = subst (λ (t : ℕ × St V C). get_elem? (set t.1.views t.0 (Meets p w)) other ≡ some (Waits w)) (λ i. (here.0 i, same i)) there in
-          subst (λ (t : ℕ × St V C). Ruled record { words = t.1.words; homes = t.1.homes; views = set (set t.1.views t.0 (Meets p w)) other Spent }) (λ i. (sym here.0 i, sym same i))
-          (meet_at p u w other sound (subst (λ k. ¬ (other ≡ k)) here.0 apart) there'))
+      let seat : At r.0 id (Sets p) = subst (λ (t : St V C). get_elem? t.views id ≡ some (Sets p)) r.2 at in
+      let here = setter_seat r.0 id p seat in
+      let u = here.1.0 in
+      let sound : Agree p u = subst IsSound here.1.1 r.1 in
+      let same : s ≡ state_of (shared p u) = r.2 ∙ ap state_of here.1.1 in
+      let there' : get_elem? (Meets p w ∷ Waits u ∷ []) other ≡ some (Waits w) = subst (λ (t : ℕ × St V C). get_elem? (set t.1.views t.0 (Meets p w)) other ≡ some (Waits w)) (λ i. (here.0 i, same i)) there in
+      subst (λ (t : ℕ × St V C). Ruled record { words = t.1.words; homes = t.1.homes; views = set (set t.1.views t.0 (Meets p w)) other Spent }) (λ i. (sym here.0 i, sym same i))
+      (meet_at p u w other sound (subst (λ k. ¬ (other ≡ k)) here.0 apart) there'))
 
   resting_at : (phase : Phase V C) (id : ℕ) (v : View V C) → At phase id v → is_resting v ≡ true → homes_of phase ≡ some None ∷ some None ∷ []
   resting_at unsplit id v e r = refl

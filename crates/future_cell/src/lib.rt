@@ -19,3 +19,6 @@ pub use settling::{Settled, pair, settle};
 pub use waiter::Waiter;
 pub use wake::{Sleeper, Wake, wakes};
 pub use word::{EMPTY, PARKED, SET};
+
+#[cfg(test)]
+mod tests;

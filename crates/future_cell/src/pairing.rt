@@ -42,10 +42,13 @@ pub fn two_halves<V, C>(alloc: Global) -> Result<(Half<V, C>, Half<V, C>), Alloc
         return Err(AllocError);
     };
     let other = cell.shared.split_seat::<Part>(&mut seat);
-    Ok((Half { cell, seat }, Half {
-        cell: twin,
-        seat: other,
-    }))
+    Ok((
+        Half { cell, seat },
+        Half {
+            cell: twin,
+            seat: other,
+        },
+    ))
 }
 
 impl<V, C> Half<V, C> {

@@ -35,10 +35,7 @@ pub fn settle<V, C>(receipt: Receipt<V, C>, waiter: Waiter<V, C>) -> Settled<V>
     ensures ran { settled_runs result ≡ run_count (registration waiter) }
     ensures receipt { has_run receipt ≡ was_parked (registration waiter) }
 {
-    let Receipt {
-        half: sets,
-        ran: _,
-    } = receipt;
+    let Receipt { half: sets, ran: _ } = receipt;
     let Waiter {
         half: waits,
         value,

@@ -1,6 +1,4 @@
 //! A callback that wakes a sleeping thread, and waiting by it.
-ghost use Rattle.std.specs.Prelude.{◌≡◌};
-
 use crate::callback::Call;
 use crate::waiter::Waiter;
 use crossbeam_utils::sync::{Parker, Unparker};
