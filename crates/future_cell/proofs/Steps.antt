@@ -1,14 +1,13 @@
 -- Each step on a cell's table keeps the rule.
-use Rattle.std.proofs.Common.{◌≡◌, ◌≢◌, ℕ, zero, suc, ◌+◌, ◌<◌, ◌==◌, Bool, true, false, List, [], ◌∷◌, ◌++◌, length, replicate, get_or, set, sym, refl, ap, ◌∙◌, subst, arith, Option, Some, None, MatchBool, eq-eqb, ne_eqb}
-use mathlib.Core.Option.{some, none, some-injective, some-ne-none}
+use Rattle.std.proofs.Common.{◌≡◌, ◌≢◌, ℕ, zero, suc, ◌+◌, ◌<◌, ◌==◌, Bool, true, false, List, [], ◌∷◌, ◌++◌, replicate, get_or, set, sym, refl, ap, ◌∙◌, subst, arith, Some, None, MatchBool, eq-eqb, ne_eqb}
+use mathlib.Core.Option.{some, some-injective, some-ne-none}
 use mathlib.Core.Logic.{dite}
 use native.Mathlib.Decide.{ℕ_discrete}
 use lib.ListN.{get_elem?}
 use prog.Atomic.{either}
-use Rattle.atomic_table.specs.Table.{State, Me, Act, keeps, takes, gives, chain, Valid, stepped, carried_after, Allows, Splits, Joins, Final, Seen, rest}
+use Rattle.atomic_table.specs.Table.{State, Act, keeps, takes, gives, chain, Valid, stepped, carried_after, Allows, Splits, Joins, Final, Seen, rest}
 use Rattle.atomic_table.proofs.Lists.{set_again}
 use Rattle.atomic_table.specs.Seated.{TableId}
-use Rattle.future_cell.specs.declared.stage.Item.{Item}
 use Rattle.future_cell.specs.declared.stage.Item.TheVariants.{Value, Callback}
 use Rattle.future_cell.specs.declared.stage.SetterStage.{SetterStage}
 use Rattle.future_cell.specs.declared.stage.SetterStage.TheVariants.{Unset, Filling, Running, Finished}
@@ -19,8 +18,8 @@ use Rattle.future_cell.specs.declared.stage.CallbackStage.TheVariants.{Unregiste
 use Rattle.future_cell.specs.declared.stage.WaiterStage.{WaiterStage}
 use Rattle.future_cell.specs.declared.stage.View.{View}
 use Rattle.future_cell.specs.declared.stage.View.TheVariants.{Unsplit, Sets, Waits, Meets, Over, Spent}
-use Rattle.future_cell.specs.Rule.{IsSized, Slot, Home, Phase, unsplit, shared, joined, over, words_of, homes_of, views_of, state_of, Agree, ValuesAgree, CallbacksAgree, IsSound, Ruled, is_refused, is_parked, word_before, word_of}
-use Rattle.future_cell.specs.Plays.{Place, Reached, Published, PublishedIn, Ended, Looked, looked_at, Kept, kept, Reserved, Parked, ParkedIn, Restored, Emptied, emptied_hand, is_known, Closed, setter_in, waiter_in, ran_in, value_in_hand, callback_in_hand, waiter_stage, is_settled, fresh, setter_part, waiter_part, meeting, is_resting}
+use Rattle.future_cell.specs.Rule.{IsSized, Slot, Phase, unsplit, shared, joined, over, words_of, homes_of, views_of, state_of, Agree, ValuesAgree, CallbacksAgree, IsSound, Ruled, word_before}
+use Rattle.future_cell.specs.Plays.{Place, Reached, Published, PublishedIn, Ended, Looked, looked_at, Kept, Reserved, Parked, ParkedIn, Restored, Emptied, emptied_hand, is_known, Closed, setter_in, waiter_in, ran_in, value_in_hand, callback_in_hand, waiter_stage, is_settled, fresh, setter_part, waiter_part, meeting, is_resting}
 
 abbrev St : Type 0 → Type 0 → Type 0
 St V C = State (Slot V C) (View V C)
@@ -390,3 +389,10 @@ module _ {V C : Type 0} where
   -- a setter that tells whether it ran a callback has put the value out
   pub finished : (m : Place V C) (ran : Bool) → ran_in m.0 ≡ Some ran → m.1 ≡ [] → (x : V) × ((r : Bool) × (m ≡ (Sets (Finished x r), [])))
   finished m ran e bare = let view = finished_view m.0 ran e in (view.0, (ran, λ i. (view.1 i, bare i)))
+
+  -- what a slot holds is one value, or one callback
+  pub same_value : (item : Slot V C) (x y : V) → item ≡ Some (Value x) → item ≡ Some (Value y) → x ≡ y
+  same_value item x y e f = cc
+
+  pub same_callback : (item : Slot V C) (x y : C) → item ≡ Some (Callback x) → item ≡ Some (Callback y) → x ≡ y
+  same_callback item x y e f = cc

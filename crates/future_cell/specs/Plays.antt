@@ -1,7 +1,6 @@
 -- What each step on a cell's table tells.
 use Rattle.std.specs.Prelude.{◌≡◌, ◌≢◌, ℕ, ◌+◌, Bool, true, false, List, [], ◌∷◌, Option, Some, None}
 use Rattle.atomic_table.specs.Table.{Me}
-use Rattle.future_cell.specs.declared.stage.Item.{Item}
 use Rattle.future_cell.specs.declared.stage.Item.TheVariants.{Value, Callback}
 use Rattle.future_cell.specs.declared.stage.SetterStage.{SetterStage}
 use Rattle.future_cell.specs.declared.stage.SetterStage.TheVariants.{Unset, Filling, Running, Finished}
@@ -141,6 +140,10 @@ module _ {V C : Type 0} where
   abbrev pub Kept : WaiterStage V C → Place V C → Type 0
   Kept w m = m ≡ (Waits (kept w), [])
 
+  -- the waiter looked, and has slot 0, with the value
+  abbrev pub Saw : WaiterStage V C → V → Place V C → Type 0
+  Saw w v m = m ≡ (Waits (record (looked_at w 2) { known = Taking v }), (0, Some (Value v)) ∷ [])
+
   -- the waiter looked and the value was not there
   abbrev pub Missed : WaiterStage V C → Place V C → Type 0
   Missed w m = (n : ℕ) × (n ≢ 2) × (m ≡ (Waits (looked_at w n), [])) × (is_refused w.callback ≡ false)
@@ -162,6 +165,18 @@ module _ {V C : Type 0} where
   abbrev pub ParkedIn : Option C → WaiterStage V C → ℕ → Place V C → Type 0
   ParkedIn None w n m = Unit {0}
   ParkedIn (Some c) w n m = Parked c w n m
+
+  -- the callback is parked
+  abbrev pub Laid : WaiterStage V C → C → Place V C → Type 0
+  Laid w c m = m ≡ (Waits (record (looked_at w 0) { callback = Lies c }), [])
+
+  -- the value was there, and the waiter has slot 1, with the callback
+  abbrev pub Held : WaiterStage V C → C → Place V C → Type 0
+  Held w c m = m ≡ (Waits (record (looked_at w 2) { callback = Refused }), (1, Some (Callback c)) ∷ [])
+
+  -- the value was there, and the waiter has the callback back
+  abbrev pub HasBack : WaiterStage V C → Place V C → Type 0
+  HasBack w m = m ≡ (Waits (record (looked_at w 2) { callback = Returned }), [])
 
   -- the waiter gave slot 1 back
   abbrev pub Restored : WaiterStage V C → Place V C → Type 0

@@ -23,9 +23,9 @@ impl<V, C> Half<V, C> {
     ghost use Rattle.future_cell.specs.declared.stage.Item.TheVariants.{Value, Callback};
     ghost use Rattle.future_cell.specs.declared.stage.SetterStage.TheVariants.{Unset, Running, Finished};
     ghost use Rattle.future_cell.specs.declared.stage.Known.TheVariants.{Unseen};
-    ghost use Rattle.future_cell.specs.declared.stage.CallbackStage.TheVariants.{Unregistered, Lies, Returned};
+    ghost use Rattle.future_cell.specs.declared.stage.CallbackStage.TheVariants.{Unregistered};
     ghost use Rattle.future_cell.specs.declared.stage.View.TheVariants.{Sets, Waits};
-    ghost use Rattle.future_cell.specs.Plays.{setter_in, waiter_in, value_out, ran_in, looked_at, Missed, Fetched};
+    ghost use Rattle.future_cell.specs.Plays.{setter_in, waiter_in, value_out, ran_in, Saw, Missed, Fetched, Laid, Held, HasBack};
     ghost use Rattle.future_cell.specs.Halves.{cell_of, place_of};
 
     // Puts the value out. Whether a callback was parked: slot 1 is then in hand.
@@ -52,6 +52,29 @@ impl<V, C> Half<V, C> {
         callback
     }
 
+    // Looks at the word. Where the value is there, slot 0 is in hand.
+    fn look(&mut self) -> bool
+        requires waits { place_of self.old ≡ (Waits (waiter_in (place_of self.old).0), []) }
+        requires unseen { (waiter_in (place_of self.old).0).known ≡ Unseen }
+        ensures cell { cell_of self.new ≡ cell_of self.old }
+        ensures place { let w = waiter_in (place_of self.old).0 in MatchBool result ((v : V) × Saw w v (place_of self.new)) (Missed w (place_of self.new)) }
+    {
+        let shared = &self.cell.shared;
+        shared.load::<Look>(&mut self.seat, 0) == SET
+    }
+
+    // Takes the value out of slot 0.
+    fn take_value(&mut self) -> V
+        requires { (w : _) × ((v : V) × Saw w v (place_of self.old)) }
+        ensures cell { cell_of self.new ≡ cell_of self.old }
+        ensures place { (w : _) (v : V) → Saw w v (place_of self.old) → (result ≡ v) × Fetched w v (place_of self.new) }
+    {
+        let shared = &self.cell.shared;
+        let value = value_of(shared.exchange(&mut self.seat, 0, None));
+        shared.load::<Keep>(&mut self.seat, 0);
+        value
+    }
+
     // Looks at the word once, and takes the value if it is there.
     pub fn fetch(&mut self) -> Option<V>
         requires waits { place_of self.old ≡ (Waits (waiter_in (place_of self.old).0), []) }
@@ -59,13 +82,35 @@ impl<V, C> Half<V, C> {
         ensures cell { cell_of self.new ≡ cell_of self.old }
         ensures place { let w = waiter_in (place_of self.old).0 in MatchOption result (Missed w (place_of self.new)) (λ v. Fetched w v (place_of self.new)) }
     {
-        let shared = &self.cell.shared;
-        if shared.load::<Look>(&mut self.seat, 0) != SET {
+        if !self.look() {
             return None;
         }
-        let value = value_of(shared.exchange(&mut self.seat, 0, None));
-        shared.load::<Keep>(&mut self.seat, 0);
-        Some(value)
+        Some(self.take_value())
+    }
+
+    // Parks the callback. Where the value is there, slot 1 is still in hand.
+    fn lay(&mut self, callback: C) -> bool
+        requires waits { place_of self.old ≡ (Waits (waiter_in (place_of self.old).0), []) }
+        requires unregistered { (waiter_in (place_of self.old).0).callback ≡ Unregistered }
+        ensures cell { cell_of self.new ≡ cell_of self.old }
+        ensures place { let w = waiter_in (place_of self.old).0 in MatchBool result (Laid w callback (place_of self.new)) (Held w callback (place_of self.new)) }
+    {
+        let shared = &self.cell.shared;
+        shared.load::<Reserve>(&mut self.seat, 0);
+        expect_empty(shared.exchange(&mut self.seat, 1, Some(Item::Callback(callback))));
+        shared.compare_exchange::<Park>(&mut self.seat, 0, EMPTY, PARKED) == EMPTY
+    }
+
+    // Takes the callback back out of slot 1.
+    fn take_back(&mut self) -> C
+        requires { (w : _) × ((c : C) × Held w c (place_of self.old)) }
+        ensures cell { cell_of self.new ≡ cell_of self.old }
+        ensures place { (w : _) (c : C) → Held w c (place_of self.old) → (result ≡ c) × HasBack w (place_of self.new) }
+    {
+        let shared = &self.cell.shared;
+        let callback = callback_of(shared.exchange(&mut self.seat, 1, None));
+        shared.load::<Restore>(&mut self.seat, 0);
+        callback
     }
 
     // Parks the callback, or hands it back where the value is there.
@@ -73,16 +118,11 @@ impl<V, C> Half<V, C> {
         requires waits { place_of self.old ≡ (Waits (waiter_in (place_of self.old).0), []) }
         requires unregistered { (waiter_in (place_of self.old).0).callback ≡ Unregistered }
         ensures cell { cell_of self.new ≡ cell_of self.old }
-        ensures place { let w = waiter_in (place_of self.old).0 in MatchResult result (λ _. place_of self.new ≡ (Waits (record (looked_at w 0) { callback = Lies callback }), [])) (λ c. (c ≡ callback) × (place_of self.new ≡ (Waits (record (looked_at w 2) { callback = Returned }), []))) }
+        ensures place { let w = waiter_in (place_of self.old).0 in MatchResult result (λ _. Laid w callback (place_of self.new)) (λ c. (c ≡ callback) × HasBack w (place_of self.new)) }
     {
-        let shared = &self.cell.shared;
-        shared.load::<Reserve>(&mut self.seat, 0);
-        expect_empty(shared.exchange(&mut self.seat, 1, Some(Item::Callback(callback))));
-        if shared.compare_exchange::<Park>(&mut self.seat, 0, EMPTY, PARKED) == EMPTY {
+        if self.lay(callback) {
             return Ok(());
         }
-        let callback = callback_of(shared.exchange(&mut self.seat, 1, None));
-        shared.load::<Restore>(&mut self.seat, 0);
-        Err(callback)
+        Err(self.take_back())
     }
 }

@@ -63,7 +63,7 @@ impl<V, C> Half<V, C> {
     }
 
     // Takes the value of a joined seat, if the waiter did not, and leaves both slots empty.
-    fn take_value(&mut self, kept: Option<V>) -> V
+    fn empty(&mut self, kept: Option<V>) -> V
         requires joined { (v : V) × ((ran : Bool) × (place_of self.old ≡ (Meets (Finished v ran) (waiter_in (place_of self.old).0), []))) }
         requires known { (waiter_in (place_of self.old).0).known ≡ known_of kept }
         requires settled { is_settled (waiter_in (place_of self.old).0).callback ≡ true }
@@ -104,7 +104,7 @@ impl<V, C> Half<V, C> {
         } = other;
         cell.shared.join_seat::<Meet>(&mut seat, other);
         let mut joined = Half { cell, seat };
-        let value = joined.take_value(kept);
+        let value = joined.empty(kept);
         let second = joined.split_over();
         joined.free();
         Half {

@@ -1,4 +1,4 @@
-use Rattle.std.proofs.Common.{ap, rules, sym, ◌∙◌, ◌<◌, arith}
+use Rattle.std.proofs.Common.{ap, rules}
 use Rattle.future_cell.proofs.Steps.{parts}
 use Rattle.future_cell.proofs.pairing.two_halves.Goals as goal
 

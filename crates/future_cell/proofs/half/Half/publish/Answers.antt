@@ -1,7 +1,4 @@
-use Rattle.std.proofs.Common.{◌≡◌, ap, subst, ◌∙◌, [], ◌∷◌, None, Some, rules}
-use Rattle.future_cell.specs.declared.stage.Item.TheVariants.{Value}
-use Rattle.future_cell.specs.declared.stage.SetterStage.TheVariants.{Filling}
-use Rattle.future_cell.specs.declared.stage.View.TheVariants.{Sets}
+use Rattle.std.proofs.Common.{ap, subst, ◌∙◌}
 use Rattle.future_cell.specs.Plays.{Place, PublishedIn, value_in_hand}
 use Rattle.future_cell.proofs.Steps.{fits, written, chosen, reaches, publishes}
 use Rattle.future_cell.proofs.half.Half.publish.Goals as goal

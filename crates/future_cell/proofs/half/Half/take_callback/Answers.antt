@@ -1,5 +1,4 @@
-use Rattle.std.proofs.Common.{ap, ◌∙◌, subst, rules}
-use Rattle.future_cell.specs.Plays.{Place, Ended, setter_in}
+use Rattle.std.proofs.Common.{ap, ◌∙◌}
 use Rattle.future_cell.proofs.Steps.{fits, written, holding, ends}
 use Rattle.future_cell.proofs.half.Half.take_callback.Goals as goal
 
