@@ -28,16 +28,18 @@
 //!
 //! - A cell has one value for good. `peek` shows the value that was shown before. It answers None only where its own look
 //!   at the word did not find `SET`, and never once `on_ready` answered `RanHere`.
-//! - `on_ready` answers `Parked` exactly where it found `EMPTY` and made it `PARKED`, and `RanHere` exactly where it found `SET`.
+//! - `on_ready` answers `Parked` exactly where its one look found `EMPTY`, and `RanHere` exactly where it found `SET`.
 //! - `settle` gives the value that was set, which is the value that was shown. The receipt's `ran` is true exactly where
 //!   `on_ready` answered `Parked`. The settled `ran` is 1 where a callback was registered, and 0 where none was.
 //! - After `wait` the value is shown, and a callback is registered.
 //! - Only `pair` and `wakes` take memory, and nothing else can fail.
 //!
+//! None of `set`, `on_ready`, `peek` and `settle` takes a handle to wait by, so none of them takes a lock.
+//!
 //! A callback is handed over by value and `Call::run` uses it up, so it runs at most once. Neither the value nor the
-//! callback has to be `Drop`. A callback type that is not `Drop` cannot be thrown away: it has to be run, or settled with the cell.
-//! No clause can say that `run` was called. That a parked callback runs inside `set`, after the value is out, and any other
-//! one inside `on_ready`, is tested. Nothing is said of progress, or of when a sleeping thread wakes.
+//! callback has to be `Drop`, and no code here can throw away one that is not. No clause can say that `run` was called:
+//! that a parked callback runs inside `set`, and any other one inside `on_ready`, is tested, and so is that a wake wakes
+//! the sleeper it was made with. Nothing is said of progress, or of when a sleeping thread wakes.
 //!
 //! The value and the callback are handed over through two slots of an `atomic_table`, by one word. `specs/Rule.antt` has
 //! the rule of the table: its word, its slots and what each half knows, computed from how far the two halves are.

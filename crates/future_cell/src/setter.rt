@@ -7,7 +7,7 @@ ghost use Rattle.future_cell.specs.Plays.{ran_in};
 use crate::callback::Call;
 use crate::half::Half;
 
-/// The half of a cell that sets its value, once. It can move to another thread.
+/// The half of a cell that sets its value, once. It can move to another thread where the value and the callback can.
 #[derive(Drop)]
 pub struct Setter<V, C> {
     pub(crate) half: Half<V, C>,

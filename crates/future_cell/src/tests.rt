@@ -9,23 +9,23 @@ use std::sync::{Arc, Wait};
 use std::test::Fail;
 use std::thread::{Threads, join};
 
-// Another thread computes the answer, and this one sleeps until it is there.
+// Another thread sleeps until the answer is there, which this one computes.
 fn doubled<R: Threads + Wait + Sync>(rt: &R, alloc: Global, n: u64) -> Result<u64, AllocError>
     requires { n < 2 ^ 63 }
     ensures { IfOk result (λ twice. twice ≡ 2 * n) }
 {
     let (setter, waiter) = pair::<u64, Wake>(alloc)?;
     let (wake, sleeper) = wakes(alloc)?;
-    let (receipt, waiter) = join(
+    let (waiter, receipt) = join(
         rt,
-        move || -> Receipt<u64, Wake>
-            requires { n < 2 ^ 63 }
-            ensures { (receipt_cell result ≡ setter_cell setter) × (value_set result ≡ Some (2 * n)) }
-        { setter.set(2 * n) },
         move || -> Waiter<u64, Wake>
             requires { registration waiter ≡ No }
             ensures { waiter_cell result ≡ waiter_cell waiter }
         { slept(rt, waiter, wake, sleeper) },
+        move || -> Receipt<u64, Wake>
+            requires { n < 2 ^ 63 }
+            ensures { (receipt_cell result ≡ setter_cell setter) × (value_set result ≡ Some (2 * n)) }
+        { setter.set(2 * n) },
     );
     Ok(settle(receipt, waiter).into_value())
 }

@@ -8,7 +8,7 @@ use crate::callback::{Call, Ready, Registered};
 use crate::half::Half;
 use crate::slot::refill;
 
-/// The half of a cell that waits for its value. It can move to another thread.
+/// The half of a cell that waits for its value. It can move to another thread where the value and the callback can.
 #[derive(Drop)]
 pub struct Waiter<V, C> {
     pub(crate) half: Half<V, C>,
