@@ -1,0 +1,5 @@
+pub mod Rule
+pub mod Plays
+pub mod Halves
+pub mod Registering
+pub mod Cells

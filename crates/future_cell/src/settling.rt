@@ -1,0 +1,83 @@
+//! A cell is made as a pair of halves, and settled from both.
+ghost use Rattle.std.specs.Prelude.{◌≡◌, Some, None, IfOk, IfSome};
+ghost use Rattle.future_cell.specs.declared.word.TheConstants.{EMPTY};
+ghost use Rattle.future_cell.specs.declared.callback.Registered.TheVariants.{No};
+ghost use Rattle.future_cell.specs.Registering.{was_parked, run_count};
+ghost use Rattle.future_cell.specs.Cells.{setter_cell, receipt_cell, waiter_cell, value_set, has_run, shown, registration, looks, last_found, settled_value, settled_runs};
+
+use crate::callback::{Call, Registered};
+use crate::pairing::two_halves;
+use crate::setter::{Receipt, Setter};
+use crate::waiter::Waiter;
+use std::alloc::{AllocError, Global};
+
+/// The value of a cell that was settled, and how many callbacks ran.
+#[derive(Drop)]
+pub struct Settled<V> {
+    value: V,
+    ran: u8,
+}
+
+/// A new cell. It takes all the memory of the cell.
+pub fn pair<V, C: Call>(alloc: Global) -> Result<(Setter<V, C>, Waiter<V, C>), AllocError>
+    ensures cell { IfOk result (λ halves. setter_cell halves.0 ≡ waiter_cell halves.1) }
+    ensures fresh { IfOk result (λ halves. (shown halves.1 ≡ None) × (registration halves.1 ≡ No) × (looks halves.1 ≡ 0) × (last_found halves.1 ≡ EMPTY)) }
+{
+    let (sets, waits) = two_halves(alloc)?;
+    Ok((Setter::of(sets), Waiter::of(waits)))
+}
+
+/// Ends a cell, and gives its memory back. It takes none.
+pub fn settle<V, C>(receipt: Receipt<V, C>, waiter: Waiter<V, C>) -> Settled<V>
+    requires { receipt_cell receipt ≡ waiter_cell waiter }
+    ensures value { value_set receipt ≡ Some (settled_value result) }
+    ensures shown { IfSome (shown waiter) (λ v. v ≡ settled_value result) }
+    ensures ran { settled_runs result ≡ run_count (registration waiter) }
+    ensures receipt { has_run receipt ≡ was_parked (registration waiter) }
+{
+    let Receipt { half: sets, ran: _ } = receipt;
+    let Waiter {
+        half: waits,
+        value,
+        registered,
+    } = waiter;
+    let value = sets.settle(waits, value);
+    Settled {
+        value,
+        ran: count_of(registered),
+    }
+}
+
+// How many callbacks ran.
+fn count_of(registered: Registered) -> u8
+    ensures { result ≡ run_count registered }
+{
+    match registered {
+        Registered::No => 0,
+        Registered::Parked | Registered::RanHere => 1,
+    }
+}
+
+impl<V> Settled<V> {
+    /// The value that was set, which every peek showed. It takes no memory.
+    pub fn value(&self) -> &V
+        ensures { result.now ≡ settled_value self.now }
+    {
+        &self.value
+    }
+
+    /// The value that was set, to keep. It takes no memory.
+    pub fn into_value(self) -> V
+        ensures { result ≡ settled_value self }
+    {
+        let Settled { value, ran: _ } = self;
+        value
+    }
+
+    /// How many callbacks ran: 1 where one was registered, else 0. It takes no memory.
+    pub fn ran(&self) -> u8
+        ensures { result ≡ settled_runs self.now }
+    {
+        self.ran
+    }
+}

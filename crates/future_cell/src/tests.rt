@@ -1,0 +1,190 @@
+ghost use Rattle.std.specs.Prelude.{◌≡◌, ◌*◌, ◌^◌, ◌<◌, Some, IfOk};
+ghost use Rattle.future_cell.specs.declared.callback.Registered.TheVariants.{No};
+ghost use Rattle.future_cell.specs.Cells.{setter_cell, receipt_cell, waiter_cell, value_set, registration};
+
+use super::*;
+use std::alloc::{AllocError, Global};
+use std::sync::atomic::{AtomicU64, Ordering};
+use std::sync::{Arc, Wait};
+use std::test::Fail;
+use std::thread::{Threads, join};
+
+// Another thread sleeps until the answer is there, which this one computes.
+fn doubled<R: Threads + Wait + Sync>(rt: &R, alloc: Global, n: u64) -> Result<u64, AllocError>
+    requires { n < 2 ^ 63 }
+    ensures { IfOk result (λ twice. twice ≡ 2 * n) }
+{
+    let (setter, waiter) = pair::<u64, Wake>(alloc)?;
+    let (wake, sleeper) = wakes(alloc)?;
+    let (waiter, receipt) = join(
+        rt,
+        move || -> Waiter<u64, Wake>
+            requires { registration waiter ≡ No }
+            ensures { waiter_cell result ≡ waiter_cell waiter }
+        { slept(rt, waiter, wake, sleeper) },
+        move || -> Receipt<u64, Wake>
+            requires { n < 2 ^ 63 }
+            ensures { (receipt_cell result ≡ setter_cell setter) × (value_set result ≡ Some (2 * n)) }
+        { setter.set(2 * n) },
+    );
+    Ok(settle(receipt, waiter).into_value())
+}
+
+fn slept<R: Wait>(
+    rt: &R,
+    mut waiter: Waiter<u64, Wake>,
+    wake: Wake,
+    sleeper: Sleeper,
+) -> Waiter<u64, Wake>
+    requires { registration waiter ≡ No }
+    ensures { waiter_cell result ≡ waiter_cell waiter }
+{
+    waiter.wait(rt, wake, sleeper);
+    waiter
+}
+
+#[test]
+fn a_thread_sleeps_until_the_value_is_there(rt: HostRuntime) -> Result<(), Fail> {
+    assert_eq!(rt; doubled(&rt, rt.alloc(), 21)?, 42);
+    Ok(())
+}
+
+// A callback that counts how often it ran.
+#[derive(Drop)]
+struct Raise {
+    mark: Arc<AtomicU64, Global>,
+}
+
+impl Call for Raise {
+    fn run(self) {
+        self.mark.fetch_add(1, Ordering::SeqCst);
+    }
+}
+
+// A mark, and the callback that raises it.
+fn mark(alloc: Global) -> Result<(Arc<AtomicU64, Global>, Raise), AllocError> {
+    let mark = Arc::new(alloc, AtomicU64::new(0))?;
+    let raise = Raise {
+        mark: Arc::try_clone(&mark)?,
+    };
+    Ok((mark, raise))
+}
+
+#[test]
+fn a_callback_after_the_value_runs_at_once(rt: HostRuntime) -> Result<(), Fail> {
+    let (mark, raise) = mark(rt.alloc())?;
+    let (setter, mut waiter) = pair(rt.alloc())?;
+    let receipt = setter.set(7u64);
+    assert_eq!(rt; waiter.registered(), Registered::No);
+    assert_eq!(rt; waiter.on_ready(raise), Ready::RanHere);
+    assert_eq!(rt; mark.load(Ordering::SeqCst), 1);
+    assert_eq!(rt; waiter.registered(), Registered::RanHere);
+    assert_eq!(rt; waiter.peek().copied(), Some(7));
+    assert!(rt; !receipt.ran());
+    let settled = settle(receipt, waiter);
+    assert_eq!(rt; (*settled.value(), settled.ran()), (7, 1));
+    Ok(())
+}
+
+#[test]
+fn a_parked_callback_runs_inside_set(rt: HostRuntime) -> Result<(), Fail> {
+    let (mark, raise) = mark(rt.alloc())?;
+    let (setter, mut waiter) = pair(rt.alloc())?;
+    assert_eq!(rt; waiter.on_ready(raise), Ready::Parked);
+    assert_eq!(rt;
+        (waiter.registered(), waiter.peek().copied()),
+        (Registered::Parked, None)
+    );
+    assert_eq!(rt; mark.load(Ordering::SeqCst), 0);
+    let receipt = setter.set(7u64);
+    assert_eq!(rt; mark.load(Ordering::SeqCst), 1);
+    assert!(rt; receipt.ran());
+    let settled = settle(receipt, waiter);
+    assert_eq!(rt; (*settled.value(), settled.ran()), (7, 1));
+    Ok(())
+}
+
+#[test]
+fn a_cell_settles_without_a_callback(rt: HostRuntime) -> Result<(), Fail> {
+    let (setter, mut waiter) = pair::<u64, Raise>(rt.alloc())?;
+    assert_eq!(rt; waiter.peek().copied(), None);
+    let receipt = setter.set(7);
+    let settled = settle(receipt, waiter);
+    assert_eq!(rt; (*settled.value(), settled.ran()), (7, 0));
+    Ok(())
+}
+
+// One thread sets a value while another registers a callback. The value, how many callbacks ran, and how often the mark was raised.
+fn meet<R: Threads>(rt: &R, alloc: Global, value: u64) -> Result<(u64, u8, u64), AllocError> {
+    let (mark, raise) = mark(alloc)?;
+    let (setter, waiter) = pair(alloc)?;
+    let (receipt, waiter) = join(
+        rt,
+        move || -> Receipt<u64, Raise>
+            ensures { receipt_cell result ≡ setter_cell setter }
+        { setter.set(value) },
+        move || -> Waiter<u64, Raise>
+            requires { registration waiter ≡ No }
+            ensures { waiter_cell result ≡ waiter_cell waiter }
+        { registered(waiter, raise) },
+    );
+    let raised = mark.load(Ordering::SeqCst);
+    let settled = settle(receipt, waiter);
+    Ok((*settled.value(), settled.ran(), raised))
+}
+
+fn registered(mut waiter: Waiter<u64, Raise>, raise: Raise) -> Waiter<u64, Raise>
+    requires { registration waiter ≡ No }
+    ensures { waiter_cell result ≡ waiter_cell waiter }
+{
+    waiter.on_ready(raise);
+    waiter
+}
+
+#[test]
+fn two_threads_meet_and_each_mark_is_raised_once(rt: HostRuntime) -> Result<(), Fail> {
+    for round in 0..1000 {
+        assert_eq!(rt; meet(&rt, rt.alloc(), round)?, (round, 1, 1));
+    }
+    Ok(())
+}
+
+// A value and a callback that cannot be dropped: each has to be used up.
+struct Coin {
+    worth: u64,
+}
+
+struct Note {
+    worth: u64,
+    sum: Arc<AtomicU64, Global>,
+}
+
+impl Call for Note {
+    fn run(self) {
+        let Note { worth, sum } = self;
+        sum.fetch_add(worth, Ordering::SeqCst);
+    }
+}
+
+fn spent(coin: Coin) -> u64 {
+    let Coin { worth } = coin;
+    worth
+}
+
+#[test]
+fn neither_the_value_nor_the_callback_is_dropped(rt: HostRuntime) -> Result<(), Fail> {
+    let sum = Arc::new(rt.alloc(), AtomicU64::new(0))?;
+    let copy = Arc::try_clone(&sum)?;
+    let (setter, mut waiter) = pair::<Coin, Note>(rt.alloc())?;
+    let parked = waiter.on_ready(Note {
+        worth: 3,
+        sum: copy,
+    });
+    let receipt = setter.set(Coin { worth: 5 });
+    let coin = settle(receipt, waiter).into_value();
+    assert_eq!(rt;
+        (parked, spent(coin), sum.load(Ordering::SeqCst)),
+        (Ready::Parked, 5, 3)
+    );
+    Ok(())
+}

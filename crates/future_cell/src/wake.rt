@@ -1,0 +1,67 @@
+//! A callback that wakes a sleeping thread, and waiting by it.
+use crate::callback::Call;
+use crate::waiter::Waiter;
+use crossbeam_utils::sync::{Parker, Unparker};
+use std::alloc::{AllocError, Global};
+use std::sync::Wait;
+
+/// A callback that wakes the sleeper it was made with.
+#[derive(Drop)]
+pub struct Wake {
+    unparker: Unparker,
+}
+
+/// What a thread sleeps on until the wake of it runs.
+#[derive(Drop)]
+pub struct Sleeper {
+    parker: Parker,
+}
+
+/// A wake and the sleeper that it wakes. It takes the memory of both.
+pub fn wakes(alloc: Global) -> Result<(Wake, Sleeper), AllocError> {
+    let parker = Parker::new(alloc)?;
+    let unparker = parker.unparker().clone()?;
+    Ok((Wake { unparker }, Sleeper { parker }))
+}
+
+impl Call for Wake {
+    fn run(self) {
+        self.unparker.unpark();
+    }
+}
+
+impl<V> Waiter<V, Wake> {
+    ghost use Rattle.std.specs.Prelude.{◌≡◌, Some, IsSome, ⊤};
+    ghost use Rattle.std.specs.Borrow.{sem};
+    ghost use mathlib.Core.Option.{none};
+    ghost use denote.Follow.{follows_so};
+    ghost use Rattle.future_cell.specs.contracts.waiter.Waiter.{the_row};
+    ghost use Rattle.future_cell.specs.contracts.wake.Wake.{the_row as wake_row};
+    ghost use Rattle.future_cell.specs.declared.callback.Registered.TheVariants.{No};
+    ghost use Rattle.future_cell.specs.Cells.{shown, registration, Peeked, Waited};
+
+    /// Registers the wake, and sleeps and looks again until the value is there. It takes no memory, and may wait for ever.
+    pub fn wait<R: Wait>(&mut self, rt: &R, wake: Wake, sleeper: Sleeper) -> &V
+        requires { registration self.old ≡ No }
+        ensures* after { sem 𝓛 (follows_so (the_row V.row wake_row) (the_row V.row wake_row) self.entry.ghost_name none (λ _ _. ⊤) (λ n. Waited self.old n × (shown n ≡ Some result.now))) }
+    {
+        self.on_ready(wake);
+        self.sleep(rt, sleeper);
+        self.shown_value()
+    }
+
+    // Sleeps and looks until the value is there.
+    fn sleep<R: Wait>(&mut self, rt: &R, sleeper: Sleeper)
+        ensures peeked { Peeked self.old self.new }
+        ensures there { IsSome (shown self.new) }
+    {
+        for _ in rt.forever() {
+            self.look();
+            if self.value.is_some() {
+                return;
+            }
+            sleeper.parker.park(rt);
+        }
+        unreachable!()
+    }
+}
