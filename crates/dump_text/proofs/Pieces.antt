@@ -3,7 +3,7 @@ use Rattle.std.proofs.Common.{◌≡◌, ℕ, zero, suc, ◌+◌, ◌<◌, ◌�
 use Rattle.std.specs.List.{prefix_len, take_while}
 use Rattle.std.proofs.lemmas.List.{append-nil}
 use Rattle.dump_text.proofs.Runs.{after, passes, fails, length-run}
-use Rattle.line_rules.specs.Printing.{is_plain, backslash}
+use Rattle.line_rules.specs.Printing.{is_plain, backslash, separator}
 use Rattle.line_rules.specs.Reading.{Piece, Nothing, Spelled, Separator, Unfit, piece_at, hexadecimal_piece, escaped_piece, digit_of, behind, begun, Text, pieces, text_of, Stop, AtEnd, AtSeparator, AtFault}
 
 -- what was read before, put before what is read
@@ -196,3 +196,11 @@ read_more front bytes rest run left byte total e f g so_far =
 
 pub separator_within : (bytes rest : List ℕ) → Separator rest ≡ piece_at bytes → length rest + 1 < length bytes
 separator_within bytes rest e = rw (← e) at (shorter bytes)
+
+pub text_empty : text_of [] ≡ record { bytes = []; stop = AtEnd; left = [] }
+unfolding piece_at
+text_empty = text_nothing [] refl
+
+pub text_parted : (rest : List ℕ) → text_of (separator ++ rest) ≡ record { bytes = []; stop = AtSeparator; left = rest }
+unfolding piece_at
+text_parted rest = text_separator (separator ++ rest) rest refl

@@ -1,8 +1,9 @@
 //! Reading of an input, line after line.
 
-ghost use Rattle.std.specs.Prelude.{◌≡◌, ◌+◌, ◌^◌, ◌<◌, ◌∷◌, length};
+ghost use Rattle.std.specs.Prelude.{◌≡◌, ◌+◌, ◌^◌, ◌<◌, ◌∷◌, List, length, Ok, IfOk};
 ghost use Rattle.key_bytes.specs.Entries.{entry_of};
-ghost use Rattle.line_rules.specs.Reading.{size_of, is_too_many, lines_of, read_line, pairs_of};
+ghost use Rattle.line_rules.specs.Reading.{Entry, size_of, is_too_many, lines_of, read_line, pairs_of};
+ghost use Rattle.line_rules.specs.Inputs.{IsInput};
 ghost use Rattle.dump_text.specs.Reading.{Gives};
 ghost use Rattle.dump_text.specs.InputLines.{line_is};
 ghost use Rattle.dump_text.specs.Places.{place_is};
@@ -101,6 +102,11 @@ fn read_pairs(alloc: Global, bytes: &[u8]) -> Result<Pairs, LineFault>
 
 /// The pairs of an input: its lines are those of pairs. A fault is the first one of the input.
 pub fn read_lines(alloc: Global, bytes: &[u8]) -> Result<Pairs, LineFault>
+    // What is read is spelled so.
+    ensures found { IfOk result (λ pairs. IsInput bytes.now pairs) }
+    // What is spelled so is read, unless memory runs out.
+    ensures only { (pairs : List Entry) → IsInput bytes.now pairs → Gives (λ pairs. pairs) result (Ok pairs) }
+    // Which fault it is.
     ensures exact { Gives (λ pairs. pairs) result (pairs_of bytes.now) }
 {
     read_pairs(alloc, bytes)

@@ -1,0 +1,25 @@
+-- What an input of pairs is: the lines of the pairs, within all limits.
+use Rattle.std.specs.Prelude.{◌≡◌, ◌≤◌, ℕ, true, List, length, flat_map}
+use Rattle.std.specs.List.{AllByRecursion}
+use Rattle.key_bytes.specs.Keys.{IsByteString, key_lt, top}
+use Rattle.line_rules.specs.Printing.{pair_line}
+use Rattle.line_rules.specs.Reading.{Entry, input_limit, pairs_limit, key_limit, value_limit}
+
+-- the lines of pairs, one after the other
+abbrev pub pair_lines : List Entry → List ℕ
+pair_lines pairs = flat_map (λ (e : Entry). pair_line e.0 e.1) pairs
+
+-- a pair that an input may have
+pub record IsSmall (e : Entry) : Type 0 where
+  pub key : IsByteString e.0
+  pub value : IsByteString e.1
+  pub below_top : key_lt e.0 top ≡ true
+  pub key_len : length e.0 ≤ key_limit
+  pub value_len : length e.1 ≤ value_limit
+
+-- the bytes are the lines of these pairs, and all is within its limit
+pub record IsInput (bytes : List ℕ) (pairs : List Entry) : Type 0 where
+  pub spelled : bytes ≡ pair_lines pairs
+  pub small : AllByRecursion IsSmall pairs
+  pub count : length pairs ≤ pairs_limit
+  pub size : length bytes ≤ input_limit
