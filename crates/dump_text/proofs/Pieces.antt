@@ -1,8 +1,9 @@
 -- The printable form, a run or a piece at a time.
 use Rattle.std.proofs.Common.{◌≡◌, ℕ, zero, suc, ◌+◌, ◌<◌, ◌≤◌, Bool, true, false, cond, not, ◌&&◌, ◌==◌, ltb, ◌*◌, List, [], ◌∷◌, ◌++◌, length, take, drop, refl, sym, ap, subst, ◌∙◌, append_assoc, arith, rules}
 use Rattle.std.specs.List.{prefix_len, take_while}
-use Rattle.std.proofs.lemmas.List.{length-append, take-append-drop, append-nil}
-use Rattle.line_rules.specs.Printing.{is_plain, backslash}
+use Rattle.std.proofs.lemmas.List.{append-nil}
+use Rattle.dump_text.proofs.Runs.{after, passes, fails, length-run}
+use Rattle.line_rules.specs.Printing.{is_plain, backslash, separator}
 use Rattle.line_rules.specs.Reading.{Piece, Nothing, Spelled, Separator, Unfit, piece_at, hexadecimal_piece, escaped_piece, digit_of, behind, begun, Text, pieces, text_of, Stop, AtEnd, AtSeparator, AtFault}
 
 -- what was read before, put before what is read
@@ -85,18 +86,6 @@ text_unfit bytes e = text_begun bytes ∙ ap (λ (p : Piece). begun bytes p (tex
 
 -- ---- runs of plain bytes
 
--- the front of bytes that pass a test, and what is left behind it
-abbrev pub after : (ℕ → Bool) → List ℕ → List ℕ
-after p bytes = drop (prefix_len p bytes) bytes
-
-passes : (p : ℕ → Bool) (byte : ℕ) (rest : List ℕ) → p byte ≡ true → (take_while p (byte ∷ rest) ≡ byte ∷ take_while p rest) × (after p (byte ∷ rest) ≡ after p rest)
-passes p byte rest e =
-    let next : 1 + prefix_len p rest ≡ suc (prefix_len p rest) = omega arith in
-    (rw (e, next) refl, rw (e, next) refl)
-
-fails : (p : ℕ → Bool) (byte : ℕ) (rest : List ℕ) → p byte ≡ false → (take_while p (byte ∷ rest) ≡ []) × (after p (byte ∷ rest) ≡ byte ∷ rest)
-fails p byte rest e = (rw e refl, rw e refl)
-
 plain_text : (byte : ℕ) (rest : List ℕ) → is_plain byte ≡ true → text_of (byte ∷ rest) ≡ with_front (byte ∷ []) (text_of rest)
 unfolding piece_at
 plain_text byte rest e = text_spelled (byte ∷ rest) rest byte (rw e refl)
@@ -114,11 +103,6 @@ run_with p step (byte ∷ rest) =
 pub text_run : (bytes : List ℕ) → text_of bytes ≡ with_front (take_while is_plain bytes) (text_of (after is_plain bytes))
 text_run bytes = run_with is_plain plain_text bytes
 
-pub length-run : (bytes : List ℕ) → length (take_while is_plain bytes) + length (after is_plain bytes) ≡ length bytes
-length-run bytes =
-    let n = prefix_len is_plain bytes in
-    sym (length-append (take n bytes) (drop n bytes)) ∙ ap length (take-append-drop n bytes)
-
 -- a spelled byte and the run behind it
 pub text_step : (bytes rest run left : List ℕ) (byte : ℕ) → Spelled byte rest ≡ piece_at bytes → run ≡ take_while is_plain rest → left ≡ after is_plain rest
     → text_of bytes ≡ with_front (byte ∷ run) (text_of left)
@@ -128,7 +112,7 @@ pub step_within : (bytes rest run left : List ℕ) (byte : ℕ) → Spelled byte
     → length run + length left < length bytes
 step_within bytes rest run left byte e f g =
     let less : length rest < length bytes = rw (← e) at (shorter bytes) in
-    rw (f, g, length-run rest) less
+    rw (f, g, length-run is_plain rest) less
 
 -- where no byte is spelled, none is read
 abbrev pub IsSpelled : Piece → Type 0
@@ -212,3 +196,11 @@ read_more front bytes rest run left byte total e f g so_far =
 
 pub separator_within : (bytes rest : List ℕ) → Separator rest ≡ piece_at bytes → length rest + 1 < length bytes
 separator_within bytes rest e = rw (← e) at (shorter bytes)
+
+pub text_empty : text_of [] ≡ record { bytes = []; stop = AtEnd; left = [] }
+unfolding piece_at
+text_empty = text_nothing [] refl
+
+pub text_parted : (rest : List ℕ) → text_of (separator ++ rest) ≡ record { bytes = []; stop = AtSeparator; left = rest }
+unfolding piece_at
+text_parted rest = text_separator (separator ++ rest) rest refl

@@ -2,5 +2,6 @@ pub mod Ends
 pub mod Lines
 pub mod Growing
 pub mod InputLines
+pub mod Places
 pub mod Reading
 pub mod Texts

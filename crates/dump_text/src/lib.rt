@@ -21,4 +21,7 @@ pub use input::read_lines;
 pub use line::{EndWord, Line};
 pub use order::Order;
 pub use printing::write_printable;
-pub use writing::write_pair_line;
+pub use writing::{
+    write_error_line, write_item_line, write_line, write_machine_line, write_order_line,
+    write_pair_line,
+};

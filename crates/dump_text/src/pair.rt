@@ -3,7 +3,7 @@
 ghost use Rattle.std.specs.Prelude.{◌≡◌, ◌+◌, ◌^◌, ◌<◌, ◌≤◌, length};
 ghost use Rattle.key_bytes.specs.Entries.{entry_of};
 ghost use Rattle.key_bytes.specs.Keys.{key_lt, top};
-ghost use Rattle.line_rules.specs.Reading.{line_limit, text_of, judged, pair_at, fields_at, value_at, pair_within};
+ghost use Rattle.line_rules.specs.Reading.{line_limit, is_pair, text_of, judged, pair_at, fields_at, value_at, pair_within};
 ghost use Rattle.dump_text.specs.Reading.{Gives};
 ghost use Rattle.dump_text.specs.InputLines.{line_is};
 
@@ -30,6 +30,16 @@ pub struct InputLine<'a> {
 }
 
 impl InputLine<'_> {
+    /// Whether the line is of a pair, which its first byte tells. It takes no memory.
+    pub fn is_pair(&self) -> bool
+        ensures { result ≡ is_pair self.now.bytes.now }
+    {
+        match self.bytes {
+            [b'K', ..] => true,
+            _ => false,
+        }
+    }
+
     /// That the byte at this place fits no rule. It takes no memory.
     fn bad_at(&self, place: usize) -> LineFault
         requires { place < 2 ^ 32 }

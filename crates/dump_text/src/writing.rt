@@ -1,6 +1,6 @@
 //! Writing of lines.
 
-ghost use Rattle.std.specs.Prelude.{◌≡◌, ◌∷◌, ◌++◌, decimal, OnOk, OnErr};
+ghost use Rattle.std.specs.Prelude.{◌≡◌, [], ◌∷◌, ◌++◌, decimal, OnOk, OnErr};
 ghost use Rattle.line_rules.specs.Printing.{printable, machine_line, item_line, error_line, order_line, pair_line, space};
 ghost use Rattle.dump_text.specs.Ends.{word_of};
 ghost use Rattle.dump_text.specs.Growing.{Grew};
@@ -40,6 +40,75 @@ fn add_last(to: &mut Bytes, bytes: &[u8]) -> Result<(), AllocError>
     to.push(b'\n')
 }
 
+/// Adds the line of how a machine ended. After a refusal a part of it stands behind what `to` held.
+#[tactic(auto, unfolding(line_rules::specs::Printing::machine_line))]
+fn add_machine_line(
+    to: &mut Bytes,
+    machine: u16,
+    end: EndWord,
+    number: u64,
+    prefix: &[u8],
+) -> Result<(), AllocError>
+    ensures ok { OnOk result (to.new ≡ to.old ++ machine_line machine (word_of end) number prefix.now) }
+    ensures err { OnErr result (Grew to.old to.new) }
+{
+    to.push(b'M')?;
+    add_number(to, u64::from(machine))?;
+    add_word(to, end.word())?;
+    add_number(to, number)?;
+    add_last(to, prefix)
+}
+
+/// Adds the line of an item. After a refusal a part of it stands behind what `to` held.
+#[tactic(auto, unfolding(line_rules::specs::Printing::item_line))]
+fn add_item_line(
+    to: &mut Bytes,
+    machine: u16,
+    place: u64,
+    instruction: u64,
+    packed: &[u8],
+) -> Result<(), AllocError>
+    ensures ok { OnOk result (to.new ≡ to.old ++ item_line machine place instruction packed.now) }
+    ensures err { OnErr result (Grew to.old to.new) }
+{
+    to.push(b'S')?;
+    add_number(to, u64::from(machine))?;
+    add_number(to, place)?;
+    add_number(to, instruction)?;
+    add_last(to, packed)
+}
+
+/// Adds the line of an error. After a refusal a part of it stands behind what `to` held.
+#[tactic(auto, unfolding(line_rules::specs::Printing::error_line))]
+fn add_error_line(
+    to: &mut Bytes,
+    machine: u16,
+    instruction: u64,
+    word: &[u8],
+) -> Result<(), AllocError>
+    ensures ok { OnOk result (to.new ≡ to.old ++ error_line machine instruction word.now) }
+    ensures err { OnErr result (Grew to.old to.new) }
+{
+    to.push(b'E')?;
+    add_number(to, u64::from(machine))?;
+    add_number(to, instruction)?;
+    add_word(to, word)?;
+    to.push(b'\n')
+}
+
+/// Adds the line of a place of the order. After a refusal a part of it stands behind what `to` held.
+#[tactic(auto, unfolding(line_rules::specs::Printing::order_line))]
+fn add_order_line(to: &mut Bytes, machine: u16) -> Result<(), AllocError>
+    ensures ok { OnOk result (to.new ≡ to.old ++ order_line machine) }
+    ensures err { OnErr result (Grew to.old to.new) }
+{
+    to.push(b'O')?;
+    add_number(to, u64::from(machine))?;
+    to.push(b'\n')
+}
+
+/// Adds the line of a pair. After a refusal a part of it stands behind what `to` held.
+#[tactic(auto, unfolding(line_rules::specs::Printing::pair_line))]
 fn add_pair_line(to: &mut Bytes, key: &[u8], value: &[u8]) -> Result<(), AllocError>
     ensures ok { OnOk result (to.new ≡ to.old ++ pair_line key.now value.now) }
     ensures err { OnErr result (Grew to.old to.new) }
@@ -51,6 +120,63 @@ fn add_pair_line(to: &mut Bytes, key: &[u8], value: &[u8]) -> Result<(), AllocEr
     to.push(b'\n')
 }
 
+/// Adds the line of how a machine ended at the end. After a refusal `to` is as before.
+pub fn write_machine_line(
+    to: &mut Bytes,
+    machine: u16,
+    end: EndWord,
+    number: u64,
+    prefix: &[u8],
+) -> Result<(), AllocError>
+    ensures ok { OnOk result (to.new ≡ to.old ++ machine_line machine (word_of end) number prefix.now) }
+    ensures err { OnErr result (to.new ≡ to.old) }
+{
+    let len = to.len();
+    let written = add_machine_line(to, machine, end, number, prefix);
+    or_cut_back(to, len, written)
+}
+
+/// Adds the line of an item at the end. After a refusal `to` is as before.
+pub fn write_item_line(
+    to: &mut Bytes,
+    machine: u16,
+    place: u64,
+    instruction: u64,
+    packed: &[u8],
+) -> Result<(), AllocError>
+    ensures ok { OnOk result (to.new ≡ to.old ++ item_line machine place instruction packed.now) }
+    ensures err { OnErr result (to.new ≡ to.old) }
+{
+    let len = to.len();
+    let written = add_item_line(to, machine, place, instruction, packed);
+    or_cut_back(to, len, written)
+}
+
+/// Adds the line of an error at the end. After a refusal `to` is as before.
+pub fn write_error_line(
+    to: &mut Bytes,
+    machine: u16,
+    instruction: u64,
+    word: &[u8],
+) -> Result<(), AllocError>
+    ensures ok { OnOk result (to.new ≡ to.old ++ error_line machine instruction word.now) }
+    ensures err { OnErr result (to.new ≡ to.old) }
+{
+    let len = to.len();
+    let written = add_error_line(to, machine, instruction, word);
+    or_cut_back(to, len, written)
+}
+
+/// Adds the line of a place of the order at the end. After a refusal `to` is as before.
+pub fn write_order_line(to: &mut Bytes, machine: u16) -> Result<(), AllocError>
+    ensures ok { OnOk result (to.new ≡ to.old ++ order_line machine) }
+    ensures err { OnErr result (to.new ≡ to.old) }
+{
+    let len = to.len();
+    let written = add_order_line(to, machine);
+    or_cut_back(to, len, written)
+}
+
 /// Adds the line of a pair at the end. After a refusal `to` is as before.
 pub fn write_pair_line(to: &mut Bytes, key: &[u8], value: &[u8]) -> Result<(), AllocError>
     ensures ok { OnOk result (to.new ≡ to.old ++ pair_line key.now value.now) }
@@ -59,4 +185,32 @@ pub fn write_pair_line(to: &mut Bytes, key: &[u8], value: &[u8]) -> Result<(), A
     let len = to.len();
     let written = add_pair_line(to, key, value);
     or_cut_back(to, len, written)
+}
+
+/// Adds a line at the end. After a refusal `to` is as before.
+pub fn write_line(to: &mut Bytes, line: &Line) -> Result<(), AllocError>
+    ensures ok { OnOk result (to.new ≡ to.old ++ line_of line.now) }
+    ensures err { OnErr result (to.new ≡ to.old) }
+{
+    match line {
+        Line::M {
+            machine,
+            end,
+            number,
+            prefix,
+        } => write_machine_line(to, *machine, *end, *number, prefix.as_slice()),
+        Line::S {
+            machine,
+            place,
+            instruction,
+            bytes,
+        } => write_item_line(to, *machine, *place, *instruction, bytes.as_slice()),
+        Line::E {
+            machine,
+            instruction,
+            word,
+        } => write_error_line(to, *machine, *instruction, word.as_slice()),
+        Line::O { machine } => write_order_line(to, *machine),
+        Line::K { key, value } => write_pair_line(to, key.as_slice(), value.as_slice()),
+    }
 }

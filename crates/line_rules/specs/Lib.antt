@@ -1,3 +1,4 @@
+pub mod Inputs
 pub mod Printing
 pub mod Reading
 pub mod Inputs

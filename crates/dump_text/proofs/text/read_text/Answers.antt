@@ -1,16 +1,18 @@
 use Rattle.std.proofs.Common.{◌≡◌, ◌≤◌, ◌∷◌, ◌++◌, [], length, ℕ, ◌+◌, ◌-◌, arith, ap, refl, ◌∙◌}
 use Rattle.line_rules.specs.Reading.{piece_at, text_of}
-use Rattle.dump_text.proofs.Pieces.{with_front, text_run, length-run, step_within, separator_within, read_more, done_nothing, done_separator, done_unfit}
+use Rattle.line_rules.specs.Printing.{is_plain}
+use Rattle.dump_text.proofs.Runs.{length-run}
+use Rattle.dump_text.proofs.Pieces.{with_front, text_run, step_within, separator_within, read_more, done_nothing, done_separator, done_unfit}
 use Rattle.dump_text.proofs.text.read_text.Goals as goal
 
 pub overflow_add-run : goal.overflow_add-run
 overflow_add-run c =
-    let within : length c.split_plain.result.0.now + length c.split_plain.result.1.now ≡ length c.args.bytes.now = rw (c.split_plain.ensures.front, c.split_plain.ensures.rest) (length-run c.args.bytes.now) in
+    let within : length c.split_plain.result.0.now + length c.split_plain.result.1.now ≡ length c.args.bytes.now = rw (c.split_plain.ensures.front, c.split_plain.ensures.rest) (length-run is_plain c.args.bytes.now) in
     omega arith
 
 pub loop-byte-init : goal.loop-byte-init
 loop-byte-init c =
-    let lens : length c.split_plain.result.0.now + length c.split_plain.result.1.now ≡ length c.args.bytes.now = rw (c.split_plain.ensures.front, c.split_plain.ensures.rest) (length-run c.args.bytes.now) in
+    let lens : length c.split_plain.result.0.now + length c.split_plain.result.1.now ≡ length c.args.bytes.now = rw (c.split_plain.ensures.front, c.split_plain.ensures.rest) (length-run is_plain c.args.bytes.now) in
     let items : c.extend_from_slice.new.self.items ≡ c.split_plain.result.0.now = rw (c.in_ok-extend_from_slice.ensures.items, c.in_ok-text.ensures.items) refl in
     record {
       all = rw (items, c.split_plain.ensures.front, c.split_plain.ensures.rest, text_run c.args.bytes.now) refl;

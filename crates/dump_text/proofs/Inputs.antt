@@ -1,0 +1,143 @@
+-- An input, a line at a time.
+use Rattle.std.proofs.Common.{◌≡◌, ℕ, zero, suc, ◌+◌, ◌-◌, ◌<◌, ◌≤◌, Bool, true, false, cond, ◌==◌, List, [], ◌∷◌, ◌++◌, length, take, drop, get_or, Result, Ok, Err, nat_lt, nat_le, ◌||◌, ◌&&◌, not, refl, sym, ap, subst, ◌∙◌, append_assoc, arith}
+use Rattle.std.proofs.lemmas.List.{append-nil, length_push, nil_from_length}
+use Rattle.std.proofs.lemmas.Bool.{false_from_ne_true, not-false, ltb-false, leb-false}
+use Rattle.line_rules.specs.Reading.{Entry, Fault, Line, Place, lines_of, with_first, joined, read_line, read_lines, next_place, Flaw, judged, pair_at, is_pair, size_of, input_limit, pairs_limit, line_limit, is_too_many, TooMany, TooLong, Bad, fields_at, text_of}
+use Rattle.dump_text.specs.declared.fault.LineFault.{LineFault}
+use Rattle.dump_text.specs.declared.fault.LineFault.TheVariants as errors
+use Rattle.dump_text.specs.Reading.{Fails}
+
+-- what was read before, and what is still read
+abbrev pub before : List Entry → Result (List Entry) Fault → Result (List Entry) Fault
+before front (Ok entries) = Ok (front ++ entries)
+before front (Err fault) = Err fault
+
+regroup : (front : List Entry) (entry : Entry) (rest : Result (List Entry) Fault) → before front (joined (Ok entry) rest) ≡ before (front ++ entry ∷ []) rest
+regroup front entry (Ok entries) = ap (λ (x : List Entry). Ok x) (sym (append_assoc front (entry ∷ []) entries))
+regroup front entry (Err fault) = refl
+
+pub goes_on : (front : List Entry) (entry : Entry) (place : Place) (line : Line) (lines : List Line) → read_line place line ≡ Ok entry
+    → before front (read_lines place (line ∷ lines)) ≡ before (front ++ entry ∷ []) (read_lines (next_place place line) lines)
+unfolding read_lines
+goes_on front entry place line lines e = rw e (regroup front entry (read_lines (next_place place line) lines))
+
+pub ends : (e : LineFault) (front : List Entry) (place : Place) (line : Line) (lines : List Line) (total : Result (List Entry) Fault) → Fails e (read_line place line)
+    → before front (read_lines place (line ∷ lines)) ≡ total → Fails e total
+unfolding read_lines
+ends (errors.BadLine number at) front place line lines total h so_far = rw h at (sym so_far)
+ends (errors.TooLong number) front place line lines total h so_far = rw h at (sym so_far)
+ends (errors.TooMany number) front place line lines total h so_far = rw h at (sym so_far)
+ends errors.NoMemory front place line lines total h so_far = tt
+
+is_done : (front : List Entry) (place : Place) (total : Result (List Entry) Fault) → before front (read_lines place []) ≡ total → total ≡ Ok front
+unfolding read_lines
+is_done front place total so_far = sym so_far ∙ ap (λ (x : List Entry). Ok x) (append-nil front)
+
+pub before_nothing : (read : Result (List Entry) Fault) → before [] read ≡ read
+before_nothing (Ok entries) = refl
+before_nothing (Err fault) = refl
+
+-- nothing is left to read
+pub all_read : (left : List ℕ) (front : List Entry) (place : Place) (total : Result (List Entry) Fault) → length left ≡ 0 → before front (read_lines place (lines_of left)) ≡ total → total ≡ Ok front
+unfolding lines_of
+all_read left front place total e so_far =
+    let nothing = nil_from_length left e in
+    is_done front place total (rw nothing at so_far)
+
+-- ---- the first line
+
+abbrev IsLineFeed : List ℕ → ℕ → Type 0
+IsLineFeed bytes k = (get_or bytes k 0 == 10) ≡ true
+
+pub whole_line : (n : ℕ) (bytes : List ℕ) → n < length bytes → ((k : ℕ) → k < n → IsLineFeed bytes k → ⊥) → IsLineFeed bytes n
+    → lines_of bytes ≡ record { bytes = take n bytes; is_whole = true } ∷ lines_of (drop (suc n) bytes)
+unfolding lines_of
+whole_line n [] h none e = absurd (omega arith)
+whole_line zero (byte ∷ rest) h none e = rw e refl
+whole_line (suc n) (byte ∷ rest) h none e =
+    let other : (byte == 10) ≡ false = false_from_ne_true (byte == 10) (none 0 (omega arith)) in
+    let later = whole_line n rest (omega arith) (λ k l. none (suc k) (omega arith)) e in
+    rw (other, later) refl
+
+pub last_line : (bytes : List ℕ) → 0 < length bytes → ((k : ℕ) → k < length bytes → IsLineFeed bytes k → ⊥) → lines_of bytes ≡ record { bytes = bytes; is_whole = false } ∷ lines_of []
+unfolding lines_of
+last_line [] h none = absurd (omega arith)
+last_line (byte ∷ []) h none = 
+    let other : (byte == 10) ≡ false = false_from_ne_true (byte == 10) (none 0 (omega arith)) in
+    rw other refl
+last_line (byte ∷ next ∷ rest) h none =
+    let other : (byte == 10) ≡ false = false_from_ne_true (byte == 10) (none 0 (omega arith)) in
+    let later = last_line (next ∷ rest) (omega arith) (λ k l. none (suc k) (omega arith)) in
+    rw (other, later) refl
+
+-- ---- what a line that was read tells
+
+judged_ok : (number : ℕ) (read : Result Entry Flaw) (entry : Entry) → judged number read ≡ Ok entry → read ≡ Ok entry
+judged_ok number (Ok other) entry e = cc
+judged_ok number (Err flaw) entry e = absurd cc
+
+guard_ok : {A E : Type 0} (test : Bool) (fault : E) (read : Result A E) (value : A) → cond test (Err fault) read ≡ Ok value → (test ≡ false) × (read ≡ Ok value)
+guard_ok true fault read value e = absurd cc
+guard_ok false fault read value e = (refl, e)
+
+pair_is_pair : (line : Line) (bytes : List ℕ) (entry : Entry) → pair_at line bytes ≡ Ok entry → is_pair bytes ≡ true
+unfolding pair_at
+pair_is_pair line [] entry e = absurd cc
+pair_is_pair line (kind ∷ []) entry e = absurd cc
+pair_is_pair line (kind ∷ gap ∷ fields) entry e =
+    not-false (kind == 75) (guard_ok (not (kind == 75)) (Bad 0) (cond (not (gap == 32)) (Err (Bad 1)) (fields_at line (text_of fields))) entry e).0
+
+neither : (a b : Bool) → (a || b) ≡ false → (a ≡ false) × (b ≡ false)
+neither true b e = absurd cc
+neither false b e = (refl, e)
+
+not_both : (a b : Bool) → a ≡ true → (a && b) ≡ false → b ≡ false
+not_both true b h e = e
+not_both false b h e = absurd cc
+
+-- a line that was read is one of a pair, within the limits
+pub record IsRead (place : Place) (line : Line) (entry : Entry) : Type 0 where
+  pub size : place.bytes + size_of line ≤ input_limit
+  pub few : place.pairs < pairs_limit
+  pub short : length line.bytes ≤ line_limit
+  pub pair : is_pair line.bytes ≡ true
+  pub read : pair_at line line.bytes ≡ Ok entry
+
+pub is_read : (place : Place) (line : Line) (entry : Entry) → read_line place line ≡ Ok entry → IsRead place line entry
+unfolding read_line
+is_read place line entry e =
+    let many = guard_ok (is_too_many place line) (TooMany place.number) (cond (nat_lt line_limit (length line.bytes)) (Err (TooLong place.number)) (judged place.number (pair_at line line.bytes))) entry e in
+    let long = guard_ok (nat_lt line_limit (length line.bytes)) (TooLong place.number) (judged place.number (pair_at line line.bytes)) entry many.1 in
+    let read = judged_ok place.number (pair_at line line.bytes) entry long.1 in
+    let pair = pair_is_pair line line.bytes entry read in
+    let limits = neither (nat_lt input_limit (place.bytes + size_of line)) (is_pair line.bytes && nat_le pairs_limit place.pairs) many.0 in
+    record {
+      size = ltb-false input_limit (place.bytes + size_of line) limits.0;
+      few = leb-false pairs_limit place.pairs (not_both (is_pair line.bytes) (nat_le pairs_limit place.pairs) pair limits.1);
+      short = ltb-false line_limit (length line.bytes) long.0;
+      pair = pair;
+      read = read;
+    }
+
+-- ---- a line of the input, and what is left behind it
+
+-- where reading stands: what is left of the bytes, and the pairs that were read
+abbrev pub place_at : ℕ → List ℕ → List ℕ → List Entry → Place
+place_at number bytes left front = record { number = number; bytes = length bytes - length left; pairs = length front }
+
+pub line_goes_on : (number : ℕ) (bytes left rest : List ℕ) (front : List Entry) (entry : Entry) (line : Line) (total : Result (List Entry) Fault)
+    → lines_of left ≡ line ∷ lines_of rest → size_of line + length rest ≡ length left → length left ≤ length bytes → read_line (place_at number bytes left front) line ≡ Ok entry
+    → before front (read_lines (place_at number bytes left front) (lines_of left)) ≡ total
+    → before (front ++ entry ∷ []) (read_lines (place_at (number + 1) bytes rest (front ++ entry ∷ [])) (lines_of rest)) ≡ total
+line_goes_on number bytes left rest front entry line total e size within read so_far =
+    let place = place_at number bytes left front in
+    let paired = (is_read place line entry read).pair in
+    let bytes_are : length bytes - length rest ≡ place.bytes + size_of line = omega arith in
+    let pairs_are : length (front ++ entry ∷ []) ≡ place.pairs + cond (is_pair line.bytes) 1 0 = rw (paired, length_push front entry) refl in
+    let places_are : place_at (number + 1) bytes rest (front ++ entry ∷ []) ≡ next_place place line = rw (bytes_are, pairs_are) refl in
+    let one = goes_on front entry place line (lines_of rest) read in
+    rw places_are (sym one ∙ rw e at so_far)
+
+pub line_ends : (fault : LineFault) (place : Place) (left rest : List ℕ) (front : List Entry) (line : Line) (total : Result (List Entry) Fault)
+    → lines_of left ≡ line ∷ lines_of rest → Fails fault (read_line place line) → before front (read_lines place (lines_of left)) ≡ total → Fails fault total
+line_ends fault place left rest front line total e h so_far = ends fault front place line (lines_of rest) total h (rw e at so_far)
