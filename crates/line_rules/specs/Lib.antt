@@ -1,4 +1,3 @@
-pub mod Inputs
 pub mod Printing
 pub mod Reading
 pub mod Inputs
