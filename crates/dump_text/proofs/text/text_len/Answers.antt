@@ -41,6 +41,6 @@ loop-rest-preserved c =
     }
 
 pub returns-clause-value : goal.returns-clause-value
-returns-clause-value c = 
+returns-clause-value c =
     let none = ended c.piece_of.result c.loop-rest.left.now c.piece_of.ensures c.in_default.not-Spelled in
     omega (arith, ap length none)
