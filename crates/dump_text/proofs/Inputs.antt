@@ -1,8 +1,8 @@
 -- An input, a line at a time.
-use Rattle.std.proofs.Common.{◌≡◌, ℕ, zero, suc, ◌+◌, ◌-◌, ◌<◌, ◌≤◌, Bool, true, false, cond, ◌==◌, List, [], ◌∷◌, ◌++◌, length, take, drop, get_or, Result, Ok, Err, nat_lt, nat_le, ◌||◌, ◌&&◌, not, refl, sym, ap, subst, ◌∙◌, append_assoc, arith}
+use Rattle.std.proofs.Common.{◌≡◌, ℕ, zero, suc, ◌+◌, ◌-◌, ◌<◌, ◌≤◌, true, false, cond, ◌==◌, List, [], ◌∷◌, ◌++◌, length, take, drop, get_or, Result, Ok, Err, refl, sym, ap, ◌∙◌, append_assoc, arith}
 use Rattle.std.proofs.lemmas.List.{append-nil, length_push, nil_from_length}
-use Rattle.std.proofs.lemmas.Bool.{false_from_ne_true, not-false, ltb-false, leb-false}
-use Rattle.line_rules.specs.Reading.{Entry, Fault, Line, Place, lines_of, with_first, joined, read_line, read_lines, next_place, Flaw, judged, pair_at, is_pair, size_of, input_limit, pairs_limit, line_limit, is_too_many, TooMany, TooLong, Bad, fields_at, text_of}
+use Rattle.std.proofs.lemmas.Bool.{false_from_ne_true}
+use Rattle.line_rules.specs.Reading.{Entry, Fault, Line, Place, lines_of, joined, read_line, read_lines, next_place, is_pair, size_of}
 use Rattle.line_rules.proofs.ReadLines.{is_read}
 use Rattle.dump_text.specs.declared.fault.LineFault.{LineFault}
 use Rattle.dump_text.specs.declared.fault.LineFault.TheVariants as errors

@@ -1,16 +1,16 @@
 -- An input that was read is the lines of its pairs, and the lines of pairs are read as these pairs.
-use Rattle.std.proofs.Common.{◌≡◌, ℕ, zero, suc, ◌+◌, ◌-◌, ◌*◌, ◌/◌, ◌%◌, ◌<◌, ◌≤◌, Bool, true, false, cond, not, ◌&&◌, ◌||◌, ◌==◌, ltb, nat_lt, nat_le, List, [], ◌∷◌, ◌++◌, length, flat_map, Result, Ok, Err, refl, sym, ap, subst, ◌∙◌, append_assoc, arith, All}
+use Rattle.std.proofs.Common.{◌≡◌, ℕ, ◌+◌, ◌*◌, ◌/◌, ◌%◌, ◌<◌, ◌≤◌, Bool, true, false, cond, not, ◌||◌, ◌==◌, nat_lt, nat_le, List, [], ◌∷◌, ◌++◌, length, flat_map, Result, Ok, Err, refl, sym, ap, subst, ◌∙◌, append_assoc, arith}
 use Rattle.std.specs.List.{AllByRecursion}
-use Rattle.std.proofs.lemmas.Bool.{eqb-true, ltb-true, lt-ltb, ltb-false, le-ltb, lt-leb, not-true, not-false}
+use Rattle.std.proofs.lemmas.Bool.{eqb-true, ltb-false, le-ltb, lt-leb, not-false}
 use Rattle.std.proofs.lemmas.Bool.Decides.{nat_tests}
 use Rattle.std.proofs.lemmas.List.{append-nil, length-append}
 use Rattle.std.proofs.lemmas.List.Elements.{All-from_recursion, recursion_from_All}
 use Rattle.key_bytes.specs.Keys.{IsByteString, key_lt, top}
 use Rattle.line_rules.specs.Inputs.{pair_lines, IsSmall, IsInput}
 use Rattle.line_rules.specs.Printing.{separator, printed, printable, hexadecimal_digit, is_plain, backslash, pair_line}
-use Rattle.line_rules.specs.Reading.{Text, text_of, Stop, AtEnd, AtSeparator, AtFault, Line, Flaw, Bad, Long, Entry, pair_within, place_of, value_at, key_at, fields_at, pair_at, lines_of, with_first, size_of, is_pair, Fault, Place, start, next_place, read_line, read_lines, joined, pairs_of, input_limit, pairs_limit, line_limit, key_limit, value_limit}
+use Rattle.line_rules.specs.Reading.{Text, text_of, Stop, AtEnd, AtSeparator, AtFault, Line, Flaw, Bad, Long, Entry, pair_within, value_at, key_at, fields_at, pair_at, lines_of, with_first, size_of, Fault, Place, start, next_place, read_line, read_lines, joined, pairs_of, input_limit, pairs_limit, line_limit, key_limit, value_limit}
 use Rattle.dump_text.proofs.Pieces.{with_front, text_empty, text_parted}
-use Rattle.dump_text.proofs.Printed.{ending, IsSpelled, text_was, text_printed}
+use Rattle.dump_text.proofs.Printed.{ending, text_was, text_printed}
 use Rattle.line_rules.proofs.Lines.{IsFeedless, IsFeedless-append, whole_first}
 use Rattle.line_rules.proofs.ReadLines.{guard_ok, neither, is_read}
 

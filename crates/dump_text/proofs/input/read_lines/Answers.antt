@@ -1,6 +1,5 @@
-use Rattle.std.proofs.Common.{◌≡◌, List, ℕ, Result, Ok, Err, subst, sym}
+use Rattle.std.proofs.Common.{List, ℕ, Result, Ok, Err, subst, sym}
 use Rattle.std.specs.Prelude.{IfOk}
-use Rattle.key_bytes.specs.declared.pairs.Pairs.{Pairs}
 use Rattle.line_rules.specs.Inputs.{IsInput}
 use Rattle.line_rules.specs.Reading.{Entry, pairs_of}
 use Rattle.dump_text.specs.declared.fault.LineFault.{LineFault}
