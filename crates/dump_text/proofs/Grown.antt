@@ -1,6 +1,6 @@
 -- What stands in front stays in front.
-use Rattle.std.proofs.Common.{◌≡◌, ℕ, ◌≤◌, List, ◌++◌, length, take, drop, ap, sym, subst, ◌∙◌, arith}
-use Rattle.std.proofs.lemmas.List.{length-take, take_all, take-append-le, take-append-drop}
+use Rattle.std.proofs.Common.{ℕ, ◌≤◌, List, ◌++◌, length, ap, ◌∙◌, arith}
+use Rattle.std.proofs.lemmas.List.{length-take, take_all, take-append-le}
 use Rattle.dump_text.specs.Growing.{Grew}
 
 pub grew_same : (old : List ℕ) → Grew old old
@@ -10,10 +10,3 @@ pub grew_more : (old new more : List ℕ) → Grew old new → Grew old (new ++ 
 grew_more old new more h =
     let long : length old ≤ length new = omega (arith, length-take (length old) new, ap length h.front) in
     record { front = take-append-le (length old) new more long ∙ h.front }
-
--- what stands in front of what was in front
-pub grew_on : (old middle new : List ℕ) → Grew old middle → Grew middle new → Grew old new
-grew_on old middle new h k =
-    let rest = drop (length middle) new in
-    let parts : middle ++ rest ≡ new = ap (λ (x : List ℕ). x ++ rest) (sym k.front) ∙ take-append-drop (length middle) new in
-    subst (Grew old) parts (grew_more old middle rest h)

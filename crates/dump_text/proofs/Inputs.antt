@@ -1,8 +1,9 @@
 -- An input, a line at a time.
-use Rattle.std.proofs.Common.{◌≡◌, ℕ, zero, suc, ◌+◌, ◌-◌, ◌<◌, ◌≤◌, Bool, true, false, cond, ◌==◌, List, [], ◌∷◌, ◌++◌, length, take, drop, get_or, Result, Ok, Err, nat_lt, nat_le, ◌||◌, ◌&&◌, not, refl, sym, ap, subst, ◌∙◌, append_assoc, arith}
+use Rattle.std.proofs.Common.{◌≡◌, ℕ, zero, suc, ◌+◌, ◌-◌, ◌<◌, ◌≤◌, true, false, cond, ◌==◌, List, [], ◌∷◌, ◌++◌, length, take, drop, get_or, Result, Ok, Err, refl, sym, ap, ◌∙◌, append_assoc, arith}
 use Rattle.std.proofs.lemmas.List.{append-nil, length_push, nil_from_length}
-use Rattle.std.proofs.lemmas.Bool.{false_from_ne_true, not-false, ltb-false, leb-false}
-use Rattle.line_rules.specs.Reading.{Entry, Fault, Line, Place, lines_of, with_first, joined, read_line, read_lines, next_place, Flaw, judged, pair_at, is_pair, size_of, input_limit, pairs_limit, line_limit, is_too_many, TooMany, TooLong, Bad, fields_at, text_of}
+use Rattle.std.proofs.lemmas.Bool.{false_from_ne_true}
+use Rattle.line_rules.specs.Reading.{Entry, Fault, Line, Place, lines_of, joined, read_line, read_lines, next_place, is_pair, size_of}
+use Rattle.line_rules.proofs.ReadLines.{is_read}
 use Rattle.dump_text.specs.declared.fault.LineFault.{LineFault}
 use Rattle.dump_text.specs.declared.fault.LineFault.TheVariants as errors
 use Rattle.dump_text.specs.Reading.{Fails}
@@ -62,62 +63,13 @@ whole_line (suc n) (byte ∷ rest) h none e =
 pub last_line : (bytes : List ℕ) → 0 < length bytes → ((k : ℕ) → k < length bytes → IsLineFeed bytes k → ⊥) → lines_of bytes ≡ record { bytes = bytes; is_whole = false } ∷ lines_of []
 unfolding lines_of
 last_line [] h none = absurd (omega arith)
-last_line (byte ∷ []) h none = 
+last_line (byte ∷ []) h none =
     let other : (byte == 10) ≡ false = false_from_ne_true (byte == 10) (none 0 (omega arith)) in
     rw other refl
 last_line (byte ∷ next ∷ rest) h none =
     let other : (byte == 10) ≡ false = false_from_ne_true (byte == 10) (none 0 (omega arith)) in
     let later = last_line (next ∷ rest) (omega arith) (λ k l. none (suc k) (omega arith)) in
     rw (other, later) refl
-
--- ---- what a line that was read tells
-
-judged_ok : (number : ℕ) (read : Result Entry Flaw) (entry : Entry) → judged number read ≡ Ok entry → read ≡ Ok entry
-judged_ok number (Ok other) entry e = cc
-judged_ok number (Err flaw) entry e = absurd cc
-
-guard_ok : {A E : Type 0} (test : Bool) (fault : E) (read : Result A E) (value : A) → cond test (Err fault) read ≡ Ok value → (test ≡ false) × (read ≡ Ok value)
-guard_ok true fault read value e = absurd cc
-guard_ok false fault read value e = (refl, e)
-
-pair_is_pair : (line : Line) (bytes : List ℕ) (entry : Entry) → pair_at line bytes ≡ Ok entry → is_pair bytes ≡ true
-unfolding pair_at
-pair_is_pair line [] entry e = absurd cc
-pair_is_pair line (kind ∷ []) entry e = absurd cc
-pair_is_pair line (kind ∷ gap ∷ fields) entry e =
-    not-false (kind == 75) (guard_ok (not (kind == 75)) (Bad 0) (cond (not (gap == 32)) (Err (Bad 1)) (fields_at line (text_of fields))) entry e).0
-
-neither : (a b : Bool) → (a || b) ≡ false → (a ≡ false) × (b ≡ false)
-neither true b e = absurd cc
-neither false b e = (refl, e)
-
-not_both : (a b : Bool) → a ≡ true → (a && b) ≡ false → b ≡ false
-not_both true b h e = e
-not_both false b h e = absurd cc
-
--- a line that was read is one of a pair, within the limits
-pub record IsRead (place : Place) (line : Line) (entry : Entry) : Type 0 where
-  pub size : place.bytes + size_of line ≤ input_limit
-  pub few : place.pairs < pairs_limit
-  pub short : length line.bytes ≤ line_limit
-  pub pair : is_pair line.bytes ≡ true
-  pub read : pair_at line line.bytes ≡ Ok entry
-
-pub is_read : (place : Place) (line : Line) (entry : Entry) → read_line place line ≡ Ok entry → IsRead place line entry
-unfolding read_line
-is_read place line entry e =
-    let many = guard_ok (is_too_many place line) (TooMany place.number) (cond (nat_lt line_limit (length line.bytes)) (Err (TooLong place.number)) (judged place.number (pair_at line line.bytes))) entry e in
-    let long = guard_ok (nat_lt line_limit (length line.bytes)) (TooLong place.number) (judged place.number (pair_at line line.bytes)) entry many.1 in
-    let read = judged_ok place.number (pair_at line line.bytes) entry long.1 in
-    let pair = pair_is_pair line line.bytes entry read in
-    let limits = neither (nat_lt input_limit (place.bytes + size_of line)) (is_pair line.bytes && nat_le pairs_limit place.pairs) many.0 in
-    record {
-      size = ltb-false input_limit (place.bytes + size_of line) limits.0;
-      few = leb-false pairs_limit place.pairs (not_both (is_pair line.bytes) (nat_le pairs_limit place.pairs) pair limits.1);
-      short = ltb-false line_limit (length line.bytes) long.0;
-      pair = pair;
-      read = read;
-    }
 
 -- ---- a line of the input, and what is left behind it
 

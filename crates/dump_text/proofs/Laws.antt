@@ -1,31 +1,24 @@
 -- An input that was read is the lines of its pairs, and the lines of pairs are read as these pairs.
-use Rattle.std.proofs.Common.{◌≡◌, ℕ, zero, suc, ◌+◌, ◌-◌, ◌*◌, ◌/◌, ◌%◌, ◌<◌, ◌≤◌, Bool, true, false, cond, not, ◌&&◌, ◌||◌, ◌==◌, ltb, nat_lt, nat_le, List, [], ◌∷◌, ◌++◌, length, flat_map, Result, Ok, Err, refl, sym, ap, subst, ◌∙◌, append_assoc, arith, All}
+use Rattle.std.proofs.Common.{◌≡◌, ℕ, ◌+◌, ◌*◌, ◌/◌, ◌%◌, ◌<◌, ◌≤◌, Bool, true, false, cond, not, ◌||◌, ◌==◌, nat_lt, nat_le, List, [], ◌∷◌, ◌++◌, length, flat_map, Result, Ok, Err, refl, sym, ap, subst, ◌∙◌, append_assoc, arith}
 use Rattle.std.specs.List.{AllByRecursion}
-use Rattle.std.proofs.lemmas.Bool.{eqb-true, ltb-true, lt-ltb, ltb-false, le-ltb, lt-leb, not-true, not-false}
+use Rattle.std.proofs.lemmas.Bool.{eqb-true, ltb-false, le-ltb, lt-leb, not-false}
 use Rattle.std.proofs.lemmas.Bool.Decides.{nat_tests}
 use Rattle.std.proofs.lemmas.List.{append-nil, length-append}
 use Rattle.std.proofs.lemmas.List.Elements.{All-from_recursion, recursion_from_All}
 use Rattle.key_bytes.specs.Keys.{IsByteString, key_lt, top}
 use Rattle.line_rules.specs.Inputs.{pair_lines, IsSmall, IsInput}
 use Rattle.line_rules.specs.Printing.{separator, printed, printable, hexadecimal_digit, is_plain, backslash, pair_line}
-use Rattle.line_rules.specs.Reading.{Text, text_of, Stop, AtEnd, AtSeparator, AtFault, Line, Flaw, Bad, Long, Entry, pair_within, place_of, value_at, key_at, fields_at, pair_at, lines_of, with_first, size_of, is_pair, Fault, Place, start, next_place, read_line, read_lines, joined, pairs_of, input_limit, pairs_limit, line_limit, key_limit, value_limit}
+use Rattle.line_rules.specs.Reading.{Text, text_of, Stop, AtEnd, AtSeparator, AtFault, Line, Flaw, Bad, Long, Entry, pair_within, value_at, key_at, fields_at, pair_at, lines_of, with_first, size_of, Fault, Place, start, next_place, read_line, read_lines, joined, pairs_of, input_limit, pairs_limit, line_limit, key_limit, value_limit}
 use Rattle.dump_text.proofs.Pieces.{with_front, text_empty, text_parted}
-use Rattle.dump_text.proofs.Printed.{ending, IsSpelled, text_was, text_printed}
-use Rattle.dump_text.proofs.Inputs.{IsRead, is_read}
+use Rattle.dump_text.proofs.Printed.{ending, text_was, text_printed}
+use Rattle.line_rules.proofs.Lines.{IsFeedless, IsFeedless-append, whole_first}
+use Rattle.line_rules.proofs.ReadLines.{guard_ok, neither, is_read}
 
 -- ---- a pair that was read
-
-guard_ok : {A E : Type 0} (test : Bool) (fault : E) (read : Result A E) (value : A) → cond test (Err fault) read ≡ Ok value → (test ≡ false) × (read ≡ Ok value)
-guard_ok true fault read value e = absurd cc
-guard_ok false fault read value e = (refl, e)
 
 choice_ok : {A E : Type 0} (test : Bool) (fault : E) (read : Result A E) (value : A) → cond test read (Err fault) ≡ Ok value → (test ≡ true) × (read ≡ Ok value)
 choice_ok true fault read value e = (refl, e)
 choice_ok false fault read value e = absurd cc
-
-neither : (a b : Bool) → (a || b) ≡ false → (a ≡ false) × (b ≡ false)
-neither true b e = absurd cc
-neither false b e = (refl, e)
 
 abbrev pub found : Entry → Result Entry Flaw
 found entry = Ok entry
@@ -180,10 +173,10 @@ length-printed byte =
     elim (is_plain byte) as (λ p. is_plain byte ≡ p → length (printed byte) ≤ 4) [
       | true ↦ λ p. rw p (omega arith)
       | false ↦ λ p.
-        elim (byte == backslash) as (λ b. (byte == backslash) ≡ b → length (printed byte) ≤ 4) [
-          | true ↦ λ b. rw (p, b) (omega arith)
-          | false ↦ λ b. rw (p, b) (omega arith)
-        ] refl
+          elim (byte == backslash) as (λ b. (byte == backslash) ≡ b → length (printed byte) ≤ 4) [
+            | true ↦ λ b. rw (p, b) (omega arith)
+            | false ↦ λ b. rw (p, b) (omega arith)
+          ] refl
     ] refl
 
 length-printable : (bytes : List ℕ) → length (printable bytes) ≤ 4 * length bytes
@@ -214,13 +207,6 @@ pair_again line entry whole small =
 
 -- ---- lines without a line feed in them
 
-abbrev IsFeedless : List ℕ → Type 0
-IsFeedless bytes = AllByRecursion (λ b. (b == 10) ≡ false) bytes
-
-feedless-append : (xs ys : List ℕ) → IsFeedless xs → IsFeedless ys → IsFeedless (xs ++ ys)
-feedless-append [] ys h k = k
-feedless-append (x ∷ xs) ys h k = (h.0, feedless-append xs ys h.1 k)
-
 feedless_digit : (n : ℕ) → (hexadecimal_digit n == 10) ≡ false
 feedless_digit n = grind (arith, nat_tests)
 
@@ -232,26 +218,20 @@ feedless_printed byte =
     elim (is_plain byte) as (λ p. is_plain byte ≡ p → IsFeedless (printed byte)) [
       | true ↦ λ p. rw p (feedless_plain byte p, tt)
       | false ↦ λ p.
-        elim (byte == backslash) as (λ b. (byte == backslash) ≡ b → IsFeedless (printed byte)) [
-          | true ↦ λ b. rw (p, b) (refl, (refl, tt))
-          | false ↦ λ b. rw (p, b) (refl, (refl, (feedless_digit (byte / 16), (feedless_digit (byte % 16), tt))))
-        ] refl
+          elim (byte == backslash) as (λ b. (byte == backslash) ≡ b → IsFeedless (printed byte)) [
+            | true ↦ λ b. rw (p, b) (refl, (refl, tt))
+            | false ↦ λ b. rw (p, b) (refl, (refl, (feedless_digit (byte / 16), (feedless_digit (byte % 16), tt))))
+          ] refl
     ] refl
 
 feedless_printable : (bytes : List ℕ) → IsFeedless (printable bytes)
 unfolding printable
 feedless_printable [] = tt
-feedless_printable (byte ∷ bytes) = feedless-append (printed byte) (printable bytes) (feedless_printed byte) (feedless_printable bytes)
+feedless_printable (byte ∷ bytes) = IsFeedless-append (printed byte) (printable bytes) (feedless_printed byte) (feedless_printable bytes)
 
 feedless_content : (entry : Entry) → IsFeedless (content entry)
 feedless_content entry =
-    (refl, (refl, feedless-append (printable entry.0 ++ separator) (printable entry.1) (feedless-append (printable entry.0) separator (feedless_printable entry.0) (refl, (refl, tt))) (feedless_printable entry.1)))
-
--- bytes without a line feed, and one behind them, are one line
-line_first : (bytes rest : List ℕ) → IsFeedless bytes → lines_of ((bytes ++ 10 ∷ []) ++ rest) ≡ record { bytes = bytes; is_whole = true } ∷ lines_of rest
-unfolding lines_of
-line_first [] rest h = refl
-line_first (byte ∷ bytes) rest h = rw (h.0, line_first bytes rest h.1) refl
+    (refl, (refl, IsFeedless-append (printable entry.0 ++ separator) (printable entry.1) (IsFeedless-append (printable entry.0) separator (feedless_printable entry.0) (refl, (refl, tt))) (feedless_printable entry.1)))
 
 -- the line of a pair as it stands in the rules
 abbrev pub line_for : Entry → Line
@@ -270,7 +250,7 @@ line_again place entry small few size =
     rw (size_test, few_test, short_test, pair_again (line_for entry) entry refl small) refl
 
 first_again : (entry : Entry) (rest : List ℕ) → lines_of (pair_line entry.0 entry.1 ++ rest) ≡ line_for entry ∷ lines_of rest
-first_again entry rest = ap (λ (x : List ℕ). lines_of (x ++ rest)) (pair_line-is entry) ∙ line_first (content entry) rest (feedless_content entry)
+first_again entry rest = ap (λ (x : List ℕ). lines_of (x ++ rest)) (pair_line-is entry) ∙ whole_first (content entry) rest (feedless_content entry)
 
 lines_again : (place : Place) (pairs : List Entry) → AllByRecursion IsSmall pairs → place.pairs + length pairs ≤ pairs_limit → place.bytes + length (pair_lines pairs) ≤ input_limit
     → read_lines place (lines_of (pair_lines pairs)) ≡ Ok pairs
@@ -280,7 +260,7 @@ lines_again place (entry ∷ entries) small few size =
     let rest = pair_lines entries in
     let line = line_for entry in
     let lens : length (pair_line entry.0 entry.1 ++ rest) ≡ size_of line + length rest =
-        length-append (pair_line entry.0 entry.1) rest ∙ ap (λ (n : ℕ). n + length rest) (ap length (pair_line-is entry) ∙ length-append (content entry) (10 ∷ [])) in
+    length-append (pair_line entry.0 entry.1) rest ∙ ap (λ (n : ℕ). n + length rest) (ap length (pair_line-is entry) ∙ length-append (content entry) (10 ∷ [])) in
     let read = line_again place entry small.0 (omega arith) (omega (arith, lens)) in
     let later = lines_again (next_place place line) entries small.1 (omega arith) (omega (arith, lens)) in
     rw (first_again entry rest, read, later) refl

@@ -1,6 +1,6 @@
 -- The printable form, a run or a piece at a time.
-use Rattle.std.proofs.Common.{◌≡◌, ℕ, zero, suc, ◌+◌, ◌<◌, ◌≤◌, Bool, true, false, cond, not, ◌&&◌, ◌==◌, ltb, ◌*◌, List, [], ◌∷◌, ◌++◌, length, take, drop, refl, sym, ap, subst, ◌∙◌, append_assoc, arith, rules}
-use Rattle.std.specs.List.{prefix_len, take_while}
+use Rattle.std.proofs.Common.{◌≡◌, ℕ, zero, suc, ◌+◌, ◌<◌, Bool, true, false, cond, not, ◌&&◌, ◌==◌, ltb, ◌*◌, List, [], ◌∷◌, ◌++◌, length, refl, sym, ap, subst, ◌∙◌, append_assoc, arith}
+use Rattle.std.specs.List.{take_while}
 use Rattle.std.proofs.lemmas.List.{append-nil}
 use Rattle.dump_text.proofs.Runs.{after, passes, fails, length-run}
 use Rattle.line_rules.specs.Printing.{is_plain, backslash, separator}
@@ -69,7 +69,7 @@ text_begun bytes =
     let next : length bytes + 1 ≡ suc (length bytes) = omega arith in
     let one : pieces (length bytes + 1) bytes ≡ begun bytes (piece_at bytes) (pieces (length bytes) (behind (piece_at bytes))) = ap (λ (n : ℕ). pieces n bytes) next in
     one ∙ same_begun bytes (length bytes) (piece_at bytes) (pieces (length bytes) (behind (piece_at bytes))) (text_of (behind (piece_at bytes))) (shorter bytes)
-        (λ l. enough (length bytes) (length (behind (piece_at bytes)) + 1) (behind (piece_at bytes)) l (omega arith))
+    (λ l. enough (length bytes) (length (behind (piece_at bytes)) + 1) (behind (piece_at bytes)) l (omega arith))
 
 -- what stands at each piece
 pub text_spelled : (bytes rest : List ℕ) (byte : ℕ) → piece_at bytes ≡ Spelled byte rest → text_of bytes ≡ with_front (byte ∷ []) (text_of rest)
@@ -95,8 +95,8 @@ run_with p step [] = refl
 run_with p step (byte ∷ rest) =
     elim (p byte) as (λ b. p byte ≡ b → text_of (byte ∷ rest) ≡ with_front (take_while p (byte ∷ rest)) (text_of (after p (byte ∷ rest)))) [
       | true ↦ λ e.
-        let parts = passes p byte rest e in
-        step byte rest e ∙ ap (with_front (byte ∷ [])) (run_with p step rest) ∙ rw (parts.0, parts.1) refl
+          let parts = passes p byte rest e in
+          step byte rest e ∙ ap (with_front (byte ∷ [])) (run_with p step rest) ∙ rw (parts.0, parts.1) refl
       | false ↦ λ e. let parts = fails p byte rest e in rw (parts.0, parts.1) refl
     ] refl
 

@@ -1,12 +1,11 @@
 -- What is printed is read as it was, and what is read was printed so.
-use Rattle.std.proofs.Common.{◌≡◌, ℕ, zero, suc, ◌+◌, ◌-◌, ◌*◌, ◌/◌, ◌%◌, ◌<◌, ◌≤◌, Bool, true, false, cond, not, ◌&&◌, ◌==◌, ltb, nat_lt, List, [], ◌∷◌, ◌++◌, length, refl, sym, ap, subst, ◌∙◌, append_assoc, arith, inl, inr}
+use Rattle.std.proofs.Common.{◌≡◌, ℕ, zero, suc, ◌+◌, ◌*◌, ◌/◌, ◌%◌, ◌<◌, Bool, true, false, cond, not, ◌&&◌, ◌==◌, ltb, List, [], ◌∷◌, ◌++◌, length, refl, sym, ap, ◌∙◌, append_assoc, arith}
 use Rattle.std.specs.List.{AllByRecursion}
 use Rattle.std.proofs.lemmas.Bool.{eqb-true, ltb-true, lt-ltb, not-true}
 use Rattle.std.proofs.lemmas.Bool.Decides.{nat_tests}
-use Rattle.std.proofs.lemmas.List.{append-nil}
 use Rattle.line_rules.specs.Printing.{is_plain, backslash, separator, printed, printable, hexadecimal_digit}
 use Rattle.line_rules.specs.Reading.{Piece, Nothing, Spelled, Separator, Unfit, piece_at, hexadecimal_piece, escaped_piece, digit_of, behind, begun, Text, text_of, Stop, AtEnd, AtSeparator, AtFault}
-use Rattle.dump_text.proofs.Pieces.{with_front, text_spelled, text_nothing, text_separator, text_begun, Shorter, shorter}
+use Rattle.dump_text.proofs.Pieces.{with_front, text_spelled, text_begun, Shorter, shorter}
 
 -- ---- digits
 
@@ -34,10 +33,10 @@ piece_printed byte rest h =
     elim (is_plain byte) as (λ p. is_plain byte ≡ p → piece_at (printed byte ++ rest) ≡ Spelled byte rest) [
       | true ↦ λ p. rw (p, p) refl
       | false ↦ λ p.
-        elim (byte == backslash) as (λ b. (byte == backslash) ≡ b → piece_at (printed byte ++ rest) ≡ Spelled byte rest) [
-          | true ↦ λ b. let is : byte ≡ backslash = eqb-true byte backslash b in rw is refl
-          | false ↦ λ b. rw (p, b) (spelled_hexadecimal byte rest h p b)
-        ] refl
+          elim (byte == backslash) as (λ b. (byte == backslash) ≡ b → piece_at (printed byte ++ rest) ≡ Spelled byte rest) [
+            | true ↦ λ b. let is : byte ≡ backslash = eqb-true byte backslash b in rw is refl
+            | false ↦ λ b. rw (p, b) (spelled_hexadecimal byte rest h p b)
+          ] refl
     ] refl
 
 pub text_printed : (bytes rest : List ℕ) → AllByRecursion (λ b. b < 256) bytes → text_of (printable bytes ++ rest) ≡ with_front bytes (text_of rest)
@@ -83,12 +82,12 @@ spells_hexadecimal high low rest =
     let byte = 16 * digit_of high + digit_of low in
     spells_cond (backslash ∷ 120 ∷ high ∷ low ∷ rest) (ltb (digit_of high) 16 && ltb (digit_of low) 16 && not (is_plain byte) && not (byte == backslash)) (Spelled byte rest) Unfit
     (λ e.
-      let other = both (ltb (digit_of high) 16 && ltb (digit_of low) 16 && not (is_plain byte)) (not (byte == backslash)) e in
-      let plain = both (ltb (digit_of high) 16 && ltb (digit_of low) 16) (not (is_plain byte)) other.0 in
-      let digits = both (ltb (digit_of high) 16) (ltb (digit_of low) 16) plain.0 in
-      let h : digit_of high < 16 = ltb-true (digit_of high) 16 digits.0 in
-      let l : digit_of low < 16 = ltb-true (digit_of low) 16 digits.1 in
-      (spelled_by high low rest h l (not-true (is_plain byte) plain.1) (not-true (byte == backslash) other.1), omega arith))
+    let other = both (ltb (digit_of high) 16 && ltb (digit_of low) 16 && not (is_plain byte)) (not (byte == backslash)) e in
+    let plain = both (ltb (digit_of high) 16 && ltb (digit_of low) 16) (not (is_plain byte)) other.0 in
+    let digits = both (ltb (digit_of high) 16) (ltb (digit_of low) 16) plain.0 in
+    let h : digit_of high < 16 = ltb-true (digit_of high) 16 digits.0 in
+    let l : digit_of low < 16 = ltb-true (digit_of low) 16 digits.1 in
+    (spelled_by high low rest h l (not-true (is_plain byte) plain.1) (not-true (byte == backslash) other.1), omega arith))
     (λ e. tt)
 
 spells_hexadecimals : (bytes : List ℕ) → Spells (backslash ∷ 120 ∷ bytes) (hexadecimal_piece bytes)
@@ -105,10 +104,10 @@ spells_escaped (byte ∷ rest) =
     spells_cond whole (byte == backslash) (Spelled backslash rest) separated
     (λ e. (rw (eqb-true byte backslash e) refl, omega arith))
     (λ e. spells_cond whole (byte == 61) (Separator rest) hexadecimal
-      (λ f. rw (eqb-true byte 61 f) refl)
-      (λ f. spells_cond whole (byte == 120) (hexadecimal_piece rest) Unfit
-        (λ g. rw (eqb-true byte 120 g) (spells_hexadecimals rest))
-        (λ g. tt)))
+    (λ f. rw (eqb-true byte 61 f) refl)
+    (λ f. spells_cond whole (byte == 120) (hexadecimal_piece rest) Unfit
+    (λ g. rw (eqb-true byte 120 g) (spells_hexadecimals rest))
+    (λ g. tt)))
 
 pub spells : (bytes : List ℕ) → Spells bytes (piece_at bytes)
 unfolding piece_at
@@ -117,8 +116,8 @@ spells (byte ∷ rest) =
     let escaped = cond (byte == backslash) (escaped_piece rest) Unfit in
     spells_cond (byte ∷ rest) (is_plain byte) (Spelled byte rest) escaped (spells_plain byte rest)
     (λ p. spells_cond (byte ∷ rest) (byte == backslash) (escaped_piece rest) Unfit
-      (λ b. rw (eqb-true byte backslash b) (spells_escaped rest))
-      (λ b. tt))
+    (λ b. rw (eqb-true byte backslash b) (spells_escaped rest))
+    (λ b. tt))
 
 -- ---- a text that was read was printed so
 

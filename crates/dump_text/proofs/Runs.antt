@@ -1,5 +1,5 @@
 -- Runs of bytes that pass a test, and how they are printed.
-use Rattle.std.proofs.Common.{◌≡◌, ℕ, suc, ◌+◌, ◌-◌, ◌<◌, ◌≤◌, Bool, true, false, cond, List, [], ◌∷◌, ◌++◌, length, take, drop, slice_index_or, refl, sym, ap, ◌∙◌, append_assoc, arith}
+use Rattle.std.proofs.Common.{◌≡◌, ℕ, suc, ◌+◌, ◌-◌, ◌<◌, ◌≤◌, Bool, true, false, List, [], ◌∷◌, ◌++◌, length, take, drop, slice_index_or, refl, sym, ap, ◌∙◌, append_assoc, arith}
 use Rattle.std.specs.List.{prefix_len, take_while}
 use Rattle.std.proofs.lemmas.List.{length-append, take-append-drop, append-nil}
 use Rattle.std.proofs.lemmas.Slice.{first_rest}
@@ -68,7 +68,7 @@ print_more to left total h so_far =
     let rest = take (length left - 1) (drop 1 left) in
     let byte = slice_index_or left 0 0 in
     let whole : printable left ≡ printed byte ++ (take_while is_plain rest ++ printable (after is_plain rest)) =
-        ap printable (taken_apart left h) ∙ printable-cons byte rest ∙ ap (λ (x : List ℕ). printed byte ++ x) (printable_run rest) in
+    ap printable (taken_apart left h) ∙ printable-cons byte rest ∙ ap (λ (x : List ℕ). printed byte ++ x) (printable_run rest) in
     append_assoc (to ++ printed byte) (take_while is_plain rest) (printable (after is_plain rest))
     ∙ append_assoc to (printed byte) (take_while is_plain rest ++ printable (after is_plain rest))
     ∙ ap (λ (x : List ℕ). to ++ x) (sym whole) ∙ so_far

@@ -1,5 +1,5 @@
 -- What the program's pieces and texts stand for.
-use Rattle.std.specs.Prelude.{ℕ, List}
+use Rattle.std.specs.Prelude.{ℕ}
 use Rattle.line_rules.specs.Reading as reading
 use Rattle.dump_text.specs.declared.text.Piece.{Piece}
 use Rattle.dump_text.specs.declared.text.Piece.TheVariants as pieces

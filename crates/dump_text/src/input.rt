@@ -1,8 +1,8 @@
 //! Reading of an input, line after line.
 
-ghost use Rattle.std.specs.Prelude.{◌≡◌, ◌+◌, ◌^◌, ◌<◌, ◌∷◌, List, length, Ok, IfOk};
+ghost use Rattle.std.specs.Prelude.{◌≡◌, ℕ, ◌+◌, ◌^◌, ◌<◌, ◌∷◌, ◌++◌, List, length, Ok, IfOk};
 ghost use Rattle.key_bytes.specs.Entries.{entry_of};
-ghost use Rattle.line_rules.specs.Reading.{Entry, size_of, is_too_many, lines_of, read_line, pairs_of};
+ghost use Rattle.line_rules.specs.Reading.{Entry, size_of, is_too_many, lines_of, read_line, pairs_of, input_limit};
 ghost use Rattle.line_rules.specs.Inputs.{IsInput};
 ghost use Rattle.dump_text.specs.Reading.{Gives};
 ghost use Rattle.dump_text.specs.InputLines.{line_is};
@@ -108,6 +108,9 @@ pub fn read_lines(alloc: Global, bytes: &[u8]) -> Result<Pairs, LineFault>
     ensures only { (pairs : List Entry) → IsInput bytes.now pairs → Gives (λ pairs. pairs) result (Ok pairs) }
     // Which fault it is.
     ensures exact { Gives (λ pairs. pairs) result (pairs_of bytes.now) }
+    // Bytes behind the first one past the limit change nothing.
+    ensures past { (rest : List ℕ) → input_limit < length bytes.now
+        → Gives (λ pairs. pairs) result (pairs_of (bytes.now ++ rest)) }
 {
     read_pairs(alloc, bytes)
 }

@@ -1,9 +1,9 @@
 //! The lines of a dump.
 
-use key_bytes::{Bytes, Key};
-
 ghost use Rattle.std.specs.Prelude.{◌≡◌};
 ghost use Rattle.dump_text.specs.Ends.{word_of};
+
+use key_bytes::{Bytes, Key};
 
 /// How a machine ended.
 #[derive(Clone, Copy, Debug, PartialEq, Eq)]
@@ -59,7 +59,12 @@ pub enum Line {
         word: Bytes,
     },
     /// A place of the order: the machine whose request was taken.
-    O { machine: u16 },
+    O {
+        machine: u16,
+    },
     /// A pair of the database.
-    K { key: Key, value: Bytes },
+    K {
+        key: Key,
+        value: Bytes,
+    },
 }

@@ -139,9 +139,21 @@ pub fn read_text(alloc: Global, bytes: &[u8]) -> Result<Text<'_>, AllocError>
                 add_run(&mut text, run)?;
                 left = after;
             }
-            Piece::Nothing => return Ok(Text { bytes: text, stop: Stop::AtEnd, left }),
-            Piece::Separator(rest) => return Ok(Text { bytes: text, stop: Stop::AtSeparator, left: rest }),
-            Piece::Unfit => return Ok(Text { bytes: text, stop: Stop::AtFault, left }),
+            Piece::Nothing => return Ok(Text {
+                bytes: text,
+                stop: Stop::AtEnd,
+                left,
+            }),
+            Piece::Separator(rest) => return Ok(Text {
+                bytes: text,
+                stop: Stop::AtSeparator,
+                left: rest,
+            }),
+            Piece::Unfit => return Ok(Text {
+                bytes: text,
+                stop: Stop::AtFault,
+                left,
+            }),
         }
     }
 }

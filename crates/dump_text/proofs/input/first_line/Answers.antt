@@ -1,6 +1,5 @@
-use Rattle.std.proofs.Common.{rules, ◌≡◌, ◌+◌, ◌<◌, ◌∷◌, length, ℕ, suc, ◌-◌, ◌≤◌, arith, drop, take, ap, refl, ◌∙◌, sym}
+use Rattle.std.proofs.Common.{◌≡◌, ◌+◌, length, suc, arith}
 use Rattle.std.proofs.lemmas.List.{take_rest, drop_all}
-use Rattle.line_rules.specs.Reading.{lines_of, Line}
 use Rattle.dump_text.proofs.Inputs.{whole_line, last_line}
 use Rattle.dump_text.proofs.input.first_line.Goals as goal
 

@@ -1,11 +1,12 @@
-use Rattle.std.proofs.Common.{rules, ◌≡◌, ◌+◌, ◌<◌, ◌∷◌, ◌++◌, [], Ok, length, ℕ, ◌-◌, ◌≤◌, refl, sym, ◌∙◌, ap, arith}
+use Rattle.std.proofs.Common.{◌≡◌, ◌∷◌, ◌++◌, [], Ok, length, ◌-◌, refl, sym, arith}
 use Rattle.std.proofs.lemmas.Bool.{eqb-true}
 use Rattle.std.proofs.lemmas.List.{length_push}
 use Rattle.std.proofs.lemmas.Result.{err_from_is_err_and}
 use Rattle.key_bytes.specs.Entries.{entry_of}
-use Rattle.line_rules.specs.Reading.{lines_of, read_lines, read_line, pairs_of}
+use Rattle.line_rules.specs.Reading.{read_line, pairs_of}
 use Rattle.dump_text.specs.InputLines.{line_is}
-use Rattle.dump_text.proofs.Inputs.{before, place_at, line_goes_on, line_ends, all_read, before_nothing, is_read}
+use Rattle.dump_text.proofs.Inputs.{place_at, line_goes_on, line_ends, all_read, before_nothing}
+use Rattle.line_rules.proofs.ReadLines.{is_read}
 use Rattle.dump_text.proofs.input.read_pairs.Goals as goal
 
 pub loop-left-init : goal.loop-left-init

@@ -1,4 +1,4 @@
-use Rattle.std.proofs.Common.{rules, ◌≡◌, ◌<◌, ◌++◌, ◌∷◌, [], take, drop, slice_index_or, length, ℕ, ◌+◌, ◌-◌, refl, sym, ap, ◌∙◌, append_assoc, arith}
+use Rattle.std.proofs.Common.{◌≡◌, ◌++◌, take, drop, slice_index_or, length, ◌-◌, refl, append_assoc}
 use Rattle.line_rules.specs.Printing.{is_plain, printed, printable}
 use Rattle.dump_text.proofs.Runs.{printable_run, after_stops, first_fails, print_more, print_done}
 use Rattle.dump_text.proofs.Grown.{grew_same, grew_more}

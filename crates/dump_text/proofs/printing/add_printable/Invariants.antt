@@ -1,5 +1,4 @@
 use Rattle.std.proofs.Common.{◌≡◌, ◌++◌, length}
-use Rattle.std.proofs.Common.{take}
 use Rattle.std.specs.List.{prefix_len}
 use Rattle.line_rules.specs.Printing.{is_plain, printable}
 use Rattle.dump_text.specs.Growing.{Grew}

@@ -1,8 +1,8 @@
-use Rattle.std.proofs.Common.{◌≡◌, ◌≤◌, ◌∷◌, ◌++◌, [], length, ℕ, ◌+◌, ◌-◌, arith, ap, refl, ◌∙◌}
-use Rattle.line_rules.specs.Reading.{piece_at, text_of}
+use Rattle.std.proofs.Common.{◌≡◌, ◌∷◌, ◌++◌, [], length, ◌+◌, arith, refl}
+use Rattle.line_rules.specs.Reading.{text_of}
 use Rattle.line_rules.specs.Printing.{is_plain}
 use Rattle.dump_text.proofs.Runs.{length-run}
-use Rattle.dump_text.proofs.Pieces.{with_front, text_run, step_within, separator_within, read_more, done_nothing, done_separator, done_unfit}
+use Rattle.dump_text.proofs.Pieces.{text_run, step_within, separator_within, read_more, done_nothing, done_separator, done_unfit}
 use Rattle.dump_text.proofs.text.read_text.Goals as goal
 
 pub overflow_add-run : goal.overflow_add-run

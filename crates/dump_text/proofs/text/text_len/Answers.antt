@@ -1,6 +1,5 @@
-use Rattle.std.proofs.Common.{rules, ◌≡◌, ◌≤◌, ◌∷◌, ◌++◌, length, ℕ, List, ◌+◌, ◌-◌, arith, ap, refl, sym, subst, []}
+use Rattle.std.proofs.Common.{◌≡◌, length, ℕ, List, arith, ap, refl, subst, []}
 use Rattle.line_rules.specs.Reading.{piece_at, text_of, Text}
-use Rattle.line_rules.specs.Printing.{is_plain}
 use Rattle.dump_text.proofs.Runs.{length-run}
 use Rattle.dump_text.proofs.Pieces.{text_run, text_step, step_within, none_read, IsSpelled}
 use Rattle.std.proofs.lemmas.List.{length-append}
@@ -41,6 +40,6 @@ loop-rest-preserved c =
     }
 
 pub returns-clause-value : goal.returns-clause-value
-returns-clause-value c = 
+returns-clause-value c =
     let none = ended c.piece_of.result c.loop-rest.left.now c.piece_of.ensures c.in_default.not-Spelled in
     omega (arith, ap length none)
