@@ -1,5 +1,5 @@
 -- An input that is longer than its limit is refused, and its first bytes past the limit decide how.
-use Rattle.std.proofs.Common.{◌≡◌, ℕ, zero, suc, ◌+◌, ◌<◌, ◌≤◌, Bool, true, false, ltb, ◌⊎◌, inl, inr, List, [], ◌∷◌, ◌++◌, length, Result, Ok, Err, refl, sym, ap, subst, ◌∙◌, append_assoc, arith}
+use Rattle.std.proofs.Common.{◌≡◌, ℕ, zero, suc, ◌+◌, ◌<◌, ◌≤◌, true, ltb, ◌⊎◌, inl, inr, List, [], ◌∷◌, ◌++◌, length, Result, Ok, Err, refl, sym, ap, subst, ◌∙◌, append_assoc, arith}
 use Rattle.std.specs.Prelude.{IsErr}
 use Rattle.std.proofs.lemmas.Bool.{lt-ltb}
 use Rattle.std.proofs.lemmas.List.{append-nil, length-append}
@@ -37,9 +37,9 @@ by_feed n place front rest short within past (inl h) later =
     let lens : length front ≡ size_of line + length h.rest = ap length h.parts ∙ length-append (h.line ++ 10 ∷ []) h.rest ∙ ap (λ (k : ℕ). k + length h.rest) (length-append h.line (10 ∷ [])) in
     let here : lines_of front ≡ line ∷ lines_of h.rest = ap lines_of h.parts ∙ whole_first h.line h.rest h.feedless in
     let there : lines_of (front ++ rest) ≡ line ∷ lines_of (h.rest ++ rest) =
-        ap (λ (x : List ℕ). lines_of (x ++ rest)) h.parts ∙ ap lines_of (append_assoc (h.line ++ 10 ∷ []) h.rest rest) ∙ whole_first h.line (h.rest ++ rest) h.feedless in
+    ap (λ (x : List ℕ). lines_of (x ++ rest)) h.parts ∙ ap lines_of (append_assoc (h.line ++ 10 ∷ []) h.rest rest) ∙ whole_first h.line (h.rest ++ rest) h.feedless in
     rw (here, there) (refused_alike (read_line place line) (read_lines (next_place place line) (lines_of h.rest)) (read_lines (next_place place line) (lines_of (h.rest ++ rest)))
-        (λ entry e. let size = (is_read place line entry e).size in later (next_place place line) h.rest (omega arith) size (omega arith)))
+    (λ entry e. let size = (is_read place line entry e).size in later (next_place place line) h.rest (omega arith) size (omega arith)))
 by_feed n place [] rest short within past (inr h) later = absurd (omega arith)
 by_feed n place (byte ∷ bytes) rest short within past (inr h) later =
     let here = too_many place (byte ∷ bytes) (lines_of (byte ∷ bytes)) (subst (λ (x : List ℕ). Begins (byte ∷ bytes) (lines_of x)) (append-nil (byte ∷ bytes)) (begins byte bytes [] h)) past in

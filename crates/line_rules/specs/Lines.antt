@@ -1,8 +1,8 @@
 -- The lines of bytes, from the first line on.
-use Rattle.std.proofs.Common.{◌≡◌, ℕ, suc, ◌+◌, ◌<◌, ◌≤◌, Bool, true, false, cond, ◌==◌, ◌⊎◌, inl, inr, List, [], ◌∷◌, ◌++◌, length, refl, ap, ◌∙◌, arith}
+use Rattle.std.proofs.Common.{◌≡◌, ℕ, ◌≤◌, true, false, ◌==◌, ◌⊎◌, inl, inr, List, [], ◌∷◌, ◌++◌, length, refl, ap, arith}
 use Rattle.std.specs.List.{AllByRecursion}
 use Rattle.std.proofs.lemmas.Bool.{eqb-true}
-use Rattle.line_rules.specs.Reading.{Line, with_first, lines_of, size_of}
+use Rattle.line_rules.specs.Reading.{Line, with_first, lines_of}
 
 -- no byte is a line feed
 abbrev pub IsFeedless : List ℕ → Type 0

@@ -1,7 +1,7 @@
 -- What it tells that a line was read.
 use Rattle.std.proofs.Common.{◌≡◌, ℕ, ◌+◌, ◌<◌, ◌≤◌, Bool, true, false, cond, not, ◌&&◌, ◌||◌, ◌==◌, nat_lt, nat_le, List, [], ◌∷◌, length, Result, Ok, Err, refl}
 use Rattle.std.proofs.lemmas.Bool.{not-false, ltb-false, leb-false}
-use Rattle.line_rules.specs.Reading.{Entry, Fault, Flaw, Bad, TooMany, TooLong, Line, Place, size_of, is_pair, is_too_many, text_of, fields_at, pair_at, judged, read_line, input_limit, pairs_limit, line_limit}
+use Rattle.line_rules.specs.Reading.{Entry, Flaw, Bad, TooMany, TooLong, Line, Place, size_of, is_pair, is_too_many, text_of, fields_at, pair_at, judged, read_line, input_limit, pairs_limit, line_limit}
 
 -- a test that did not fail
 pub guard_ok : {A E : Type 0} (test : Bool) (fault : E) (read : Result A E) (value : A) → cond test (Err fault) read ≡ Ok value → (test ≡ false) × (read ≡ Ok value)

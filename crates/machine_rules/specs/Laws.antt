@@ -1,6 +1,6 @@
 -- What follows from the definitions of machines and runs, for the layers above.
 use Rattle.std.specs.Prelude.{◌≡◌, ℕ, zero, suc, ◌+◌, ◌-◌, ◌<◌, Bool, true, false, List, [], ◌∷◌, ◌++◌, length, Option, Some, None, option_and_then, slice_get, cond, refl}
-use Rattle.std.proofs.Common.{sym, ap, ◌∙◌, subst, add-one, arith}
+use Rattle.std.proofs.Common.{sym, ap, ◌∙◌, add-one, arith}
 use Rattle.std.proofs.lemmas.Option.{slice_get_within}
 use Rattle.fdb_calls.specs.declared.Code.{Code}
 use Rattle.fdb_calls.specs.declared.Request.{Request}
@@ -8,7 +8,6 @@ use Rattle.fdb_calls.specs.declared.Reply.{Reply}
 use Rattle.fdb_calls.specs.declared.Reply.TheVariants as reply
 use Rattle.machine_rules.specs.declared.Awaits.{Awaits}
 use Rattle.machine_rules.specs.declared.Awaits.TheVariants as awaits
-use Rattle.machine_rules.specs.declared.End.{End}
 use Rattle.machine_rules.specs.declared.State.{State}
 use Rattle.machine_rules.specs.declared.State.TheVariants as state
 use Rattle.machine_rules.specs.declared.Instruction.{Instruction}
