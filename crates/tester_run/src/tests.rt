@@ -1,7 +1,7 @@
 use super::*;
 use dump_text::Order;
 use key_bytes::Bytes;
-use outside::{MemSink, MemSource, OpenGate, Taken, Source};
+use outside::{MemSink, MemSource, OpenGate, Source, Taken};
 use std::alloc::{AllocError, Global};
 use std::sync::Wait;
 use std::test::Fail;
@@ -9,7 +9,7 @@ use std::thread::Threads;
 
 // What a call of `tester` did: how it ended, what it wrote, and the first byte that it left of its input.
 #[derive(Drop)]
-struct Ran {
+struct Report {
     status: u8,
     order: Order,
     written: Bytes,
@@ -62,12 +62,12 @@ fn ran_on<R: Threads + Wait>(
     args: &ArgWords,
     mut source: MemSource,
     mut out: MemSink,
-) -> Result<Ran, AllocError> {
+) -> Result<Report, AllocError> {
     let mut err = MemSink::new(alloc, 0, 1, &[])?;
     let outcome = tester(rt, alloc, args, &mut source, &mut out, &mut err, &OpenGate);
     let mut first = [0];
     let left = source.read(&mut first);
-    Ok(Ran {
+    Ok(Report {
         status: outcome.status,
         order: outcome.order,
         written: Bytes::from_slice(alloc, out.written())?,
@@ -81,7 +81,7 @@ fn ran<R: Threads + Wait>(
     alloc: Global,
     words: &[&str],
     input: &[u8],
-) -> Result<Ran, AllocError> {
+) -> Result<Report, AllocError> {
     let args = args_of(alloc, words)?;
     let source = MemSource::new(alloc, input, 7, &[])?;
     let out = MemSink::new(alloc, 10_000, 10, &[])?;
@@ -112,10 +112,25 @@ fn runs_and_writes_the_dump(rt: HostRuntime) -> Result<(), Fail> {
 #[test]
 fn judges_the_words_before_it_reads(rt: HostRuntime) -> Result<(), Fail> {
     for (words, status, left, dump) in [
-        (["run", "-", "630"].as_slice(), 0, None, b"M 0 ended 0 -\nK a\\=b\n".as_slice()),
-        (["run", "p", "620"].as_slice(), 1, Some(b'K'), b"".as_slice()),
+        (
+            ["run", "-", "630"].as_slice(),
+            0,
+            None,
+            b"M 0 ended 0 -\nK a\\=b\n".as_slice(),
+        ),
+        (
+            ["run", "p", "620"].as_slice(),
+            1,
+            Some(b'K'),
+            b"".as_slice(),
+        ),
         (["run", "p"].as_slice(), 1, Some(b'K'), b"".as_slice()),
-        (["run", "-x", "630"].as_slice(), 1, Some(b'K'), b"".as_slice()),
+        (
+            ["run", "-x", "630"].as_slice(),
+            1,
+            Some(b'K'),
+            b"".as_slice(),
+        ),
         ([].as_slice(), 1, Some(b'K'), b"".as_slice()),
     ] {
         let ran = ran(&rt, rt.alloc(), words, b"K a\\=b\n")?;
@@ -151,7 +166,10 @@ fn tells_a_failing_source_and_a_failing_sink(rt: HostRuntime) -> Result<(), Fail
         let out = MemSink::new(alloc, 10_000, 10, writes)?;
         let ran = ran_on(&rt, alloc, &args, source, out)?;
         assert_eq!(rt; (ran.status, ran.written.len()), (status, len));
-        assert!(rt; ONE_KEY_SET.starts_with(ran.written.as_slice()), "at status {status}");
+        assert!(rt;
+            ONE_KEY_SET.starts_with(ran.written.as_slice()),
+            "at status {status}"
+        );
     }
     Ok(())
 }
