@@ -114,7 +114,11 @@ fn keys_and_values_have_limits(rt: HostRuntime) -> Result<(), Fail> {
         (10_001, 100_001, 2102),
     ] {
         let request = set_of(alloc, long(alloc, key)?, long(alloc, value)?)?;
-        assert_eq!(rt; apply(&mut core, &request), Some(number), "at {key}, {value}");
+        assert_eq!(rt;
+            apply(&mut core, &request),
+            Some(number),
+            "at {key}, {value}"
+        );
     }
     Ok(())
 }
@@ -130,7 +134,11 @@ fn a_transaction_of_more_than_10_000_000_bytes_is_too_large(rt: HostRuntime) -> 
         }
         let last = set_of(alloc, Bytes::new(alloc), long(alloc, more)?)?;
         assert_eq!(rt; apply(&mut core, &last), Some(0));
-        assert_eq!(rt; apply(&mut core, &commit(alloc)?), Some(number), "at {more} more");
+        assert_eq!(rt;
+            apply(&mut core, &commit(alloc)?),
+            Some(number),
+            "at {more} more"
+        );
     }
     Ok(())
 }
