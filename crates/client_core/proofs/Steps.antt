@@ -1,5 +1,5 @@
 -- What a call leaves of all that a core keeps is what the step leaves of the world.
-use Rattle.std.proofs.Common.{◌≡◌, ℕ, ◌+◌, List, [], ◌∷◌, ◌++◌, length, take, Option, Some, None, refl, sym, ap, subst, ◌∙◌, length-append, arith}
+use Rattle.std.proofs.Common.{◌≡◌, ℕ, ◌+◌, List, [], ◌∷◌, ◌++◌, length, Option, Some, refl, sym, ap, subst, ◌∙◌, length-append, arith}
 use Rattle.std.specs.Prelude.{unwrap_or}
 use Rattle.std.specs.FinMap as finite
 use Rattle.std.proofs.lemmas.List.{take_all}
@@ -10,7 +10,6 @@ use Rattle.fdb_calls.specs.declared.Reply.TheVariants as reply
 use Rattle.database_rules.specs.Databases.{Commit, Database, History, after_commits, do_all, at, last}
 use Rattle.database_rules.specs.Transactions.{Transaction, fresh}
 use Rattle.machine_rules.specs.Worlds.{World, Called, Transactions, transaction_of, stepped, step, called, refusal, call_code}
-use Rattle.machine_rules.specs.Runs.{newest}
 use Rattle.client_core.specs.Stands.{Kept, StandsFor, Answers}
 use Rattle.client_core.specs.Calls.{Calls, Takes, TakesRequest, name_of, call_of}
 

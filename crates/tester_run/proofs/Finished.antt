@@ -2,7 +2,6 @@
 use Rattle.std.proofs.Common.{◌≡◌, ℕ, Bool, true, false, ◌&&◌, cond, subst, List, [], ◌∷◌, ◌++◌, Some, refl, sym, ap, ◌∙◌}
 use Rattle.std.specs.Prelude.{IsTrue}
 use Rattle.std.specs.List.{flat_map}
-use Rattle.std.specs.FinMap as finite
 use Rattle.std.proofs.lemmas.List.{append-nil}
 use Rattle.std.proofs.lemmas.List.Concat.{flat_map-cons}
 use Rattle.client_core.specs.Stands.{Kept, StandsFor}
@@ -11,9 +10,9 @@ use Rattle.machine_rules.specs.declared.State.TheVariants as state
 use Rattle.database_rules.specs.Databases.{Database}
 use Rattle.machine_rules.specs.Worlds.{World, begun}
 use Rattle.machine_rules.specs.Machines.{Machine, Progress, silent}
-use Rattle.machine_rules.specs.Runs.{Run, RunsTo, start, started, standing, instructions_in, newest, run_from, is_running, has_stopped, has_ended, is_complete, status_of, end_line, stack_lines, dump}
+use Rattle.machine_rules.specs.Runs.{Run, started, instructions_in, newest, run_from, is_running, has_stopped, has_ended, status_of, end_line, stack_lines, dump}
 use Rattle.machine_rules.specs.Laws.{standing_still}
-use Rattle.line_rules.specs.Printing.{order_line, pair_line}
+use Rattle.line_rules.specs.Printing.{order_line}
 use Rattle.tester_run.specs.Driving.{Leads, run_of}
 use Rattle.tester_run.specs.Dumps.{database_lines, machine_dump}
 use Rattle.tester_run.specs.Rendered.{Renders}

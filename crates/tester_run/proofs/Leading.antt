@@ -1,23 +1,22 @@
 -- Each step of the machine leads to the same run, and each request taken leads one place further.
-use Rattle.std.proofs.Common.{◌≡◌, ◌≢◌, ℕ, ◌+◌, ◌-◌, ◌<◌, Bool, true, false, cond, List, [], ◌∷◌, ◌++◌, length, Option, Some, None, refl, sym, ap, subst, ◌∙◌, arith}
-use Rattle.std.specs.Prelude.{option_and_then, option_map, slice_set, IsErr}
+use Rattle.std.proofs.Common.{◌≡◌, ◌≢◌, ℕ, ◌+◌, ◌-◌, ◌<◌, Bool, true, false, cond, List, [], ◌∷◌, length, Option, Some, None, refl, sym, ap, subst, ◌∙◌, arith}
+use Rattle.std.specs.Prelude.{option_and_then, option_map}
 use Rattle.fdb_calls.specs.declared.Code.{Code}
 use Rattle.fdb_calls.specs.declared.Request.{Request}
 use Rattle.fdb_calls.specs.declared.Reply.{Reply}
 use Rattle.fdb_calls.specs.declared.Reply.TheVariants as reply
 use Rattle.client_core.specs.Stands.{Kept, StandsFor, Answers, number_of}
 use Rattle.stack_machine.specs.Held.{Held}
-use Rattle.stack_machine.specs.Steps.{answer_in, answer_by, answer_of, moved, Moves, IsDue}
+use Rattle.stack_machine.specs.Steps.{answer_in, answer_by, answer_of, Moves, IsDue}
 use Rattle.stack_machine.specs.declared.machine.Step.{Step}
 use Rattle.stack_machine.specs.declared.machine.Step.TheVariants as step
-use Rattle.machine_rules.specs.declared.Awaits.{Awaits}
 use Rattle.machine_rules.specs.declared.End.{End}
 use Rattle.machine_rules.specs.declared.State.{State}
 use Rattle.machine_rules.specs.declared.State.TheVariants as state
 use Rattle.machine_rules.specs.Worlds.{World, Stepped, step as world_step, refusal}
 use Rattle.machine_rules.specs.Machines.{Machine, Progress, silent, advance, resumed}
-use Rattle.machine_rules.specs.Runs.{Run, start, standing, taken, take_place, replied, run_from, is_running, has_stopped}
-use Rattle.machine_rules.specs.Laws.{is_awaiting, Finishes, advance_finishes, advance_asks, advance_quiet, advance_still, advance_asks_inside, resumed_goes, resumed_same, refused_rests, standing_again, standing_stops, standing_asks, standing_refused, run_from-append}
+use Rattle.machine_rules.specs.Runs.{Run, start, standing, take_place, replied, run_from, is_running, has_stopped}
+use Rattle.machine_rules.specs.Laws.{is_awaiting, advance_finishes, advance_asks, advance_quiet, advance_still, advance_asks_inside, resumed_goes, resumed_same, standing_again, standing_stops, standing_asks, standing_refused, run_from-append}
 use Rattle.tester_run.specs.Driving.{run_of, Leads, GoesOn, GoesOnFromAsking, IsNearerThanAsking, ComesToAsk, Takes, work_left}
 
 -- ---- what an answer of a step says

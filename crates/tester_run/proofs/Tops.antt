@@ -1,13 +1,12 @@
 -- What the parts of the top call say together.
-use Rattle.std.proofs.Common.{◌≡◌, ◌≢◌, ℕ, ◌<◌, Bool, true, false, cond, ⊎_elim, List, [], ◌∷◌, ◌++◌, length, Option, Some, None, Result, Ok, Err, refl, sym, ap, subst, ◌∙◌, inl, inr, ◌⊎◌, arith}
-use Rattle.std.specs.Prelude.{IfSome, IsErr, ⊤}
+use Rattle.std.proofs.Common.{◌≡◌, ◌≢◌, ℕ, ◌<◌, Bool, true, false, cond, ⊎_elim, List, [], length, Option, Some, None, Result, Ok, Err, refl, sym, ap, subst, ◌∙◌, inl, inr, ◌⊎◌, arith}
+use Rattle.std.specs.Prelude.{IfSome, IsErr}
 use Rattle.std.specs.Io.KnownBytes.{Appends, Consumes}
 use Rattle.std.proofs.lemmas.List.{append-nil}
-use Rattle.outside.specs.Streams.{IsFull, AppendsFront}
+use Rattle.outside.specs.Streams.{AppendsFront}
 use Rattle.line_rules.specs.Reading.{Entry, Fault, pairs_of, input_limit}
 use Rattle.line_rules.specs.Limits.{too_long_is_refused}
-use Rattle.machine_rules.specs.declared.State.{State}
-use Rattle.machine_rules.specs.Runs.{Run, RunsTo, status_of, dump, has_ended}
+use Rattle.machine_rules.specs.Runs.{Run, RunsTo, dump, has_ended}
 use Rattle.machine_rules.specs.Machines.{Progress}
 use Rattle.std.specs.List.{list_all}
 use Rattle.tester_run.specs.Inputs.{IsRefusedBy, AreRead}

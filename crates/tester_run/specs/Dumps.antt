@@ -1,5 +1,5 @@
 -- The dump of one machine that has stopped.
-use Rattle.std.specs.Prelude.{ℕ, List, [], ◌∷◌, ◌++◌, flat_map}
+use Rattle.std.specs.Prelude.{ℕ, List, ◌++◌, flat_map}
 use Rattle.std.specs.FinMap as finite
 use Rattle.database_rules.specs.Databases.{Database}
 use Rattle.line_rules.specs.Printing.{order_line, pair_line}

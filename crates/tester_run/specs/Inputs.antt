@@ -1,5 +1,5 @@
 -- Why there is no run.
-use Rattle.std.specs.Prelude.{◌≡◌, ℕ, List, Option, IfSome, Ok, Err, Result, IsErr, ⊤}
+use Rattle.std.specs.Prelude.{◌≡◌, ℕ, List, Option, IfSome, Ok, Result, IsErr, ⊤}
 use Rattle.std.specs.Io.KnownBytes.{IsAtEnd}
 use Rattle.outside.specs.Counts.{Rose}
 use Rattle.line_rules.specs.Reading.{Entry, Fault, pairs_of}

@@ -8,6 +8,8 @@
 mod driving;
 mod dumping;
 mod running;
+#[cfg(test)]
+mod tests;
 mod top;
 mod words;
 

@@ -1,4 +1,3 @@
-use Rattle.std.proofs.Common.{sym, ap}
 use Rattle.tester_run.proofs.Leading.{turn_again, turn_asks, turn_stopped, quiet_goes_on}
 use Rattle.tester_run.proofs.driving.turn.Goals as goal
 

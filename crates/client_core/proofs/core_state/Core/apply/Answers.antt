@@ -7,4 +7,4 @@ pub returns-in-Ok-clause-step : goal.returns-in-Ok-clause-step
 returns-in-Ok-clause-step c = λ world stands.
     let before = subst (λ (k : Kept). StandsFor k world) (sym c.self.view_is) stands in
     takes_step _ c.take.new.self c.args.request.now c.in-Ok.reply c.in-Ok.ensures.step world
-        (record { version = before.version; database = before.database; transactions = before.transactions })
+    (record { version = before.version; database = before.database; transactions = before.transactions })
