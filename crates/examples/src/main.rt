@@ -63,15 +63,7 @@ fn try_script<R: Threads + Wait>(
     let mut source = MemSource::new(alloc, input, PIECE, &[])?;
     let mut out = MemSink::new(alloc, ROOM, PIECE, &[])?;
     let mut err = CleanSink::new(PIECE);
-    let outcome = tester(
-        rt,
-        alloc,
-        &args,
-        &mut source,
-        &mut out,
-        &mut err,
-        &OpenGate,
-    );
+    let outcome = tester(rt, alloc, &args, &mut source, &mut out, &mut err, &OpenGate);
     Ok(judge(outcome.status, script.status, out.written(), dump))
 }
 
