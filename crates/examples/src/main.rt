@@ -11,6 +11,7 @@ use outside::{CleanSink, MemSink, MemSource, OpenGate};
 use scripts::{SCRIPTS, Script};
 use std::alloc::{AllocError, Global};
 use std::process::ExitCode;
+use std::rt::Files;
 use std::sync::Wait;
 use std::thread::Threads;
 use std::{fs, io};
@@ -26,6 +27,7 @@ const PIECE: usize = 16;
 #[derive(Debug, Drop)]
 enum Finding {
     Same,
+    Unread,
     OtherStatus(u8),
     OtherBytes,
 }
@@ -34,21 +36,30 @@ fn main(rt: HostRuntime) -> io::Result<ExitCode> {
     let mut are_same = true;
     for script in SCRIPTS.iter() {
         let name = script.input;
-        let input = fs::read(&rt, name)?;
-        let dump = fs::read(&rt, script.dump)?;
-        match try_script(&rt, rt.alloc(), script, &input, &dump)? {
+        let finding = examine(&rt, script)?;
+        are_same = are_same && matches!(&finding, Finding::Same);
+        match finding {
             Finding::Same => println!(rt; "{name}: ok")?,
-            Finding::OtherStatus(status) => {
-                are_same = false;
-                println!(rt; "{name}: status {status}")?;
-            }
-            Finding::OtherBytes => {
-                are_same = false;
-                println!(rt; "{name}: other bytes than the dump's")?;
-            }
+            Finding::Unread => println!(rt; "{name}: it or its dump isn't in this folder")?,
+            Finding::OtherStatus(status) => println!(rt; "{name}: status {status}")?,
+            Finding::OtherBytes => println!(rt; "{name}: other bytes than the dump's")?,
         }
     }
     Ok(ExitCode::from(if are_same { 0 } else { 1 }))
+}
+
+// Reads a script and its dump from this folder, and runs it.
+fn examine<R: Files + Threads + Wait + AllocGlobal>(
+    rt: &R,
+    script: &Script,
+) -> Result<Finding, AllocError> {
+    let Ok(input) = fs::read(rt, script.input) else {
+        return Ok(Finding::Unread);
+    };
+    let Ok(dump) = fs::read(rt, script.dump) else {
+        return Ok(Finding::Unread);
+    };
+    try_script(rt, rt.alloc(), script, &input, &dump)
 }
 
 // Runs a script over these bytes.
