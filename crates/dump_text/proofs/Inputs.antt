@@ -3,7 +3,7 @@ use Rattle.std.proofs.Common.{◌≡◌, ℕ, zero, suc, ◌+◌, ◌-◌, ◌<�
 use Rattle.std.proofs.lemmas.List.{append-nil, length_push, nil_from_length}
 use Rattle.std.proofs.lemmas.Bool.{false_from_ne_true}
 use Rattle.line_rules.specs.Reading.{Entry, Fault, Line, Place, lines_of, joined, read_line, read_lines, next_place, is_pair, size_of}
-use Rattle.line_rules.proofs.ReadLines.{is_read}
+use Rattle.line_rules.specs.ReadLines.{is_read}
 use Rattle.dump_text.specs.declared.fault.LineFault.{LineFault}
 use Rattle.dump_text.specs.declared.fault.LineFault.TheVariants as errors
 use Rattle.dump_text.specs.Reading.{Fails}

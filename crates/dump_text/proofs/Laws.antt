@@ -11,8 +11,8 @@ use Rattle.line_rules.specs.Printing.{separator, printed, printable, hexadecimal
 use Rattle.line_rules.specs.Reading.{Text, text_of, Stop, AtEnd, AtSeparator, AtFault, Line, Flaw, Bad, Long, Entry, pair_within, value_at, key_at, fields_at, pair_at, lines_of, with_first, size_of, Fault, Place, start, next_place, read_line, read_lines, joined, pairs_of, input_limit, pairs_limit, line_limit, key_limit, value_limit}
 use Rattle.dump_text.proofs.Pieces.{with_front, text_empty, text_parted}
 use Rattle.dump_text.proofs.Printed.{ending, text_was, text_printed}
-use Rattle.line_rules.proofs.Lines.{IsFeedless, IsFeedless-append, whole_first}
-use Rattle.line_rules.proofs.ReadLines.{guard_ok, neither, is_read}
+use Rattle.line_rules.specs.Lines.{IsFeedless, IsFeedless-append, whole_first}
+use Rattle.line_rules.specs.ReadLines.{guard_ok, neither, is_read}
 
 -- ---- a pair that was read
 

@@ -4,7 +4,7 @@ use Rattle.line_rules.specs.Inputs.{IsInput}
 use Rattle.line_rules.specs.Reading.{Entry, pairs_of}
 use Rattle.dump_text.specs.declared.fault.LineFault.{LineFault}
 use Rattle.dump_text.specs.Reading.{Gives}
-use Rattle.line_rules.proofs.Limits.{more_changes_nothing}
+use Rattle.line_rules.specs.Limits.{more_changes_nothing}
 use Rattle.dump_text.proofs.Laws.{input_was, input_again}
 use Rattle.dump_text.proofs.input.read_lines.Goals as goal
 

@@ -6,7 +6,7 @@ use Rattle.key_bytes.specs.Entries.{entry_of}
 use Rattle.line_rules.specs.Reading.{read_line, pairs_of}
 use Rattle.dump_text.specs.InputLines.{line_is}
 use Rattle.dump_text.proofs.Inputs.{place_at, line_goes_on, line_ends, all_read, before_nothing}
-use Rattle.line_rules.proofs.ReadLines.{is_read}
+use Rattle.line_rules.specs.ReadLines.{is_read}
 use Rattle.dump_text.proofs.input.read_pairs.Goals as goal
 
 pub loop-left-init : goal.loop-left-init
