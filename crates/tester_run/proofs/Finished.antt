@@ -10,7 +10,7 @@ use Rattle.machine_rules.specs.declared.State.TheVariants as state
 use Rattle.database_rules.specs.Databases.{Database}
 use Rattle.machine_rules.specs.Worlds.{World, begun}
 use Rattle.machine_rules.specs.Machines.{Machine, Progress, silent}
-use Rattle.machine_rules.specs.Runs.{Run, started, instructions_in, newest, run_from, is_running, has_stopped, has_ended, status_of, end_line, stack_lines, dump}
+use Rattle.machine_rules.specs.Runs.{started, instructions_in, newest, run_from, is_running, has_stopped, has_ended, status_of, end_line, stack_lines, dump}
 use Rattle.machine_rules.specs.Laws.{standing_still}
 use Rattle.line_rules.specs.Printing.{order_line}
 use Rattle.tester_run.specs.Driving.{Leads, run_of}
@@ -38,10 +38,6 @@ stopped_rests (state.Stopped end) e = refl
 
 alone : {X : Type 0} (f : X → List ℕ) (x : X) → flat_map f (x ∷ []) ≡ f x
 alone f x = flat_map-cons f x [] ∙ append-nil (f x)
-
--- the run of one machine that has stopped
-ended_run : World → Machine → Run
-ended_run world machine = record { world = world; machines = silent machine ∷ [] }
 
 dump_alone : (order : List ℕ) (world : World) (machine : Machine) → dump order (record { world = world; machines = silent machine ∷ [] }) ≡ machine_dump machine order (newest world)
 unfolding dump machine_dump

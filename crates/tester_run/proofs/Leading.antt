@@ -7,7 +7,7 @@ use Rattle.fdb_calls.specs.declared.Reply.{Reply}
 use Rattle.fdb_calls.specs.declared.Reply.TheVariants as reply
 use Rattle.client_core.specs.Stands.{Kept, StandsFor, Answers, number_of}
 use Rattle.stack_machine.specs.Held.{Held}
-use Rattle.stack_machine.specs.Steps.{answer_in, answer_by, answer_of, Moves, IsDue}
+use Rattle.stack_machine.specs.Steps.{answer_in, answer_by, answer_of, Moves}
 use Rattle.stack_machine.specs.declared.machine.Step.{Step}
 use Rattle.stack_machine.specs.declared.machine.Step.TheVariants as step
 use Rattle.machine_rules.specs.declared.End.{End}
@@ -46,22 +46,6 @@ stopped_state (Some asked) state end e = absurd cc
 stopped_state None state.Running end e = absurd cc
 stopped_state None (state.Awaiting awaits) end e = absurd cc
 stopped_state None (state.Stopped its_end) end e = (refl, refl, refl)
-
--- a machine that awaits nothing runs or has stopped
-not_awaiting : (state : State) → is_awaiting state ≡ false → is_running state ≡ false → has_stopped state ≡ true
-not_awaiting state.Running e f = absurd cc
-not_awaiting (state.Awaiting awaits) e f = absurd cc
-not_awaiting (state.Stopped end) e f = refl
-
-pub due_reply : (state : State) (given : Reply) → is_awaiting state ≡ true → given ≢ reply.NoMemory → IsDue state (Some given)
-due_reply state.Running given e is = absurd cc
-due_reply (state.Awaiting awaits) given e is = is
-due_reply (state.Stopped end) given e is = absurd cc
-
-pub due_none : (state : State) → is_awaiting state ≡ false → IsDue state None
-due_none state.Running e = tt
-due_none (state.Awaiting awaits) e = absurd cc
-due_none (state.Stopped end) e = tt
 
 -- ---- leading
 
@@ -184,10 +168,6 @@ stands_after : (given : Reply) (core : Kept) (stepped : Stepped) → given ≢ r
 stands_after reply.Done core stepped is answers = answers
 stands_after (reply.Fault code) core stepped is answers = answers
 stands_after reply.NoMemory core stepped is answers = absurd (is refl)
-
-no_code : (code : Option Code) → code ≡ None → option_map number_of code ≡ None
-no_code None e = refl
-no_code (Some code) e = absurd cc
 
 one_place : (run : Run) (progress : Progress) (request : Request) → progress.asks ≡ Some request
     → take_place 0 (record { world = run.world; machines = progress ∷ [] }) ≡ Some (replied (record { world = run.world; machines = progress ∷ [] }) 0 progress.machine (world_step run.world request))

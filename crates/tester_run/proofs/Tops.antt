@@ -6,9 +6,7 @@ use Rattle.std.proofs.lemmas.List.{append-nil}
 use Rattle.outside.specs.Streams.{AppendsFront}
 use Rattle.line_rules.specs.Reading.{Entry, Fault, pairs_of, input_limit}
 use Rattle.line_rules.specs.Limits.{too_long_is_refused}
-use Rattle.machine_rules.specs.Runs.{Run, RunsTo, dump, has_ended}
-use Rattle.machine_rules.specs.Machines.{Progress}
-use Rattle.std.specs.List.{list_all}
+use Rattle.machine_rules.specs.Runs.{Run, RunsTo, dump}
 use Rattle.tester_run.specs.Inputs.{IsRefusedBy, AreRead}
 use Rattle.tester_run.specs.Outcomes.{write_fault, IsFinal, HasRun, Finishes, BreaksOff}
 use Rattle.tester_run.specs.Rendered.{Renders}
@@ -44,9 +42,6 @@ refused_full refusal.Memory left after faults faults_after items is long consume
 final_by : (b : Bool) → IsFinal (cond b 0 3)
 final_by true = inl refl
 final_by false = inr refl
-
-pub renders_final : (pairs : List (List ℕ × List ℕ)) (prefix : List ℕ) (rendered : Rendered) → Renders pairs prefix rendered → IsFinal rendered.status
-renders_final pairs prefix rendered renders = subst IsFinal (sym renders.status_is) (final_by (list_all (λ (p : Progress). has_ended p.machine.state) renders.run.machines))
 
 not_write_fault : (status : ℕ) → IsFinal status → status ≢ write_fault
 not_write_fault status final e = ⊎_elim (λ z. (let h : 0 ≡ 5 = sym z ∙ e in absurd (omega arith))) (λ z. (let h : 3 ≡ 5 = sym z ∙ e in absurd (omega arith))) final
