@@ -103,3 +103,10 @@ fn tuples(rt: HostRuntime) -> Result<(), Fail> {
     assert!(rt; unpack(rt.alloc(), b"")?.is_empty());
     Ok(())
 }
+
+#[test]
+fn a_text_is_its_bytes(rt: HostRuntime) -> Result<(), Fail> {
+    let text = Text::from_str(rt.alloc(), "\u{e9}")?;
+    assert!(rt; text.into_bytes().as_slice() == b"\xC3\xA9".as_slice());
+    Ok(())
+}

@@ -83,6 +83,7 @@ fn inserts_and_removes(rt: HostRuntime) -> Result<(), Fail> {
     assert_eq!(rt; map.insert(key.copy()?, 2)?, Some(1));
     assert_eq!(rt; map.len(), 1);
     assert!(rt; set_value(&mut map, &key, 3));
+    assert!(rt; map.contains_key(&key));
     assert_eq!(rt; map.remove(&key), Some(3));
     assert!(rt; map.is_empty());
     Ok(())
