@@ -1,3 +1,5 @@
 pub mod Keys
+pub mod Successors
+pub mod SuccessorLaws
 pub mod Ranges
 pub mod Entries

@@ -1,11 +1,12 @@
 //! A byte string.
 
-ghost use Rattle.std.specs.Prelude.{◌≡◌, ℕ, ◌<◌, ◌==◌, List, [], ◌∷◌, ◌++◌, Some, length, take, IfOk, OnOk, OnErr, nat_eq};
+ghost use Rattle.std.specs.Prelude.{◌≡◌, ℕ, ◌<◌, ◌==◌, List, [], ◌∷◌, ◌++◌, ◌↔◌, All, Some, length, take, IfOk, IfSome, OnOk, OnErr, nat_eq};
 ghost use Rattle.std.specs.Ordering.{nat_cmp};
 ghost use Rattle.std.specs.Cmp.{partial_equiv_from_equiv};
 ghost use Rattle.std.specs.Cmp.Lexicographic.{pointwise, nat_list_eq_equiv, nat_list_cmp_total, texts_po, texts_ties, slice_cmp};
 ghost use Rattle.std.proofs.Common.{rules};
 ghost use Rattle.key_bytes.specs.Keys.{IsByteString, key_cmp, key_lt, after, begins_with};
+ghost use Rattle.key_bytes.specs.Successors.{strinc, IsLeastAbove};
 
 use std::alloc::{AllocError, Global};
 use std::cmp::Ordering;
@@ -116,6 +117,24 @@ impl Bytes {
         let mut next = self.copy()?;
         next.extend(&[0])?;
         Ok(next)
+    }
+
+    /// The least byte string above every byte string that begins with this one: trailing `FF` bytes are dropped, and
+    /// the last byte that is left is raised by one. None exactly where all bytes are `FF`, or there are none
+    /// (the tuple layer's `strinc`).
+    pub fn strinc(&self) -> Result<Option<Bytes>, AllocError>
+        ensures value { IfOk result (λ next. next ≡ strinc self.now) }
+        ensures above { IfOk result (λ next. IfSome next (IsLeastAbove self.now)) }
+        ensures none { IfOk result (λ next. (next ≡ None) ↔ All (λ byte. byte ≡ 255) self.now) }
+    {
+        match self.items.iter().rposition(|&byte| byte < 255) {
+            None => Ok(None),
+            Some(last) => {
+                let mut next = Bytes::from_slice(*self.items.allocator(), &self.items[..last])?;
+                next.push(self.items[last] + 1)?;
+                Ok(Some(next))
+            }
+        }
     }
 
     /// Whether this byte string begins with `prefix`. It takes no memory.

@@ -24,6 +24,25 @@ fn byte_strings(rt: HostRuntime) -> Result<(), Fail> {
     Ok(())
 }
 
+#[test]
+fn strinc(rt: HostRuntime) -> Result<(), Fail> {
+    let table = [
+        (b"\x61\xFF".as_slice(), Some(b"\x62".as_slice())),
+        (b"\xFF".as_slice(), None),
+        (b"".as_slice(), None),
+        (b"\x61".as_slice(), Some(b"\x62".as_slice())),
+        (
+            b"\x61\xFF\xFF\x62".as_slice(),
+            Some(b"\x61\xFF\xFF\x63".as_slice()),
+        ),
+    ];
+    for (prefix, next) in table {
+        let found = Bytes::from_slice(rt.alloc(), prefix)?.strinc()?;
+        assert_eq!(rt; found.as_ref().map(|found| found.as_slice()), next);
+    }
+    Ok(())
+}
+
 fn range(alloc: Global, begin: &[u8], end: &[u8]) -> Result<KeyRange, Fail> {
     Ok(KeyRange {
         begin: Bytes::from_slice(alloc, begin)?,
