@@ -1,18 +1,31 @@
--- The definitions computed at outside vectors: spellings of integers and strings, and the first faults of readings.
-use Rattle.std.proofs.Common.{◌≡◌, ◌-◌, ◌^◌, [], ◌∷◌, replicate, Ok, Err, pos, negsuc, refl}
+-- The definitions computed at outside vectors: spellings, the first faults of readings, and the place of a versionstamp.
+use Rattle.std.proofs.Common.{◌≡◌, ◌-◌, ◌^◌, List, ℕ, [], ◌∷◌, ◌++◌, replicate, Ok, Err, pos, negsuc, refl}
 use Rattle.std.specs.Str.{is_utf8, chars}
 use lib.Utf8
-use Rattle.fdb_tuple.specs.declared.tuple.Elem.TheVariants as elem
-use Rattle.fdb_tuple.specs.Spelling.{low_first, least_bytes, signed_spelled, int_spelled, spelled, spelling}
-use Rattle.fdb_tuple.specs.Reading.{Truncated, BadCode, NotMinimal, BadUtf8, string_at, bytes_at, text_at, number_low, int_at, coded_at, elements_at, tuple_of}
+use Rattle.fdb_tuple.specs.declared.fault.UnpackFault.TheVariants as unpack
+use Rattle.fdb_tuple.specs.declared.fault.StampPackFault.TheVariants as stamp
+use Rattle.fdb_tuple.specs.Tuples.{Elements, End, Single, Nested, Null, Bytes, Text, Int, Stamp}
+use Rattle.fdb_tuple.specs.Spelling.{low_first, least_bytes, signed_spelled, int_spelled, spelling}
+use Rattle.fdb_tuple.specs.Kinds.{kind_of}
+use Rattle.fdb_tuple.specs.Reading.{string_at, bytes_at, text_at, number_low, short_at, sized_at, coded_at, piece_at, elements_at, read_tuple}
+use Rattle.fdb_tuple.specs.Stamps.{incomplete, stamp_packed}
 
 -- ---- spellings
 
-empty_is : spelling [] ≡ []
+-- the bytes `foo 00 bar`
+foo_bar : List ℕ
+foo_bar = 0x66 ∷ 0x6F ∷ 0x6F ∷ 0 ∷ 0x62 ∷ 0x61 ∷ 0x72 ∷ []
+
+empty_is : spelling End ≡ []
 empty_is = refl
 
-zero_byte_is : spelled (elem.Bytes (0x66 ∷ 0x6F ∷ 0x6F ∷ 0 ∷ 0x62 ∷ 0x61 ∷ 0x72 ∷ [])) ≡ 1 ∷ 0x66 ∷ 0x6F ∷ 0x6F ∷ 0 ∷ 0xFF ∷ 0x62 ∷ 0x61 ∷ 0x72 ∷ 0 ∷ []
+zero_byte_is : spelling (Single (Bytes foo_bar) End) ≡ 0x01 ∷ 0x66 ∷ 0x6F ∷ 0x6F ∷ 0 ∷ 0xFF ∷ 0x62 ∷ 0x61 ∷ 0x72 ∷ 0 ∷ []
+unfolding foo_bar
 zero_byte_is = refl
+
+nested_is : spelling (Nested (Single (Bytes foo_bar) (Single Null (Nested End End))) End) ≡ 0x05 ∷ 0x01 ∷ 0x66 ∷ 0x6F ∷ 0x6F ∷ 0 ∷ 0xFF ∷ 0x62 ∷ 0x61 ∷ 0x72 ∷ 0 ∷ 0 ∷ 0xFF ∷ 0x05 ∷ 0 ∷ 0 ∷ []
+unfolding foo_bar
+nested_is = refl
 
 zero_is : int_spelled (pos 0) ≡ 0x14 ∷ []
 unfolding least_bytes low_first signed_spelled
@@ -64,42 +77,60 @@ least_is = refl
 
 -- ---- readings
 
-not_minimal : tuple_of (0x16 ∷ 0 ∷ 5 ∷ []) ≡ Err (NotMinimal 0)
-unfolding tuple_of elements_at coded_at int_at text_at bytes_at string_at number_low is_utf8 chars
+not_minimal : read_tuple (0x16 ∷ 0 ∷ 5 ∷ []) ≡ Err (unpack.NotMinimal 0)
+unfolding read_tuple elements_at piece_at coded_at kind_of short_at sized_at text_at bytes_at string_at number_low is_utf8 chars
 not_minimal = refl
 
-not_minimal_below : tuple_of (0x13 ∷ 0xFF ∷ []) ≡ Err (NotMinimal 0)
-unfolding tuple_of elements_at coded_at int_at text_at bytes_at string_at number_low is_utf8 chars
-not_minimal_below = refl
-
-truncated_integer : tuple_of (0x16 ∷ 0 ∷ []) ≡ Err (Truncated 2)
-unfolding tuple_of elements_at coded_at int_at text_at bytes_at string_at number_low is_utf8 chars
+truncated_integer : read_tuple (0x16 ∷ 0 ∷ []) ≡ Err (unpack.Truncated 2)
+unfolding read_tuple elements_at piece_at coded_at kind_of short_at sized_at text_at bytes_at string_at number_low is_utf8 chars
 truncated_integer = refl
 
-truncated_string : tuple_of (1 ∷ 0x61 ∷ []) ≡ Err (Truncated 2)
-unfolding tuple_of elements_at coded_at int_at text_at bytes_at string_at number_low is_utf8 chars
+truncated_string : read_tuple (0x01 ∷ 0x61 ∷ []) ≡ Err (unpack.Truncated 2)
+unfolding read_tuple elements_at piece_at coded_at kind_of short_at sized_at text_at bytes_at string_at number_low is_utf8 chars
 truncated_string = refl
 
-truncated_escape : tuple_of (0x14 ∷ 1 ∷ 0 ∷ 0xFF ∷ []) ≡ Err (Truncated 4)
-unfolding tuple_of elements_at coded_at int_at text_at bytes_at string_at number_low is_utf8 chars
-truncated_escape = refl
+missing_end : read_tuple (0x05 ∷ 0x01 ∷ 0x61 ∷ 0 ∷ []) ≡ Err (unpack.Truncated 4)
+unfolding read_tuple elements_at piece_at coded_at kind_of short_at sized_at text_at bytes_at string_at number_low is_utf8 chars
+missing_end = refl
 
-bad_code : tuple_of (0x14 ∷ 0x32 ∷ []) ≡ Err (BadCode 1)
-unfolding tuple_of elements_at coded_at int_at text_at bytes_at string_at number_low is_utf8 chars
+bad_code : read_tuple (0x21 ∷ 0 ∷ []) ≡ Err (unpack.BadCode 0)
+unfolding read_tuple elements_at piece_at coded_at kind_of short_at sized_at text_at bytes_at string_at number_low is_utf8 chars
 bad_code = refl
 
-bad_code_first : tuple_of (0x21 ∷ 0 ∷ []) ≡ Err (BadCode 0)
-unfolding tuple_of elements_at coded_at int_at text_at bytes_at string_at number_low is_utf8 chars
-bad_code_first = refl
+bad_code_later : read_tuple (0x14 ∷ 0x32 ∷ []) ≡ Err (unpack.BadCode 1)
+unfolding read_tuple elements_at piece_at coded_at kind_of short_at sized_at text_at bytes_at string_at number_low is_utf8 chars
+bad_code_later = refl
 
-bad_utf8 : tuple_of (2 ∷ 0xFF ∷ 0 ∷ []) ≡ Err (BadUtf8 0)
-unfolding tuple_of elements_at coded_at int_at text_at bytes_at string_at number_low is_utf8 chars
+bad_utf8 : read_tuple (0x02 ∷ 0xFF ∷ 0 ∷ []) ≡ Err (unpack.BadUtf8 0)
+unfolding read_tuple elements_at piece_at coded_at kind_of short_at sized_at text_at bytes_at string_at number_low is_utf8 chars
 bad_utf8 = refl
 
-bad_utf8_later : tuple_of (0x14 ∷ 2 ∷ 0xFF ∷ 0 ∷ []) ≡ Err (BadUtf8 1)
-unfolding tuple_of elements_at coded_at int_at text_at bytes_at string_at number_low is_utf8 chars
-bad_utf8_later = refl
+long_form_of_8_bytes : read_tuple (0x1D ∷ 8 ∷ replicate 8 1) ≡ Err (unpack.NotMinimal 0)
+unfolding read_tuple elements_at piece_at coded_at kind_of short_at sized_at text_at bytes_at string_at number_low is_utf8 chars
+long_form_of_8_bytes = refl
 
-read_all : tuple_of (2 ∷ 0x61 ∷ 0 ∷ 0x13 ∷ 0xFE ∷ 1 ∷ 0 ∷ 0xFF ∷ 0 ∷ []) ≡ Ok (elem.Text (0x61 ∷ []) ∷ elem.Int (negsuc 0) ∷ elem.Bytes (0 ∷ []) ∷ [])
-unfolding tuple_of elements_at coded_at int_at text_at bytes_at string_at number_low is_utf8 chars lib.Utf8.encode
+too_big : read_tuple (0x1D ∷ 17 ∷ 1 ∷ replicate 16 0) ≡ Err (unpack.TooBig 0)
+unfolding read_tuple elements_at piece_at coded_at kind_of short_at sized_at text_at bytes_at string_at number_low is_utf8 chars
+too_big = refl
+
+read_all : read_tuple (0x02 ∷ 0x61 ∷ 0 ∷ 0x13 ∷ 0xFE ∷ 0 ∷ 0x05 ∷ 0x01 ∷ 0 ∷ 0xFF ∷ 0 ∷ 0 ∷ 0xFF ∷ 0 ∷ []) ≡ Ok (Single (Text (0x61 ∷ [])) (Single (Int (negsuc 0)) (Single Null (Nested (Single (Bytes (0 ∷ [])) (Single Null End)) End))))
+unfolding read_tuple elements_at piece_at coded_at kind_of short_at sized_at text_at bytes_at string_at number_low is_utf8 chars lib.Utf8.encode
 read_all = refl
+
+-- ---- versionstamps
+
+-- the incomplete versionstamp of user order 7, before other elements
+stamped : Elements → Elements
+stamped rest = Single (Stamp incomplete 7) rest
+
+one_stamp : stamp_packed (0x61 ∷ 0x62 ∷ []) (stamped End) ≡ Ok (0x61 ∷ 0x62 ∷ 0x33 ∷ replicate 10 0xFF ++ 0 ∷ 7 ∷ 3 ∷ 0 ∷ 0 ∷ 0 ∷ [])
+unfolding stamp_packed stamped
+one_stamp = refl
+
+no_stamp : stamp_packed (0x61 ∷ 0x62 ∷ []) End ≡ Err stamp.NoStamp
+unfolding stamp_packed
+no_stamp = refl
+
+two_stamps : stamp_packed (0x61 ∷ 0x62 ∷ []) (stamped (stamped End)) ≡ Err stamp.ManyStamps
+unfolding stamp_packed stamped
+two_stamps = refl

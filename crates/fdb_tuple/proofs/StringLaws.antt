@@ -1,43 +1,43 @@
--- A string that is read is spelled so, and a spelling is read again.
-use Rattle.std.proofs.Common.{◌≡◌, ℕ, zero, suc, Bool, true, false, ◌==◌, cond, List, [], ◌∷◌, ◌++◌, Result, Ok, Err, refl, ap, subst}
-use Rattle.std.proofs.lemmas.Bool.{eqb-true}
+-- A string is read exactly where its spelling stands, and refused exactly where it has no end.
+use Rattle.std.proofs.Common.{◌≡◌, ℕ, zero, suc, ◌==◌, List, [], ◌∷◌, ◌++◌, Result, Ok, Err, refl, ap}
+use Rattle.std.proofs.lemmas.Bool.{eqb-true, eqb-false, cond_both}
+use Rattle.fdb_tuple.specs.declared.fault.UnpackFault.{UnpackFault}
+use Rattle.fdb_tuple.specs.declared.fault.UnpackFault.TheVariants as fault
 use Rattle.fdb_tuple.specs.Zeros.{IsNoEscape}
-use Rattle.fdb_tuple.specs.Spelling.{string_spelled}
-use Rattle.fdb_tuple.specs.Reading.{Fault, ◌>>=◌, after_run, string_at}
+use Rattle.fdb_tuple.specs.Spelling.{escaped_byte, escaped, string_spelled}
+use Rattle.fdb_tuple.specs.Reading.{after_run, string_at}
+use Rattle.fdb_tuple.specs.Stops.{HasNoEnd}
 use Rattle.fdb_tuple.proofs.Strings.{string_end}
 
--- the value of a step that did not fail
-pub bind_ok : {A B : Type 0} (r : Result A Fault) (f : A → Result B Fault) (y : B) → (r >>= f) ≡ Ok y → (x : A) × (r ≡ Ok x) × (f x ≡ Ok y)
-bind_ok (Ok x) f y e = (x, refl, e)
-bind_ok (Err d) f y e = absurd cc
+-- what reading a string may give: the string that is spelled first, or that there is no end
+abbrev pub StringIs : ℕ → List ℕ → Result (List ℕ × List ℕ) UnpackFault → Type 0
+StringIs whole bytes (Ok x) = (bytes ≡ string_spelled x.0 ++ x.1) × IsNoEscape x.1
+StringIs whole bytes (Err f) = HasNoEnd bytes × (f ≡ fault.Truncated whole)
 
-abbrev done : {A : Type 0} → A → Result A Fault
-done x = Ok x
+string_goes_on : (whole b : ℕ) (rest : List ℕ) (read : Result (List ℕ × List ℕ) UnpackFault) → StringIs whole rest read → StringIs whole (escaped_byte b ++ rest) (after_run (b ∷ []) read)
+string_goes_on whole zero rest (Ok x) is = (ap (λ (bytes : List ℕ). 0 ∷ 255 ∷ bytes) is.0, is.1)
+string_goes_on whole zero rest (Err f) is = ((0 ∷ is.0.0, ap (λ (bytes : List ℕ). 0 ∷ 255 ∷ bytes) is.0.1), is.1)
+string_goes_on whole (suc b) rest (Ok x) is = (ap (λ (bytes : List ℕ). suc b ∷ bytes) is.0, is.1)
+string_goes_on whole (suc b) rest (Err f) is = ((suc b ∷ is.0.0, ap (λ (bytes : List ℕ). suc b ∷ bytes) is.0.1), is.1)
 
-pub ok_is : {A : Type 0} (x y : A) → done x ≡ done y → x ≡ y
-ok_is x y e = cc
-
-abbrev Spells : List ℕ → List ℕ × List ℕ → Type 0
-Spells bytes x = bytes ≡ string_spelled x.0 ++ x.1
-
-escape_or_end : (whole b : ℕ) (rest : List ℕ) (x : List ℕ × List ℕ) (escape : Bool) → (b == 255) ≡ escape → cond escape (after_run (0 ∷ []) (string_at whole rest)) (Ok ([], b ∷ rest)) ≡ Ok x
-    → ((y : List ℕ × List ℕ) → string_at whole rest ≡ Ok y → Spells rest y) → Spells (0 ∷ b ∷ rest) x
-escape_or_end whole b rest x true test e again =
-    let a = bind_ok (string_at whole rest) (λ s. Ok ((0 ∷ []) ++ s.0, s.1)) x e in
-    rw (eqb-true b 255 test) (subst (Spells (0 ∷ 255 ∷ rest)) (ok_is (0 ∷ a.0.0, a.0.1) x a.2) (ap (λ (t : List ℕ). 0 ∷ 255 ∷ t) (again a.0 a.1)))
-escape_or_end whole b rest x false test e again = subst (Spells (0 ∷ b ∷ rest)) (ok_is ([], b ∷ rest) x e) refl
-
-pub string_takes : (whole : ℕ) (bytes : List ℕ) (x : List ℕ × List ℕ) → string_at whole bytes ≡ Ok x → Spells bytes x
+pub string_found : (whole : ℕ) (bytes : List ℕ) → StringIs whole bytes (string_at whole bytes)
 unfolding string_at
-string_takes whole [] x e = absurd cc
-string_takes whole (suc b ∷ rest) x e =
-    let a = bind_ok (string_at whole rest) (λ s. Ok ((suc b ∷ []) ++ s.0, s.1)) x e in
-    subst (Spells (suc b ∷ rest)) (ok_is (suc b ∷ a.0.0, a.0.1) x a.2) (ap (λ (t : List ℕ). suc b ∷ t) (string_takes whole rest a.0 a.1))
-string_takes whole (zero ∷ []) x e = subst (Spells (0 ∷ [])) (ok_is ([], []) x e) refl
-string_takes whole (zero ∷ b ∷ rest) x e = escape_or_end whole b rest x (b == 255) refl e (string_takes whole rest)
+string_found whole [] = (([], refl), refl)
+string_found whole (suc b ∷ rest) = string_goes_on whole (suc b) rest (string_at whole rest) (string_found whole rest)
+string_found whole (zero ∷ []) = (refl, tt)
+string_found whole (zero ∷ b ∷ rest) =
+    cond_both (b == 255) (after_run (0 ∷ []) (string_at whole rest)) (Ok ([], b ∷ rest)) (StringIs whole (0 ∷ b ∷ rest))
+    (λ escape. rw (eqb-true b 255 escape) (string_goes_on whole zero rest (string_at whole rest) (string_found whole rest)))
+    (λ end. (refl, eqb-false b 255 end))
 
 pub string_again : (whole : ℕ) (string rest : List ℕ) → IsNoEscape rest → string_at whole (string_spelled string ++ rest) ≡ Ok (string, rest)
 unfolding string_at
-string_again whole [] rest h = string_end whole rest h
-string_again whole (zero ∷ string) rest h = ap (after_run (0 ∷ [])) (string_again whole string rest h)
-string_again whole (suc b ∷ string) rest h = ap (after_run (suc b ∷ [])) (string_again whole string rest h)
+string_again whole [] rest end = string_end whole rest end
+string_again whole (zero ∷ string) rest end = ap (after_run (0 ∷ [])) (string_again whole string rest end)
+string_again whole (suc b ∷ string) rest end = ap (after_run (suc b ∷ [])) (string_again whole string rest end)
+
+pub string_open : (whole : ℕ) (string : List ℕ) → string_at whole (escaped string) ≡ Err (fault.Truncated whole)
+unfolding string_at
+string_open whole [] = refl
+string_open whole (zero ∷ string) = ap (after_run (0 ∷ [])) (string_open whole string)
+string_open whole (suc b ∷ string) = ap (after_run (suc b ∷ [])) (string_open whole string)

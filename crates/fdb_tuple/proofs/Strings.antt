@@ -1,21 +1,19 @@
 -- Strings, read run by run.
-use Rattle.std.proofs.Common.{◌≡◌, ℕ, zero, suc, List, [], ◌∷◌, ◌++◌, Result, Ok, Err, refl, sym, ap, ◌∙◌, append_assoc, IsErr}
+use Rattle.std.proofs.Common.{◌≡◌, ℕ, zero, suc, List, [], ◌∷◌, ◌++◌, Result, Ok, Err, refl, sym, ap, ◌∙◌, append_assoc}
 use Rattle.std.proofs.lemmas.Bool.{ne_eqb}
 use Rattle.std.proofs.lemmas.List.{append-nil}
+use Rattle.fdb_tuple.specs.declared.fault.UnpackFault.{UnpackFault}
+use Rattle.fdb_tuple.specs.declared.fault.UnpackFault.TheVariants as fault
 use Rattle.fdb_tuple.specs.Zeros.{HasNoZero, IsNoEscape}
-use Rattle.fdb_tuple.specs.Reading.{Fault, after_run, string_at}
+use Rattle.fdb_tuple.specs.Reading.{after_run, string_at}
 
-after_run-twice : (xs ys : List ℕ) (read : Result (List ℕ × List ℕ) Fault) → after_run xs (after_run ys read) ≡ after_run (xs ++ ys) read
+after_run-twice : (xs ys : List ℕ) (read : Result (List ℕ × List ℕ) UnpackFault) → after_run xs (after_run ys read) ≡ after_run (xs ++ ys) read
 after_run-twice xs ys (Ok r) = ap (λ (s : List ℕ). Ok (s, r.1)) (sym (append_assoc xs ys r.0))
 after_run-twice xs ys (Err f) = refl
 
-after_run-nothing : (read : Result (List ℕ × List ℕ) Fault) → after_run [] read ≡ read
+after_run-nothing : (read : Result (List ℕ × List ℕ) UnpackFault) → after_run [] read ≡ read
 after_run-nothing (Ok r) = refl
 after_run-nothing (Err f) = refl
-
-after_run-err : (xs : List ℕ) (read : Result (List ℕ × List ℕ) Fault) → IsErr read → IsErr (after_run xs read)
-after_run-err xs (Ok r) h = absurd cc
-after_run-err xs (Err f) h = h
 
 string_run : (whole : ℕ) (run rest : List ℕ) → HasNoZero run → string_at whole (run ++ rest) ≡ after_run run (string_at whole rest)
 unfolding string_at
@@ -35,11 +33,11 @@ unfolding string_at
 string_zero whole rest = refl
 
 -- no 00 at all
-string_open : (whole : ℕ) (rest : List ℕ) → HasNoZero rest → IsErr (string_at whole rest)
+string_open : (whole : ℕ) (rest : List ℕ) → HasNoZero rest → string_at whole rest ≡ Err (fault.Truncated whole)
 unfolding string_at
 string_open whole [] h = refl
 string_open whole (zero ∷ rest) h = absurd (h.0 refl)
-string_open whole (suc b ∷ rest) h = after_run-err (suc b ∷ []) (string_at whole rest) (string_open whole rest h.1)
+string_open whole (suc b ∷ rest) h = ap (after_run (suc b ∷ [])) (string_open whole rest h.1)
 
 -- The steps of a loop that has read `out` before `rest`, where a run up to a 00 comes next.
 pub read_last : (whole : ℕ) (bytes out rest run after read : List ℕ) → after_run out (string_at whole rest) ≡ string_at whole bytes → HasNoZero run → rest ≡ run ++ 0 ∷ after → IsNoEscape after → read ≡ out ++ run → string_at whole bytes ≡ Ok (read, after)
@@ -54,5 +52,6 @@ read_more whole bytes out rest run after others read so_far h split escape e =
     let both : after_run read (string_at whole others) ≡ after_run out (string_at whole rest) = rw (e, one, append_assoc) (sym (after_run-twice out (run ++ 0 ∷ []) (string_at whole others))) in
     both ∙ so_far
 
-pub read_open : (whole : ℕ) (bytes out rest : List ℕ) → after_run out (string_at whole rest) ≡ string_at whole bytes → HasNoZero rest → IsErr (string_at whole bytes)
-read_open whole bytes out rest so_far h = rw (← so_far) (after_run-err out (string_at whole rest) (string_open whole rest h))
+-- no 00 comes any more
+pub read_open : (whole : ℕ) (bytes out rest : List ℕ) → after_run out (string_at whole rest) ≡ string_at whole bytes → HasNoZero rest → string_at whole bytes ≡ Err (fault.Truncated whole)
+read_open whole bytes out rest so_far h = sym so_far ∙ ap (after_run out) (string_open whole rest h)

@@ -1,8 +1,8 @@
 -- Byte strings up to their first 00.
-use Rattle.std.proofs.Common.{◌≡◌, ℕ, zero, suc, ◌<◌, ◌≤◌, List, [], ◌∷◌, ◌++◌, length, get_or, take, drop, append_assoc, refl, sym, ap, subst, ◌∙◌, arith, eq-eqb, Some, None}
+use Rattle.std.proofs.Common.{◌≡◌, ℕ, zero, suc, ◌<◌, ◌≤◌, List, [], ◌∷◌, ◌++◌, length, get_or, take, drop, append_assoc, refl, sym, ap, ◌∙◌, arith, eq-eqb, Some}
 use Rattle.std.specs.List.{flat_map}
 use Rattle.std.proofs.lemmas.Bool.{eqb-true}
-use Rattle.std.proofs.lemmas.List.{take_all, drop_more, take-append-drop, append-nil}
+use Rattle.std.proofs.lemmas.List.{drop_more, take-append-drop, append-nil}
 use Rattle.memchr.specs.Find.{IsFirstByte, is_byte}
 use Rattle.fdb_tuple.specs.Zeros.{HasNoZero}
 use Rattle.fdb_tuple.specs.Spelling.{escaped_byte}
@@ -14,10 +14,6 @@ no_zero_within (b ∷ bytes) (suc at) le h = (h 0 (omega arith), no_zero_within 
 
 pub no_zero_before : (bytes : List ℕ) (at : ℕ) → IsFirstByte (is_byte 0) bytes (Some at) → HasNoZero (take at bytes)
 no_zero_before bytes at first = no_zero_within bytes at (omega (arith, first.0.high)) (λ k lt e. first.0.before k (omega arith) lt (eq-eqb _ _ e))
-
-pub no_zero_at_all : (bytes : List ℕ) → IsFirstByte (is_byte 0) bytes None → HasNoZero bytes
-no_zero_at_all bytes none =
-    subst HasNoZero (take_all (length bytes) bytes (omega arith)) (no_zero_within bytes (length bytes) (omega arith) (λ k lt e. none k (omega arith) lt (eq-eqb _ _ e)))
 
 pub split_there : (bytes : List ℕ) (at : ℕ) → IsFirstByte (is_byte 0) bytes (Some at) → bytes ≡ take at bytes ++ 0 ∷ drop 1 (drop at bytes)
 split_there bytes at first =

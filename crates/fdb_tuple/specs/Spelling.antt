@@ -1,10 +1,8 @@
 -- How elements and tuples are spelled as byte strings, by the table of the tuple layer (tuple.md).
-use Rattle.std.specs.Prelude.{ℕ, zero, suc, ◌+◌, ◌-◌, ◌/◌, ◌%◌, ◌^◌, ◌<◌, nat_le, Bool, true, false, if◌then◌else◌, List, [], ◌∷◌, ◌++◌, length, map, reverse, ℤ, unsigned_abs, IsUtf8}
-use Rattle.std.specs.Int.{is_negative}
-use Rattle.std.specs.List.{flat_map, AllByRecursion}
-use Rattle.key_bytes.specs.Keys.{IsByteString}
-use Rattle.fdb_tuple.specs.declared.tuple.Elem.{Elem}
-use Rattle.fdb_tuple.specs.declared.tuple.Elem.TheVariants as elem
+use Rattle.std.specs.Prelude.{ℕ, zero, suc, ◌+◌, ◌-◌, ◌/◌, ◌%◌, nat_le, Bool, true, false, if◌then◌else◌, List, [], ◌∷◌, ◌++◌, length, map, reverse, ℤ, unsigned_abs}
+use Rattle.std.specs.Int.{w16, is_negative, to_be_bytes}
+use Rattle.std.specs.List.{flat_map}
+use Rattle.fdb_tuple.specs.Tuples.{Scalar, Null, Bytes, Text, Int, Boolean, Uuid, Stamp, Elements, End, Single, Nested}
 
 -- ---- strings
 
@@ -13,9 +11,12 @@ abbrev pub escaped_byte : ℕ → List ℕ
 escaped_byte zero = 0 ∷ 0xFF ∷ []
 escaped_byte (suc b) = suc b ∷ []
 
+abbrev pub escaped : List ℕ → List ℕ
+escaped bytes = flat_map escaped_byte bytes
+
 -- the bytes of a string, and the 00 that ends it
 abbrev pub string_spelled : List ℕ → List ℕ
-string_spelled bytes = flat_map escaped_byte bytes ++ 0 ∷ []
+string_spelled bytes = escaped bytes ++ 0 ∷ []
 
 -- ---- integers
 
@@ -51,19 +52,30 @@ int_spelled z = signed_spelled (is_negative z) (least_bytes (unsigned_abs z))
 
 -- ---- elements and tuples
 
-abbrev pub spelled : Elem → List ℕ
-spelled (elem.Bytes bytes) = 1 ∷ string_spelled bytes
-spelled (elem.Text text) = 2 ∷ string_spelled text
-spelled (elem.Int z) = int_spelled z
+-- null: inside a nested tuple an FF follows its 00, since a 00 alone ends the tuple there
+abbrev pub null_spelled : Bool → List ℕ
+null_spelled false = 0 ∷ []
+null_spelled true = 0 ∷ 0xFF ∷ []
 
-abbrev pub spelling : List Elem → List ℕ
-spelling tuple = flat_map spelled tuple
+abbrev pub boolean_spelled : Bool → List ℕ
+boolean_spelled false = 0x26 ∷ []
+boolean_spelled true = 0x27 ∷ []
 
--- an element that `unpack` gives: its bytes are bytes, its text is UTF-8, its integer has a magnitude of at most 8 bytes
-abbrev pub IsBuilt : Elem → Type 0
-IsBuilt (elem.Bytes bytes) = IsByteString bytes
-IsBuilt (elem.Text text) = IsUtf8 text
-IsBuilt (elem.Int z) = unsigned_abs z < 2 ^ 64
+-- a scalar, at the top or inside a nested tuple
+abbrev pub scalar_spelled : Bool → Scalar → List ℕ
+scalar_spelled nested Null = null_spelled nested
+scalar_spelled nested (Bytes bytes) = 0x01 ∷ string_spelled bytes
+scalar_spelled nested (Text text) = 0x02 ∷ string_spelled text
+scalar_spelled nested (Int z) = int_spelled z
+scalar_spelled nested (Boolean value) = boolean_spelled value
+scalar_spelled nested (Uuid bytes) = 0x30 ∷ bytes
+scalar_spelled nested (Stamp stamp user) = 0x33 ∷ stamp ++ to_be_bytes w16 user
 
-abbrev pub AreBuilt : List Elem → Type 0
-AreBuilt tuple = AllByRecursion IsBuilt tuple
+-- elements one after the other, at the top or inside a nested tuple
+abbrev pub spelled_in : Bool → Elements → List ℕ
+spelled_in nested End = []
+spelled_in nested (Single scalar rest) = scalar_spelled nested scalar ++ spelled_in nested rest
+spelled_in nested (Nested inner rest) = 0x05 ∷ spelled_in true inner ++ 0 ∷ spelled_in nested rest
+
+abbrev pub spelling : Elements → List ℕ
+spelling tuple = spelled_in false tuple

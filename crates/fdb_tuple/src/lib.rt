@@ -1,23 +1,37 @@
 //! Tuples, and their spelling as byte strings: the packed form of the tuple layer (tuple.md).
 //!
-//! A tuple is a list of elements. In this crate an element is a byte string, a Unicode string or an integer of
-//! 128 bits. `pack` spells a tuple as a byte string, and `unpack` reads such a spelling and refuses every other
-//! byte string. `specs/Spelling.antt` says how each element is spelled, and `specs/Reading.antt` how a byte
-//! string is read from left to right, and which fault comes first.
+//! A tuple is a list of elements: null, byte strings, Unicode strings, nested tuples, integers of 128 bits, booleans,
+//! UUIDs and versionstamps. `pack` spells a tuple as a byte string; `unpack` reads such a spelling, and refuses every
+//! other byte string by its first fault and its place. `cmp` is the order of tuples, which is that of their packed
+//! bytes. The definitions: `specs/Tuples.antt` (tuples and their depth), `specs/Spelling.antt` (the bytes of each
+//! element), `specs/Stops.antt` (faults), `specs/Order.antt` (the order), `specs/Stamps.antt` (the place of an
+//! incomplete versionstamp).
 #![tactic(auto)]
 
+mod code;
 mod fault;
+mod lengths;
+mod order;
 mod packing;
+mod piece;
+mod places;
+mod putting;
 mod text;
 mod tuple;
 mod unpacking;
 mod zeros;
 
-pub use fault::UnpackFault;
-pub use packing::{pack, pack_element};
+pub use fault::{PushFault, StampPackFault, UnpackFault};
+pub use lengths::packed_len;
+pub use order::cmp;
+pub use packing::{pack, pack_element, pack_into, pack_with_stamp, range};
 pub use text::Text;
-pub use tuple::{Elem, Tuple};
+pub use tuple::{Elem, Tuple, Versionstamp};
 pub use unpacking::unpack;
 
 #[cfg(test)]
 mod tests;
+#[cfg(test)]
+mod tests_order;
+#[cfg(test)]
+mod tests_unpack;

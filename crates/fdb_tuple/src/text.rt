@@ -1,6 +1,6 @@
 //! A Unicode string.
 
-ghost use Rattle.std.specs.Prelude.{◌≡◌, IfOk, MatchOption, IsTrue, IsFalse, IsUtf8};
+ghost use Rattle.std.specs.Prelude.{◌≡◌, ◌++◌, IfOk, OnOk, OnErr, MatchOption, IsTrue, IsFalse, IsUtf8};
 ghost use Rattle.std.specs.Str.{is_utf8};
 
 use key_bytes::Bytes;
@@ -62,6 +62,14 @@ impl Text {
         ensures { result ≡ self }
     {
         Bytes::from_vec(self.content.into_bytes())
+    }
+
+    /// Adds another text at the end. After a refusal this text is unchanged.
+    pub fn append(&mut self, other: &Text) -> Result<(), AllocError>
+        ensures ok { OnOk result (self.new ≡ self.old ++ other.now) }
+        ensures err { OnErr result (self.new ≡ self.old) }
+    {
+        self.content.push_str(other.as_str())
     }
 
     /// A copy of this Unicode string.

@@ -1,114 +1,243 @@
 //! A tuple and its elements.
 
-ghost use Rattle.std.specs.Prelude.{◌≡◌, ◌==◌, ◌<◌, [], ◌∷◌, ◌++◌, Some, length, slice_get, IfOk, OnOk, OnErr};
+ghost use Rattle.std.specs.Prelude.{◌≡◌, ◌^◌, ◌==◌, ◌<◌, ◌↔◌, [], ◌∷◌, ◌++◌, Some, Err, length, slice_get, IfOk, OnOk, OnErr};
 
+use crate::fault::PushFault;
 use crate::text::Text;
 use key_bytes::Bytes;
 use std::alloc::{AllocError, Global};
 use std::marker::Model;
 
+/// How deep tuples may be nested.
+pub(crate) const MAX_DEPTH: u8 = 100;
+
+/// A versionstamp of a tuple (tuple.md, "Versionstamp"): the 10 bytes that a commit gives, and the user's order
+/// within the commit. Ten `FF` mark it as incomplete: a commit is to fill it in.
+#[derive(Clone, Copy, Debug, PartialEq, Eq)]
+pub struct Versionstamp {
+    pub stamp: [u8; 10],
+    pub user: u16,
+}
+
 /// An element of a tuple.
+#[cycle(tuple)]
 #[derive(Debug, Drop)]
 pub enum Elem {
+    /// Nothing.
+    Null,
     /// A byte string.
     Bytes(Bytes),
     /// A Unicode string.
     Text(Text),
+    /// A tuple as an element.
+    Nested(Tuple),
     /// An integer.
     Int(i128),
+    /// A boolean.
+    Bool(bool),
+    /// A UUID, by its bytes in the order in which it is written.
+    Uuid([u8; 16]),
+    /// A versionstamp.
+    Stamp(Versionstamp),
 }
+
+/// A tuple of a depth of at most 100: the depth is 0 without nested tuples, else 1 more than the greatest depth of one.
+/// Contracts see its elements in order (`specs/Tuples.antt`), or the list of them (`specs/Listed.antt`).
+#[cycle(tuple)]
+#[derive(Debug, Drop)]
+pub struct Tuple {
+    items: Vec<Elem>,
+    depth: u8,
+}
+
+impl Model for Tuple {
+    ghost use Rattle.std.specs.Prelude.{◌≡◌};
+    ghost use Rattle.fdb_tuple.specs.Tuples.{Elements, depth_of, weight, IsTuple};
+    ghost use Rattle.fdb_tuple.specs.Codes.{elements_code};
+
+    ghost Value = { Elements };
+
+    ghost coded = { elements_code };
+
+    ghost use Rattle.fdb_tuple.specs.Listed.{tuple_of};
+
+    ghost view = { λ t. tuple_of t.items.items };
+
+    ghost invariant = { λ t. (t.depth ≡ depth_of (tuple_of t.items.items)) × IsTuple (tuple_of t.items.items) };
+
+    ghost size = { weight };
+
+    ghost use Rattle.std.proofs.Common.{arith};
+    ghost use Rattle.fdb_tuple.specs.Falls.{most_below};
+
+    ghost size_decreases = { λ t h. omega (arith, most_below t.items.items) };
+}
+
+ghost use Rattle.key_bytes.specs.Keys.{IsByteString};
+ghost use Rattle.fdb_tuple.specs.Tuples.{End, depth_of, AreElements, IsTuple};
+ghost use Rattle.fdb_tuple.specs.Listed.{before, tuple_of, elements_of, IsTooDeep};
 
 impl Elem {
     /// A copy of the element.
+    #[cycle(copy)]
     pub fn copy(&self) -> Result<Elem, AllocError>
         ensures { IfOk result (λ copy. copy ≡ self.now) }
     {
+        Ok(match self {
+            Elem::Null => Elem::Null,
+            Elem::Bytes(bytes) => Elem::Bytes(bytes.copy()?),
+            Elem::Text(text) => Elem::Text(text.copy()?),
+            Elem::Nested(tuple) => Elem::Nested(tuple.copy()?),
+            Elem::Int(number) => Elem::Int(*number),
+            Elem::Bool(value) => Elem::Bool(*value),
+            Elem::Uuid(bytes) => Elem::Uuid(*bytes),
+            Elem::Stamp(stamp) => Elem::Stamp(*stamp),
+        })
+    }
+
+    // The depth of the tuple of this one element.
+    fn depth(&self) -> u8
+        ensures { result ≡ depth_of (before self.now End) }
+    {
         match self {
-            Elem::Bytes(bytes) => Ok(Elem::Bytes(bytes.copy()?)),
-            Elem::Text(text) => Ok(Elem::Text(text.copy()?)),
-            Elem::Int(number) => Ok(Elem::Int(*number)),
+            Elem::Nested(tuple) => {
+                tuple.is_tuple();
+                tuple.depth() + 1
+            }
+            _ => 0,
+        }
+    }
+
+    // That contracts see an element of a tuple. It does nothing when it runs.
+    pub(crate) fn is_lawful(&self)
+        ensures { AreElements (before self.now End) }
+    {
+        match self {
+            Elem::Null | Elem::Bool(_) => {}
+            Elem::Bytes(bytes) => bytes.is_byte_string(),
+            Elem::Text(text) => {
+                let _bytes = text.as_bytes();
+            }
+            Elem::Nested(tuple) => tuple.is_tuple(),
+            Elem::Int(number) => {
+                let _number = *number;
+            }
+            Elem::Uuid(bytes) => are_bytes(bytes),
+            Elem::Stamp(stamp) => stamp.is_lawful(),
         }
     }
 }
 
-/// A tuple. Contracts see the list of its elements.
-#[derive(Debug, Drop)]
-pub struct Tuple {
-    items: Vec<Elem>,
+impl Versionstamp {
+    // That contracts see the 10 bytes of a versionstamp, and a number of 16 bits. It does nothing when it runs.
+    fn is_lawful(&self)
+        ensures bytes { IsByteString self.now.stamp }
+        ensures count { length self.now.stamp ≡ 10 }
+        ensures user { self.now.user < 2 ^ 16 }
+    {
+        are_bytes(&self.stamp);
+        let _user = self.user;
+    }
 }
 
-impl Model for Tuple {
-    ghost use Rattle.std.specs.Prelude.{List};
-    ghost use Rattle.fdb_tuple.specs.declared.tuple.Elem.{Elem};
-
-    ghost Value = { List Elem };
-
-    ghost view = { λ tuple. tuple.items.items };
-}
+// That contracts see numbers from 0 to 255. It does nothing when it runs.
+fn are_bytes(bytes: &[u8])
+    ensures { IsByteString bytes.now }
+{}
 
 impl Tuple {
     /// The empty tuple. It takes no memory, and keeps the allocator for what is added later.
     pub fn new(alloc: Global) -> Tuple
-        ensures { result ≡ [] }
+        ensures { result ≡ End }
     {
         Tuple {
             items: Vec::new(alloc),
+            depth: 0,
         }
     }
 
     /// How many elements there are. It takes no memory.
     pub fn len(&self) -> usize
-        ensures { result ≡ length self.now }
+        ensures { result ≡ length (elements_of self.now) }
     {
-        self.items.len()
+        self.as_slice().len()
     }
 
     /// Whether there is no element. It takes no memory.
     pub fn is_empty(&self) -> bool
-        ensures { result ≡ (length self.now == 0) }
+        ensures { result ≡ (length (elements_of self.now) == 0) }
     {
-        self.items.is_empty()
+        self.as_slice().is_empty()
     }
 
-    /// The element at place `i`. It takes no memory.
-    pub fn get(&self, i: usize) -> &Elem
-        requires { i < length self.now }
-        ensures { slice_get self.now i ≡ Some result.now }
+    /// The depth: 0 without nested tuples, else 1 more than the greatest depth of one. It takes no memory.
+    pub fn depth(&self) -> u8
+        ensures { result ≡ depth_of self.now }
     {
-        &self.items[i]
+        self.depth
+    }
+
+    /// The element at place `i`, counted from 0. It takes no memory.
+    pub fn get(&self, i: usize) -> &Elem
+        requires { i < length (elements_of self.now) }
+        ensures { slice_get (elements_of self.now) i ≡ Some result.now }
+    {
+        &self.as_slice()[i]
     }
 
     /// The elements in order. It takes no memory.
     pub fn as_slice(&self) -> &[Elem]
-        ensures { result.now ≡ self.now }
+        ensures elements { result.now ≡ elements_of self.now }
+        ensures tuple { tuple_of result.now ≡ self.now }
     {
         self.items.as_slice()
     }
 
     /// The elements themselves, in order. It takes no memory.
     pub fn into_vec(self) -> Vec<Elem>
-        ensures { result.items ≡ self }
+        ensures elements { result.items ≡ elements_of self }
+        ensures tuple { tuple_of result.items ≡ self }
     {
         self.items
     }
 
-    /// Adds `element` at the end. After a refusal the tuple is unchanged.
-    pub fn push(&mut self, element: Elem) -> Result<(), AllocError>
-        ensures ok { OnOk result (self.new ≡ self.old ++ element ∷ []) }
+    /// That contracts see a tuple: what its elements are, and that its depth is at most 100. It does nothing when it runs.
+    pub fn is_tuple(&self)
+        ensures { IsTuple self.now }
+    {
+        let _items = &self.items;
+    }
+
+    /// Adds `element` at the end. TooDeep comes exactly where it is a nested tuple of depth 100. After a refusal the
+    /// tuple is unchanged.
+    #[inline(always)]
+    pub fn push(&mut self, element: Elem) -> Result<(), PushFault>
+        ensures ok { OnOk result (elements_of self.new ≡ elements_of self.old ++ element ∷ []) }
+        ensures deep { (result ≡ Err PushFault.TooDeep) ↔ IsTooDeep element }
         ensures err { OnErr result (self.new ≡ self.old) }
     {
+        let depth = element.depth();
+        if depth > MAX_DEPTH {
+            return Err(PushFault::TooDeep);
+        }
+        element.is_lawful();
         self.items.push(element)?;
+        self.depth = self.depth.max(depth);
         Ok(())
     }
 
     /// A copy of the tuple.
+    #[cycle(copy)]
     pub fn copy(&self) -> Result<Tuple, AllocError>
         ensures { IfOk result (λ copy. copy ≡ self.now) }
     {
-        let mut copy = Tuple::new(*self.items.allocator());
+        let mut items = Vec::with_capacity(*self.items.allocator(), self.items.len())?;
         for element in self.items.as_slice() {
-            copy.push(element.copy()?)?;
+            items.push(element.copy()?)?;
         }
-        Ok(copy)
+        Ok(Tuple {
+            items,
+            depth: self.depth,
+        })
     }
 }

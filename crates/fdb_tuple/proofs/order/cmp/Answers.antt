@@ -1,0 +1,6 @@
+use Rattle.std.proofs.Common.{sym, ◌∙◌}
+use Rattle.fdb_tuple.specs.OrderLaws.{key_cmp-spelling}
+use Rattle.fdb_tuple.proofs.order.cmp.Goals as goal
+
+pub returns-clause-bytes : goal.returns-clause-bytes
+returns-clause-bytes c = c.tuple_order.ensures ∙ sym (key_cmp-spelling c.args.a.now c.args.b.now c.is_tuple.ensures c.is_tuple-2.ensures)
