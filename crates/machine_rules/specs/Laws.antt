@@ -10,10 +10,8 @@ use Rattle.machine_rules.specs.declared.Awaits.{Awaits}
 use Rattle.machine_rules.specs.declared.Awaits.TheVariants as awaits
 use Rattle.machine_rules.specs.declared.State.{State}
 use Rattle.machine_rules.specs.declared.State.TheVariants as state
-use Rattle.machine_rules.specs.declared.Instruction.{Instruction}
-use Rattle.machine_rules.specs.declared.Instruction.TheVariants as instruction
 use Rattle.machine_rules.specs.Worlds.{World, refusal}
-use Rattle.machine_rules.specs.Machines.{Machine, Progress, Operand, Popped, Missing, Unfit, silent, set_key, set_value, bytes_operand, run_instruction, run_next, instruction_of, advance_by, advance, resumed, resumed_by, answered}
+use Rattle.machine_rules.specs.Machines.{Machine, Progress, Act, Does, Stops, Asks, silent, refused, acted, next_act, advance_by, advance, resumed, resumed_by, answered}
 use Rattle.machine_rules.specs.Runs.{Run, is_running, rested, at_rest, judged_by, judged, standing, take_place, run_from}
 
 -- ---- one step of a machine
@@ -28,25 +26,16 @@ pub record Finishes (before : Machine) (progress : Progress) : Type 0 where
 not_running : {A : Type 0} → false ≡ true → A
 not_running e = absurd cc
 
-value_running : (machine : Machine) (key : List ℕ) (operand : Operand) → is_running (set_value machine key operand).machine.state ≡ true → Finishes machine (set_value machine key operand)
-value_running machine key (Popped value below) e = not_running e
-value_running machine key Missing e = not_running e
-value_running machine key (Unfit below) e = not_running e
+act_running : (machine : Machine) (act : Act) → machine.next < length machine.instructions → is_running (acted machine act).machine.state ≡ true → Finishes machine (acted machine act)
+act_running machine (Does stack) inside e = record { silent_is = refl; instructions = refl; next = refl; inside = inside }
+act_running machine (Stops stack end) inside e = not_running e
+act_running machine (Asks stack request awaits) inside e = not_running e
 
-key_running : (machine : Machine) (operand : Operand) → is_running (set_key machine operand).machine.state ≡ true → Finishes machine (set_key machine operand)
-key_running machine (Popped key below) e = value_running machine key (bytes_operand below) e
-key_running machine Missing e = not_running e
-key_running machine (Unfit below) e = not_running e
-
-instruction_running : (machine : Machine) (found : Option Instruction) → machine.next < length machine.instructions → is_running (run_instruction machine found).machine.state ≡ true → Finishes machine (run_instruction machine found)
-instruction_running machine None inside e = not_running e
-instruction_running machine (Some (instruction.Push element)) inside e = record { silent_is = refl; instructions = refl; next = refl; inside = inside }
-instruction_running machine (Some instruction.Set) inside e = key_running machine (bytes_operand machine.stack) e
-instruction_running machine (Some instruction.Commit) inside e = not_running e
-
-next_running : (machine : Machine) (value : Option (List ℕ)) → slice_get machine.instructions machine.next ≡ value → is_running (run_next machine value).machine.state ≡ true → Finishes machine (run_next machine value)
+next_running : (machine : Machine) (value : Option (List ℕ)) → slice_get machine.instructions machine.next ≡ value → is_running (acted machine (next_act machine value)).machine.state ≡ true
+    → Finishes machine (acted machine (next_act machine value))
 next_running machine None is e = not_running e
-next_running machine (Some value) is e = instruction_running machine (instruction_of value) (slice_get_within machine.instructions machine.next value is) e
+next_running machine (Some value) is e =
+    act_running machine (next_act machine (Some value)) (slice_get_within machine.instructions machine.next value is) e
 
 state_running : (state : State) (machine : Machine) → is_running state ≡ true → is_running (advance_by state machine).machine.state ≡ true → Finishes machine (advance_by state machine)
 state_running state.Running machine was e = next_running machine (slice_get machine.instructions machine.next) refl e
@@ -70,28 +59,13 @@ AsksAwaiting progress = (request : Request) → progress.asks ≡ Some request �
 silent_asks : (machine : Machine) → AsksAwaiting (silent machine)
 silent_asks machine request e = absurd cc
 
-value_asks : (machine : Machine) (key : List ℕ) (operand : Operand) → AsksAwaiting (set_value machine key operand)
-value_asks machine key (Popped value below) request e = refl
-value_asks machine key Missing request e = absurd cc
-value_asks machine key (Unfit below) request e = absurd cc
-
-key_asks : (machine : Machine) (operand : Operand) → AsksAwaiting (set_key machine operand)
-key_asks machine (Popped key below) request e = value_asks machine key (bytes_operand below) request e
-key_asks machine Missing request e = absurd cc
-key_asks machine (Unfit below) request e = absurd cc
-
-instruction_asks : (machine : Machine) (found : Option Instruction) → AsksAwaiting (run_instruction machine found)
-instruction_asks machine None request e = absurd cc
-instruction_asks machine (Some (instruction.Push element)) request e = absurd cc
-instruction_asks machine (Some instruction.Set) request e = key_asks machine (bytes_operand machine.stack) request e
-instruction_asks machine (Some instruction.Commit) request e = refl
-
-next_asks : (machine : Machine) (value : Option (List ℕ)) → AsksAwaiting (run_next machine value)
-next_asks machine None request e = absurd cc
-next_asks machine (Some value) request e = instruction_asks machine (instruction_of value) request e
+act_asks : (machine : Machine) (act : Act) → AsksAwaiting (acted machine act)
+act_asks machine (Does stack) request e = absurd cc
+act_asks machine (Stops stack end) request e = absurd cc
+act_asks machine (Asks stack asked awaits) request e = refl
 
 state_asks : (state : State) (machine : Machine) → AsksAwaiting (advance_by state machine)
-state_asks state.Running machine request e = next_asks machine (slice_get machine.instructions machine.next) request e
+state_asks state.Running machine request e = act_asks machine (next_act machine (slice_get machine.instructions machine.next)) request e
 state_asks (state.Awaiting awaits) machine request e = absurd cc
 state_asks (state.Stopped end) machine request e = absurd cc
 
@@ -103,28 +77,13 @@ advance_asks machine request e = state_asks machine.state machine request e
 abbrev IsQuiet : Progress → Type 0
 IsQuiet progress = progress.asks ≡ None → is_awaiting progress.machine.state ≡ false
 
-value_quiet : (machine : Machine) (key : List ℕ) (operand : Operand) → IsQuiet (set_value machine key operand)
-value_quiet machine key (Popped value below) e = absurd cc
-value_quiet machine key Missing e = refl
-value_quiet machine key (Unfit below) e = refl
-
-key_quiet : (machine : Machine) (operand : Operand) → IsQuiet (set_key machine operand)
-key_quiet machine (Popped key below) e = value_quiet machine key (bytes_operand below) e
-key_quiet machine Missing e = refl
-key_quiet machine (Unfit below) e = refl
-
-instruction_quiet : (machine : Machine) (found : Option Instruction) → IsQuiet (run_instruction machine found)
-instruction_quiet machine None e = refl
-instruction_quiet machine (Some (instruction.Push element)) e = refl
-instruction_quiet machine (Some instruction.Set) e = key_quiet machine (bytes_operand machine.stack) e
-instruction_quiet machine (Some instruction.Commit) e = absurd cc
-
-next_quiet : (machine : Machine) (value : Option (List ℕ)) → IsQuiet (run_next machine value)
-next_quiet machine None e = refl
-next_quiet machine (Some value) e = instruction_quiet machine (instruction_of value) e
+act_quiet : (machine : Machine) (act : Act) → IsQuiet (acted machine act)
+act_quiet machine (Does stack) e = refl
+act_quiet machine (Stops stack end) e = refl
+act_quiet machine (Asks stack request awaits) e = absurd cc
 
 state_quiet : (state : State) (machine : Machine) → is_running state ≡ true → IsQuiet (advance_by state machine)
-state_quiet state.Running machine was e = next_quiet machine (slice_get machine.instructions machine.next) e
+state_quiet state.Running machine was e = act_quiet machine (next_act machine (slice_get machine.instructions machine.next)) e
 state_quiet (state.Awaiting awaits) machine was e = not_running was
 state_quiet (state.Stopped end) machine was e = not_running was
 
@@ -186,25 +145,14 @@ pub record AsksInside (before : Machine) (progress : Progress) : Type 0 where
 abbrev AsksAt : Machine → Progress → Type 0
 AsksAt machine progress = (request : Request) → progress.asks ≡ Some request → AsksInside machine progress
 
-value_at : (machine : Machine) (key : List ℕ) (operand : Operand) → machine.next < length machine.instructions → AsksAt machine (set_value machine key operand)
-value_at machine key (Popped value below) inside request e = record { instructions = refl; next = refl; inside = inside }
-value_at machine key Missing inside request e = absurd cc
-value_at machine key (Unfit below) inside request e = absurd cc
+act_at : (machine : Machine) (act : Act) → machine.next < length machine.instructions → AsksAt machine (acted machine act)
+act_at machine (Does stack) inside request e = absurd cc
+act_at machine (Stops stack end) inside request e = absurd cc
+act_at machine (Asks stack asked awaits) inside request e = record { instructions = refl; next = refl; inside = inside }
 
-key_at : (machine : Machine) (operand : Operand) → machine.next < length machine.instructions → AsksAt machine (set_key machine operand)
-key_at machine (Popped key below) inside request e = value_at machine key (bytes_operand below) inside request e
-key_at machine Missing inside request e = absurd cc
-key_at machine (Unfit below) inside request e = absurd cc
-
-instruction_at : (machine : Machine) (found : Option Instruction) → machine.next < length machine.instructions → AsksAt machine (run_instruction machine found)
-instruction_at machine None inside request e = absurd cc
-instruction_at machine (Some (instruction.Push element)) inside request e = absurd cc
-instruction_at machine (Some instruction.Set) inside request e = key_at machine (bytes_operand machine.stack) inside request e
-instruction_at machine (Some instruction.Commit) inside request e = record { instructions = refl; next = refl; inside = inside }
-
-next_at : (machine : Machine) (value : Option (List ℕ)) → slice_get machine.instructions machine.next ≡ value → AsksAt machine (run_next machine value)
+next_at : (machine : Machine) (value : Option (List ℕ)) → slice_get machine.instructions machine.next ≡ value → AsksAt machine (acted machine (next_act machine value))
 next_at machine None is request e = absurd cc
-next_at machine (Some value) is request e = instruction_at machine (instruction_of value) (slice_get_within machine.instructions machine.next value is) request e
+next_at machine (Some value) is request e = act_at machine (next_act machine (Some value)) (slice_get_within machine.instructions machine.next value is) request e
 
 state_at : (state : State) (machine : Machine) → AsksAt machine (advance_by state machine)
 state_at state.Running machine request e = next_at machine (slice_get machine.instructions machine.next) refl request e

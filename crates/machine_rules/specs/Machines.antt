@@ -1,10 +1,7 @@
 -- A machine and its instructions (bindingApiTester.md).
-use Rattle.std.specs.Prelude.{◌≡◌, refl, ℕ, ◌+◌, if◌then◌else◌, List, [], ◌∷◌, ◌++◌, Option, Some, None, Result, Ok, option_and_then, slice_get, codes, bytes_eq}
-use Rattle.std.proofs.Common.{ap}
+use Rattle.std.specs.Prelude.{ℕ, ◌+◌, List, [], ◌∷◌, Option, Some, None, Ok, Err, slice_get, codes}
 use Rattle.fdb_tuple.specs.declared.tuple.Elem.{Elem}
 use Rattle.fdb_tuple.specs.declared.tuple.Elem.TheVariants as elem
-use Rattle.fdb_tuple.specs.Reading.{Fault, tuple_of}
-use Rattle.fdb_calls.specs.declared.TxnCall.{TxnCall}
 use Rattle.fdb_calls.specs.declared.TxnCall.TheVariants as call
 use Rattle.fdb_calls.specs.declared.Request.{Request}
 use Rattle.fdb_calls.specs.declared.Request.TheVariants as request
@@ -19,36 +16,9 @@ use Rattle.machine_rules.specs.declared.State.{State}
 use Rattle.machine_rules.specs.declared.State.TheVariants as state
 use Rattle.machine_rules.specs.declared.Instruction.{Instruction}
 use Rattle.machine_rules.specs.declared.Instruction.TheVariants as instruction
-
--- ---- instructions
-
--- the kind "bytes": a byte string, or a Unicode string taken as its UTF-8
-abbrev pub bytes_of : Elem → Option (List ℕ)
-bytes_of (elem.Bytes bytes) = Some bytes
-bytes_of (elem.Text text) = Some text
-bytes_of (elem.Int number) = None
-
--- the operation of a name with the elements behind the name: PUSH has one, every other operation none
-abbrev pub operation : List ℕ → List Elem → Option Instruction
-operation name [] =
-    if bytes_eq name (codes "SET") then Some instruction.Set
-    else if bytes_eq name (codes "COMMIT") then Some instruction.Commit
-    else None
-operation name (element ∷ []) = if bytes_eq name (codes "PUSH") then Some (instruction.Push element) else None
-operation name (element ∷ other ∷ more) = None
-
--- a tuple as an instruction: its first element is the name, a Unicode or a byte string
-abbrev pub instruction_in : List Elem → Option Instruction
-instruction_in [] = None
-instruction_in (name ∷ elements) = option_and_then (λ bytes. operation bytes elements) (bytes_of name)
-
-abbrev pub instruction_read : Result (List Elem) Fault → Option Instruction
-instruction_read (Ok elements) = instruction_in elements
-instruction_read _ = None
-
--- the instruction that a value packs, if it is one
-unfoldable pub instruction_of : List ℕ → Option Instruction
-instruction_of value = instruction_read (tuple_of value)
+use Rattle.machine_rules.specs.Operands.{Refusal, Missing, Unfit, Popped, bytes_operand, two_operands}
+use Rattle.machine_rules.specs.StackOperations.{Operated, pushed, operated}
+use Rattle.machine_rules.specs.Instructions.{instruction_of}
 
 -- ---- a machine
 
@@ -58,7 +28,7 @@ pub record Machine : Type 0 where
   -- the values of its instructions, and the number of the next one
   pub instructions : List (List ℕ)
   pub next : ℕ
-  -- its items, oldest first
+  -- its items, the top first
   pub stack : List Item
   pub state : State
 
@@ -78,80 +48,62 @@ stopped machine stack end = record machine { stack = stack; state = state.Stoppe
 abbrev pub done : Machine → List Item → Machine
 done machine stack = record machine { stack = stack; next = machine.next + 1; state = state.Running }
 
--- the machine as it asks a request on the transaction of its prefix
-abbrev pub asking : Machine → List Item → TxnCall → Awaits → Progress
-asking machine stack call awaits = record {
+-- the machine as it asks a request
+abbrev pub asking : Machine → List Item → Request → Awaits → Progress
+asking machine stack request awaits = record {
   machine = record machine { stack = stack; state = state.Awaiting awaits };
-  asks = Some (request.On machine.prefix call);
+  asks = Some request;
 }
 
--- an item that the instruction that is run pushes
-abbrev pub item : Machine → Elem → Item
-item machine element = record { element = element; instruction = machine.next }
+-- ---- what an instruction comes to
 
--- ---- operands
+pub data Act : Type 0 where
+  -- it is done, and leaves this stack
+  Does : (stack : List Item) → Act
+  -- it stops the machine
+  Stops : (stack : List Item) (end : End) → Act
+  -- it asks a request, whose reply it awaits
+  Asks : (stack : List Item) (request : Request) (awaits : Awaits) → Act
 
--- an operand and the items below it; or no item was there; or one of a wrong kind, which is gone
-pub data Operand : Type 0 where
-  Popped : List ℕ → List Item → Operand
-  Missing : Operand
-  Unfit : List Item → Operand
+-- an instruction of this number that was refused: an item is missing, or an operand is of a wrong kind or range
+abbrev pub refused : ℕ → Refusal → Act
+refused number (Missing left) = Stops left (end.Underflow number)
+refused number (Unfit left) = Stops left (end.BadInstruction number)
 
-abbrev pub operand_by : Option (List ℕ) → List Item → Operand
-operand_by (Some bytes) below = Popped bytes below
-operand_by None below = Unfit below
-
--- the top item of a stack, and the items below it
-abbrev pub top_below : Item → Option (Item × List Item) → Item × List Item
-top_below first None = (first, [])
-top_below first (Some rest) = (rest.0, first ∷ rest.1)
-
-unfoldable pub popped : List Item → Option (Item × List Item)
-popped [] = None
-popped (first ∷ items) = Some (top_below first (popped items))
-
--- what was pushed last is popped first
-pub popped_push : (items : List Item) (last : Item) → popped (items ++ last ∷ []) ≡ Some (last, items)
-unfolding popped
-popped_push [] last = refl
-popped_push (first ∷ items) last = ap (λ rest. Some (top_below first rest)) (popped_push items last)
-
--- the top item as an operand of the kind "bytes"
-abbrev pub bytes_operand_in : Option (Item × List Item) → Operand
-bytes_operand_in None = Missing
-bytes_operand_in (Some top) = operand_by (bytes_of top.0.element) top.1
-
-unfoldable pub bytes_operand : List Item → Operand
-bytes_operand stack = bytes_operand_in (popped stack)
-
--- ---- what an instruction does
-
-abbrev pub set_value : Machine → List ℕ → Operand → Progress
-set_value machine key (Popped value below) = asking machine below (call.Set key value) awaits.Nothing
-set_value machine key Missing = silent (stopped machine [] (end.Underflow machine.next))
-set_value machine key (Unfit below) = silent (stopped machine below (end.BadInstruction machine.next))
+abbrev pub does : ℕ → Operated → Act
+does number (Ok stack) = Does stack
+does number (Err refusal) = refused number refusal
 
 -- SET pops a key, and then a value
-abbrev pub set_key : Machine → Operand → Progress
-set_key machine (Popped key below) = set_value machine key (bytes_operand below)
-set_key machine Missing = silent (stopped machine [] (end.Underflow machine.next))
-set_key machine (Unfit below) = silent (stopped machine below (end.BadInstruction machine.next))
+abbrev pub set_operands : List Item → Popped (List ℕ × List ℕ)
+set_operands stack = two_operands bytes_operand bytes_operand stack
 
-abbrev pub run_instruction : Machine → Option Instruction → Progress
-run_instruction machine None = silent (stopped machine machine.stack (end.BadInstruction machine.next))
-run_instruction machine (Some (instruction.Push element)) = silent (done machine (machine.stack ++ item machine element ∷ []))
-run_instruction machine (Some instruction.Set) = set_key machine (bytes_operand machine.stack)
-run_instruction machine (Some instruction.Commit) = asking machine machine.stack call.Commit awaits.NotPresent
+abbrev pub sets : ℕ → List ℕ → Popped (List ℕ × List ℕ) → Act
+sets number prefix (Ok popped) = Asks popped.1 (request.On prefix (call.Set popped.0.0 popped.0.1)) awaits.Nothing
+sets number prefix (Err refusal) = refused number refusal
+
+-- the instruction of this number, of a machine under this prefix with this stack
+unfoldable pub act_of : ℕ → List ℕ → List Item → Option Instruction → Act
+act_of number prefix stack None = Stops stack (end.BadInstruction number)
+act_of number prefix stack (Some (instruction.Push element)) = Does (pushed number (element ∷ []) stack)
+act_of number prefix stack (Some (instruction.OnStack operation)) = does number (operated operation number stack)
+act_of number prefix stack (Some instruction.Set) = sets number prefix (set_operands stack)
+act_of number prefix stack (Some instruction.Commit) = Asks stack (request.On prefix call.Commit) awaits.NotPresent
+
+abbrev pub acted : Machine → Act → Progress
+acted machine (Does stack) = silent (done machine stack)
+acted machine (Stops stack end) = silent (stopped machine stack end)
+acted machine (Asks stack request awaits) = asking machine stack request awaits
 
 -- ---- going on
 
 -- what a running machine does next: an instruction, or its end where all were run
-abbrev pub run_next : Machine → Option (List ℕ) → Progress
-run_next machine None = silent (stopped machine machine.stack end.Ended)
-run_next machine (Some value) = run_instruction machine (instruction_of value)
+abbrev pub next_act : Machine → Option (List ℕ) → Act
+next_act machine None = Stops machine.stack end.Ended
+next_act machine (Some value) = act_of machine.next machine.prefix machine.stack (instruction_of value)
 
 abbrev pub advance_by : State → Machine → Progress
-advance_by state.Running machine = run_next machine (slice_get machine.instructions machine.next)
+advance_by state.Running machine = acted machine (next_act machine (slice_get machine.instructions machine.next))
 advance_by (state.Awaiting awaits) machine = silent machine
 advance_by (state.Stopped end) machine = silent machine
 
@@ -165,7 +117,7 @@ result_not_present = elem.Bytes (codes "RESULT_NOT_PRESENT")
 
 abbrev pub answered_done : Machine → Awaits → Machine
 answered_done machine awaits.Nothing = done machine machine.stack
-answered_done machine awaits.NotPresent = done machine (machine.stack ++ item machine result_not_present ∷ [])
+answered_done machine awaits.NotPresent = done machine (pushed machine.next (result_not_present ∷ []) machine.stack)
 
 -- a refusal ends the machine, for now; a reply that no request gets changes nothing but that the machine goes on
 abbrev pub answered : Machine → Awaits → Reply → Machine

@@ -1,10 +1,11 @@
 -- A run over an order of requests, and its dump.
-use Rattle.std.specs.Prelude.{◌≡◌, ℕ, zero, suc, ◌+◌, ◌-◌, Bool, true, false, if◌then◌else◌, List, [], ◌∷◌, ◌++◌, length, map, filter, flat_map, Option, Some, None, option_and_then, option_map, slice_get, slice_set, IsTrue, codes}
+use Rattle.std.specs.Prelude.{◌≡◌, ℕ, zero, suc, ◌+◌, ◌-◌, Bool, true, false, if◌then◌else◌, List, [], ◌∷◌, ◌++◌, length, map, filter, flat_map, reverse, Option, Some, None, option_and_then, option_map, slice_get, slice_set, IsTrue, codes}
 use Rattle.std.specs.List.{enumerate_from, list_all}
 use Rattle.std.specs.FinMap as finite
 use Rattle.key_bytes.specs.Keys.{within}
 use Rattle.database_rules.specs.Databases.{Database, at, last}
-use Rattle.fdb_tuple.specs.declared.tuple.Elem.TheVariants as elem
+use Rattle.fdb_tuple.specs.Tuples.{Bytes, End, Single}
+use Rattle.fdb_tuple.specs.Listed.{before}
 use Rattle.fdb_tuple.specs.Spelling.{spelling}
 use Rattle.fdb_calls.specs.declared.Request.{Request}
 use Rattle.fdb_calls.specs.declared.Reply.TheVariants as reply
@@ -51,7 +52,7 @@ standing world machine = judged world (at_rest machine)
 
 -- the ends of the range of the tuples that begin with (prefix,)
 abbrev pub packed_prefix : List ℕ → List ℕ
-packed_prefix prefix = spelling (elem.Bytes prefix ∷ [])
+packed_prefix prefix = spelling (Single (Bytes prefix) End)
 
 -- the values of the pairs in the range of a prefix, in the order of their keys
 abbrev pub instructions_in : Database → List ℕ → List (List ℕ)
@@ -141,7 +142,7 @@ end_line machine (state.Stopped (end.Underflow instruction)) = machine_line mach
 -- a machine's stack, each item with its place, the oldest at 0
 abbrev pub stack_lines : Machine → List ℕ
 stack_lines machine =
-    flat_map (λ (place, item). item_line machine.number place item.instruction (spelling (item.element ∷ []))) (enumerate_from 0 machine.stack)
+    flat_map (λ (place, item). item_line machine.number place item.instruction (spelling (before item.element End))) (enumerate_from 0 (reverse machine.stack))
 
 -- how the machines ended, their stacks, the order, and the map at the last version in the order of its keys
 unfoldable pub dump : List ℕ → Run → List ℕ

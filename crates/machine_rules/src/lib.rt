@@ -2,7 +2,9 @@
 //! a machine, and what a run over an order of requests leaves and dumps.
 //!
 //! Nothing here runs. Contracts above cite these words: `specs/Worlds.antt` has the world and the step of a
-//! request, `specs/Machines.antt` a machine with its instructions, and `specs/Runs.antt` a run and its dump.
+//! request, `specs/Operands.antt` and `specs/StackOperations.antt` what the operations on a stack do,
+//! `specs/Instructions.antt` how a value is an instruction, `specs/Machines.antt` a machine, and `specs/Runs.antt` a
+//! run and its dump.
 //! The few types that the machine and its definitions share stand in `src/`.
 #![tactic(auto)]
 
@@ -46,11 +48,48 @@ pub enum State {
     Stopped(End),
 }
 
+/// An operation on a machine's stack alone (bindingApiTester.md, "Data Operations" and "Tuple Operations").
+#[derive(Clone, Copy, Debug, PartialEq, Eq)]
+pub enum StackOperation {
+    /// Pushes a copy of the top item.
+    Dup,
+    /// Drops all items.
+    EmptyStack,
+    /// Pops a depth, and swaps the top item with the one at that depth.
+    Swap,
+    /// Drops the top item.
+    Pop,
+    /// Pops two integers, and pushes the first less the second.
+    Sub,
+    /// Pops two strings of one kind, and pushes the first followed by the second.
+    Concat,
+    /// Waits for the top item, which stays.
+    WaitFuture,
+    /// Pops a tuple, and pushes its packed bytes.
+    TuplePack,
+    /// Pops a prefix and a tuple, and pushes them packed with the place of the incomplete versionstamp.
+    TuplePackWithVersionstamp,
+    /// Pops packed bytes, and pushes each element packed alone.
+    TupleUnpack,
+    /// Pops a tuple, and pushes the two ends of its range.
+    TupleRange,
+    /// Pops packed tuples, and pushes them in their order, the greatest last.
+    TupleSort,
+    /// Pushes its fixed text.
+    GetApproximateSize,
+    /// Pops the two ends of a range, and pushes its fixed text.
+    GetEstimatedRangeSize,
+    /// Does nothing.
+    UnitTests,
+}
+
 /// An instruction that the machine knows.
 #[derive(Debug, Drop)]
 pub enum Instruction {
     /// Pushes an element.
     Push(Elem),
+    /// Works on the stack alone.
+    OnStack(StackOperation),
     /// Pops a key and a value, and writes the value under the key.
     Set,
     /// Commits the transaction.

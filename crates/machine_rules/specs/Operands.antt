@@ -1,0 +1,123 @@
+-- Operands: what an operation pops from a stack, one item after the other, and the kinds that it takes. A stack is
+-- the list of its items, the top first.
+use Rattle.std.specs.Prelude.{ℕ, zero, suc, List, [], ◌∷◌, ℤ, pos, negsuc, Option, Some, None, Result, Ok, Err, option_and_then}
+use Rattle.fdb_tuple.specs.declared.tuple.Elem.{Elem}
+use Rattle.fdb_tuple.specs.declared.tuple.Elem.TheVariants as elem
+use Rattle.fdb_tuple.specs.Tuples.{Elements}
+use Rattle.fdb_tuple.specs.Listed.{tuple_of}
+use Rattle.machine_rules.specs.declared.Item.{Item}
+
+-- ---- kinds
+
+-- "bytes": a byte string, or a Unicode string taken as its UTF-8
+abbrev pub bytes_of : Elem → Option (List ℕ)
+bytes_of (elem.Bytes bytes) = Some bytes
+bytes_of (elem.Text text) = Some text
+bytes_of _ = None
+
+-- a byte string or a Unicode string, as it is
+abbrev pub string_of : Elem → Option Elem
+string_of (elem.Bytes bytes) = Some (elem.Bytes bytes)
+string_of (elem.Text text) = Some (elem.Text text)
+string_of _ = None
+
+-- "int": an integer
+abbrev pub int_of : Elem → Option ℤ
+int_of (elem.Int number) = Some number
+int_of _ = None
+
+-- "count": an integer from 0 upward
+abbrev pub count_in : ℤ → Option ℕ
+count_in (pos n) = Some n
+count_in (negsuc n) = None
+
+abbrev pub count_of : Elem → Option ℕ
+count_of element = option_and_then count_in (int_of element)
+
+-- ---- popping
+
+-- why an operation was refused, and the items that are left
+pub data Refusal : Type 0 where
+  -- an item that is to be popped, copied or swapped is not there
+  Missing : (left : List Item) → Refusal
+  -- an operand is of a kind or range that the operation doesn't take
+  Unfit : (left : List Item) → Refusal
+
+infixl 10 ◌>>=◌
+abbrev pub ◌>>=◌ : {A B : Type 0} → Result A Refusal → (A → Result B Refusal) → Result B Refusal
+(Ok x) >>= f = f x
+(Err e) >>= f = Err e
+
+-- what was popped, and the items that are left; or why not
+abbrev pub Popped : Type 0 → Type 0
+Popped A = Result (A × List Item) Refusal
+
+-- any item
+abbrev pub item_operand : List Item → Popped Item
+item_operand [] = Err (Missing [])
+item_operand (top ∷ left) = Ok (top, left)
+
+abbrev pub fitting : {A : Type 0} → Option A → List Item → Popped A
+fitting (Some operand) left = Ok (operand, left)
+fitting None left = Err (Unfit left)
+
+-- an item of a kind: one of another kind is refused, and is gone
+abbrev pub operand_by : {A : Type 0} → (Elem → Option A) → List Item → Popped A
+operand_by kind stack = do
+  top ← item_operand stack
+  fitting (kind top.0.element) top.1
+
+abbrev pub bytes_operand : List Item → Popped (List ℕ)
+bytes_operand stack = operand_by bytes_of stack
+
+abbrev pub string_operand : List Item → Popped Elem
+string_operand stack = operand_by string_of stack
+
+abbrev pub int_operand : List Item → Popped ℤ
+int_operand stack = operand_by int_of stack
+
+abbrev pub count_operand : List Item → Popped ℕ
+count_operand stack = operand_by count_of stack
+
+-- so many operands, in the order popped
+unfoldable pub operands_by : {A : Type 0} → (List Item → Popped A) → ℕ → List Item → Popped (List A)
+operands_by operand zero stack = Ok ([], stack)
+operands_by operand (suc count) stack = do
+  first ← operand stack
+  others ← operands_by operand count first.1
+  Ok (first.0 ∷ others.0, others.1)
+
+abbrev pub element_operand : List Item → Popped Elem
+element_operand stack = do
+  top ← item_operand stack
+  Ok (top.0.element, top.1)
+
+-- "tuple": a count, and then so many items, in the order popped
+abbrev pub elements_operand : List Item → Popped (List Elem)
+elements_operand stack = do
+  count ← count_operand stack
+  operands_by element_operand count.0 count.1
+
+abbrev pub tuple_operand : List Item → Popped Elements
+tuple_operand stack = do
+  elements ← elements_operand stack
+  Ok (tuple_of elements.0, elements.1)
+
+-- a count, and then so many byte strings, in the order popped
+abbrev pub byte_strings_operand : List Item → Popped (List (List ℕ))
+byte_strings_operand stack = do
+  count ← count_operand stack
+  operands_by bytes_operand count.0 count.1
+
+-- two operands, one after the other
+abbrev pub two_operands : {A B : Type 0} → (List Item → Popped A) → (List Item → Popped B) → List Item → Popped (A × B)
+two_operands first second stack = do
+  a ← first stack
+  b ← second a.1
+  Ok ((a.0, b.0), b.1)
+
+-- the items that are left, of operands popped or refused
+abbrev pub left_of : {A : Type 0} → Popped A → List Item
+left_of (Ok popped) = popped.1
+left_of (Err (Missing left)) = left
+left_of (Err (Unfit left)) = left
