@@ -1,1 +1,3 @@
+pub mod Items
 pub mod Pops
+pub mod Unpacked

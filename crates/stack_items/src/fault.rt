@@ -1,17 +1,37 @@
 //! Why an operation on the stack was refused.
 
+ghost use Rattle.std.specs.Prelude.{◌≡◌};
+ghost use Rattle.stack_items.specs.declared.fault.StackFault.TheVariants.{NoMemory};
+
+use std::alloc::{AllocError, AllocFailed};
 use thiserror::Error;
 
 /// Why an operation on the stack was refused.
 #[derive(Clone, Copy, Debug, PartialEq, Eq, Error)]
 pub enum StackFault {
-    /// The stack has no item where the operation pops one.
+    /// The stack has no item where the operation pops, copies or swaps one.
     #[error("the stack has no item")]
     Underflow,
-    /// An operand is of a kind that the operation doesn't take.
-    #[error("an operand is of a wrong kind")]
+    /// An operand, a difference, a packed text or an unpacked text is of a kind or range that the operation doesn't take.
+    #[error("an operand is of a wrong kind or range")]
     Operand,
     /// Memory ran out.
     #[error("out of memory")]
     NoMemory,
+}
+
+impl From<AllocError> for StackFault {
+    ghost from_gives = { λ _ e. e ≡ NoMemory };
+
+    fn from(_e: AllocError) -> StackFault {
+        StackFault::NoMemory
+    }
+}
+
+impl<T: Drop> From<AllocFailed<T>> for StackFault {
+    ghost from_gives = { λ _ e. e ≡ NoMemory };
+
+    fn from(_e: AllocFailed<T>) -> StackFault {
+        StackFault::NoMemory
+    }
 }

@@ -1,29 +1,40 @@
 //! A machine's stack.
 
-ghost use Rattle.std.specs.Prelude.{◌≡◌, ◌==◌, ◌<◌, [], ◌∷◌, ◌++◌, Some, length, slice_get, option_map, OnOk, OnErr, IfErr, IsOkUnless};
-ghost use Rattle.machine_rules.specs.Machines.{bytes_of, popped, bytes_operand};
-ghost use Rattle.stack_items.specs.Pops.{Pops, PopsTop};
+ghost use Rattle.std.specs.Prelude.{◌≡◌, ◌==◌, ◌<◌, [], ◌∷◌, Some, length, reverse, slice_get, IfSome, OnOk, OnErr, IsOkUnless};
+ghost use Rattle.std.specs.List.{swap};
+ghost use Rattle.machine_rules.specs.StackOperations.{pushed};
+ghost use Rattle.stack_items.specs.Items.{IsItem, AreItems};
+ghost use Rattle.stack_items.specs.Pops.{PopsTop, SeesTop};
+ghost use Rattle.fdb_tuple.specs.Listed.{IsElement};
 
 use crate::fault::StackFault;
 use fdb_tuple::Elem;
-use key_bytes::Bytes;
 use machine_rules::Item;
 use std::alloc::{AllocError, Global};
 use std::marker::Model;
 
-/// A machine's stack. Contracts see the list of its items, oldest first.
+/// A machine's stack. Contracts see the list of its items, the top first. An item is an element of some tuple: a nested
+/// tuple in it has a depth of at most 99.
 #[derive(Debug, Drop)]
 pub struct Stack {
     items: Vec<Item>,
 }
 
 impl Model for Stack {
-    ghost use Rattle.std.specs.Prelude.{List};
+    ghost use Rattle.std.specs.Prelude.{List, reverse};
     ghost use Rattle.machine_rules.specs.declared.Item.{Item};
+    ghost use Rattle.stack_items.specs.Items.{AreItems};
 
     ghost Value = { List Item };
 
-    ghost view = { λ stack. stack.items.items };
+    ghost use Rattle.machine_rules.specs.contracts.Item as item;
+    ghost use Rattle.std.specs.Coded.{codes};
+
+    ghost coded = { Prim.hlevel (codes, item.the_row.coded) };
+
+    ghost view = { λ stack. reverse stack.items.items };
+
+    ghost invariant = { λ stack. AreItems stack.items.items };
 }
 
 impl Stack {
@@ -53,21 +64,24 @@ impl Stack {
     /// The item at place `i`, the oldest at 0. It takes no memory.
     pub fn get(&self, i: usize) -> &Item
         requires { i < length self.now }
-        ensures { slice_get self.now i ≡ Some result.now }
+        ensures item { slice_get (reverse self.now) i ≡ Some result.now }
+        ensures element { IsItem result.now }
     {
         &self.items[i]
     }
 
     /// The items, oldest first. It takes no memory.
     pub fn as_slice(&self) -> &[Item]
-        ensures { result.now ≡ self.now }
+        ensures items { result.now ≡ reverse self.now }
+        ensures elements { AreItems result.now }
     {
         self.items.as_slice()
     }
 
     /// Puts an item on top. After a refusal the stack is unchanged.
     pub fn put(&mut self, item: Item) -> Result<(), AllocError>
-        ensures ok { OnOk result (self.new ≡ self.old ++ item ∷ []) }
+        requires { IsItem item }
+        ensures ok { OnOk result (self.new ≡ item ∷ self.old) }
         ensures err { OnErr result (self.new ≡ self.old) }
     {
         self.items.push(item)?;
@@ -77,7 +91,8 @@ impl Stack {
     /// Takes the top item off. It takes no memory.
     pub fn take(&mut self) -> Item
         requires { 0 < length self.old }
-        ensures { self.old ≡ self.new ++ result ∷ [] }
+        ensures item { self.old ≡ result ∷ self.new }
+        ensures element { IsItem result }
     {
         self.items.pop().unwrap()
     }
@@ -85,58 +100,52 @@ impl Stack {
     /// The operation PUSH: puts an element on top, with the number of the instruction that is run
     /// (bindingApiTester.md, "Data Operations"). After a refusal, for want of memory alone, the stack is unchanged.
     pub fn push(&mut self, element: Elem, instruction: u64) -> Result<(), StackFault>
-        ensures ok { OnOk result (self.new ≡ self.old ++ record { element = element; instruction = instruction } ∷ []) }
+        requires { IsElement element }
+        ensures ok { OnOk result (self.new ≡ pushed instruction (element ∷ []) self.old) }
         ensures err { OnErr result (self.new ≡ self.old) }
         ensures cause { IsOkUnless result StackFault.NoMemory }
     {
-        match self.put(Item {
+        self.put(Item {
             element,
             instruction,
-        }) {
-            Ok(()) => Ok(()),
-            Err(_) => Err(StackFault::NoMemory),
-        }
+        })?;
+        Ok(())
     }
 
-    /// Pops an operand of the kind "bytes": a byte string, or a Unicode string taken as its UTF-8. Where there is
-    /// no item it answers Underflow; where the top item is of another kind it answers Operand, and the item is
-    /// gone. It takes no memory.
-    #[tactic(auto, unfolding(machine_rules::specs::Machines::bytes_operand))]
-    pub fn pop_bytes(&mut self) -> Result<Bytes, StackFault>
-        ensures { Pops result (bytes_operand self.old) self.new }
-    {
-        match self.pop() {
-            None => Err(StackFault::Underflow),
-            Some(item) => into_bytes(item).ok_or(StackFault::Operand),
-        }
-    }
-
-    /// Pops the top item, if there is one. It takes no memory.
-    #[tactic(auto, using(machine_rules::specs::Machines::popped_push))]
-    pub fn pop(&mut self) -> Option<Item>
-        ensures { PopsTop result self.old self.new }
+    // Pops the top item, if there is one.
+    pub(crate) fn pop_top(&mut self) -> Option<Item>
+        ensures popped { PopsTop result self.old self.new }
+        ensures element { IfSome result IsItem }
     {
         self.items.pop()
     }
-}
 
-fn into_bytes(item: Item) -> Option<Bytes>
-    ensures { result ≡ bytes_of item.element }
-{
-    match item.element {
-        Elem::Bytes(bytes) => Some(bytes),
-        Elem::Text(text) => Some(text.into_bytes()),
-        Elem::Int(_) => None,
+    // The top item, if there is one.
+    pub(crate) fn top(&self) -> Option<&Item>
+        ensures seen { SeesTop result self.now }
+        ensures element { IfSome result (λ top. IsItem top.now) }
+    {
+        self.items.as_slice().last()
     }
-}
 
-/// The bytes of an element of the kind "bytes": of a byte string, or of a Unicode string's UTF-8. It takes no memory.
-pub fn bytes_of(element: &Elem) -> Option<&[u8]>
-    ensures { option_map (λ bytes. bytes.now) result ≡ bytes_of element.now }
-{
-    match element {
-        Elem::Bytes(bytes) => Some(bytes.as_slice()),
-        Elem::Text(text) => Some(text.as_bytes()),
-        Elem::Int(_) => None,
+    // Swaps the top item with the one at this depth.
+    pub(crate) fn swap_top(&mut self, depth: usize)
+        requires { depth < length self.old }
+        ensures { self.new ≡ swap self.old 0 depth }
+    {
+        let top = self.items.len() - 1;
+        self.items.swap(top, top - depth);
+    }
+
+    // Takes all items off.
+    pub(crate) fn clear(&mut self)
+        ensures { self.new ≡ [] }
+    {
+        self.items.clear();
+    }
+
+    // The allocator of the stack.
+    pub(crate) fn alloc(&self) -> Global {
+        *self.items.allocator()
     }
 }

@@ -1,0 +1,155 @@
+//! The operations on data (bindingApiTester.md, "Data Operations" and "Miscellaneous").
+//!
+//! Each is run as the instruction of a number, which the items that it pushes have. After Underflow or Operand the
+//! items popped before the fault was judged are gone, and all others stand.
+
+ghost use Rattle.std.specs.Prelude.{◌≡◌, ◌≢◌, [], ◌∷◌, Ok, Err, IsOk, OnOk, OnErr, IsOkUnless};
+ghost use Rattle.machine_rules.specs.Operands.{bytes_operand, string_operand, int_operand, two_operands, left_of};
+ghost use Rattle.machine_rules.specs.StackOperations.{dup, swap_by_depth, pop, sub, concat, wait_future, get_approximate_size, get_estimated_range_size, joined, pushed};
+ghost use Rattle.stack_items.specs.Pops.{Does, Joins};
+
+use crate::fault::StackFault;
+use crate::stack::Stack;
+use fdb_tuple::Elem;
+use key_bytes::Bytes;
+use machine_rules::Item;
+
+impl Stack {
+    /// DUP: pushes a copy of the top item, with the copied item's number. Underflow comes exactly where there is no
+    /// item. After NoMemory the stack is unchanged.
+    pub fn dup(&mut self, _instruction: u64) -> Result<(), StackFault>
+        ensures said { Does result (dup self.old) self.new }
+        ensures memory { result ≡ Err StackFault.NoMemory → self.new ≡ self.old }
+    {
+        let top = self.top().ok_or(StackFault::Underflow)?;
+        let copy = Item {
+            element: top.element.copy()?,
+            instruction: top.instruction,
+        };
+        self.put(copy)?;
+        Ok(())
+    }
+
+    /// EMPTY_STACK: drops all items. It takes no memory.
+    pub fn empty_stack(&mut self, _instruction: u64) -> Result<(), StackFault>
+        ensures said { Does result (Ok []) self.new }
+        ensures ok { IsOk result }
+    {
+        self.clear();
+        Ok(())
+    }
+
+    /// SWAP: pops a depth, and swaps the top item with the one at that depth, with their numbers. Underflow comes
+    /// exactly where there is no depth or no item at it, Operand exactly where the depth is no integer from 0 upward.
+    /// It takes no memory.
+    pub fn swap(&mut self, _instruction: u64) -> Result<(), StackFault>
+        ensures said { Does result (swap_by_depth self.old) self.new }
+        ensures memory { result ≢ Err StackFault.NoMemory }
+    {
+        let depth = self.pop_count()?;
+        if depth >= self.len() as u128 {
+            return Err(StackFault::Underflow);
+        }
+        self.swap_top(depth as usize);
+        Ok(())
+    }
+
+    /// POP: drops the top item. Underflow comes exactly where there is none. It takes no memory.
+    pub fn pop(&mut self, _instruction: u64) -> Result<(), StackFault>
+        ensures said { Does result (pop self.old) self.new }
+        ensures memory { result ≢ Err StackFault.NoMemory }
+    {
+        self.pop_item()?;
+        Ok(())
+    }
+
+    /// SUB: pops two integers, and pushes the first less the second. Operand comes exactly where one is no integer, or
+    /// the difference has more than 128 bits. After NoMemory the items below the two stand.
+    pub fn sub(&mut self, instruction: u64) -> Result<(), StackFault>
+        ensures said { Does result (sub instruction self.old) self.new }
+        ensures memory { result ≡ Err StackFault.NoMemory → self.new ≡ left_of (two_operands int_operand int_operand self.old) }
+    {
+        let first = self.pop_int()?;
+        let second = self.pop_int()?;
+        let difference = first.checked_sub(second).ok_or(StackFault::Operand)?;
+        self.push(Elem::Int(difference), instruction)
+    }
+
+    /// CONCAT: pops two strings, and pushes the first followed by the second. Operand comes exactly where one is no
+    /// string, or they are not of one kind. After NoMemory the items below the two stand.
+    pub fn concat(&mut self, instruction: u64) -> Result<(), StackFault>
+        ensures said { Does result (concat instruction self.old) self.new }
+        ensures memory { result ≡ Err StackFault.NoMemory → self.new ≡ left_of (two_operands string_operand string_operand self.old) }
+    {
+        let first = self.pop_string()?;
+        let second = self.pop_string()?;
+        let whole = join(first, second)?;
+        self.push(whole, instruction)
+    }
+
+    /// WAIT_FUTURE: pops the top item and pushes it again, with its own number. Underflow comes exactly where there is
+    /// none. It takes no memory.
+    pub fn wait_future(&mut self, _instruction: u64) -> Result<(), StackFault>
+        ensures said { Does result (wait_future self.old) self.new }
+        ensures memory { result ≢ Err StackFault.NoMemory }
+    {
+        match self.top() {
+            Some(_) => Ok(()),
+            None => Err(StackFault::Underflow),
+        }
+    }
+
+    /// GET_APPROXIMATE_SIZE: pushes its fixed text. After NoMemory the stack is unchanged.
+    pub fn get_approximate_size(&mut self, instruction: u64) -> Result<(), StackFault>
+        ensures said { Does result (get_approximate_size instruction self.old) self.new }
+        ensures memory { result ≡ Err StackFault.NoMemory → self.new ≡ self.old }
+    {
+        self.push_text(b"GOT_APPROXIMATE_SIZE", instruction)
+    }
+
+    /// GET_ESTIMATED_RANGE_SIZE: pops the two ends of a range, and pushes its fixed text. Operand comes exactly where
+    /// one is not of the kind "bytes". After NoMemory the items below the two stand.
+    pub fn get_estimated_range_size(&mut self, instruction: u64) -> Result<(), StackFault>
+        ensures said { Does result (get_estimated_range_size instruction self.old) self.new }
+        ensures memory { result ≡ Err StackFault.NoMemory → self.new ≡ left_of (two_operands bytes_operand bytes_operand self.old) }
+    {
+        let _begin = self.pop_bytes()?;
+        let _end = self.pop_bytes()?;
+        self.push_text(b"GOT_ESTIMATED_RANGE_SIZE", instruction)
+    }
+
+    /// UNIT_TESTS: does nothing. It takes no memory.
+    pub fn unit_tests(&mut self, _instruction: u64) -> Result<(), StackFault>
+        ensures said { Does result (Ok self.old) self.new }
+        ensures ok { IsOk result }
+    {
+        Ok(())
+    }
+
+    // Pushes a fixed text, as a byte string. After a refusal, for want of memory alone, the stack is unchanged.
+    pub(crate) fn push_text(&mut self, text: &[u8], instruction: u64) -> Result<(), StackFault>
+        ensures ok { OnOk result (self.new ≡ pushed instruction (Elem.Bytes text.now ∷ []) self.old) }
+        ensures err { OnErr result (self.new ≡ self.old) }
+        ensures cause { IsOkUnless result StackFault.NoMemory }
+    {
+        let bytes = Bytes::from_slice(self.alloc(), text)?;
+        self.push(Elem::Bytes(bytes), instruction)
+    }
+}
+
+// The first string followed by the second. Operand comes exactly where they are not of one kind.
+fn join(first: Elem, second: Elem) -> Result<Elem, StackFault>
+    ensures { Joins result (joined first second) }
+{
+    match (first, second) {
+        (Elem::Bytes(mut first), Elem::Bytes(second)) => {
+            first.extend(second.as_slice())?;
+            Ok(Elem::Bytes(first))
+        }
+        (Elem::Text(mut first), Elem::Text(second)) => {
+            first.append(&second)?;
+            Ok(Elem::Text(first))
+        }
+        _ => Err(StackFault::Operand),
+    }
+}
