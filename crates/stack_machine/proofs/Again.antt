@@ -7,9 +7,7 @@ use Rattle.machine_rules.specs.declared.Awaits.{Awaits}
 use Rattle.machine_rules.specs.declared.Awaits.TheVariants as awaits
 use Rattle.machine_rules.specs.declared.State.{State}
 use Rattle.machine_rules.specs.declared.State.TheVariants as state
-use Rattle.machine_rules.specs.declared.Instruction.{Instruction}
-use Rattle.machine_rules.specs.declared.Instruction.TheVariants as instruction
-use Rattle.machine_rules.specs.Machines.{Machine, Progress, Operand, Popped, Missing, Unfit, silent, set_key, set_value, bytes_operand, run_instruction, run_next, instruction_of, answered, advance_by, advance, resumed, resumed_by}
+use Rattle.machine_rules.specs.Machines.{Machine, Progress, Act, Does, Stops, Asks, silent, acted, next_act, answered, advance_by, advance, resumed, resumed_by}
 use Rattle.stack_machine.specs.Held.{Held}
 use Rattle.stack_machine.specs.Steps.{IsDue, MayStep, moved, answer_of, Moves}
 use Rattle.stack_machine.specs.declared.machine.Step.{Step}
@@ -18,28 +16,13 @@ use Rattle.stack_machine.specs.declared.machine.Step.TheVariants as step
 abbrev FinishesAtAgain : Machine → Progress → Type 0
 FinishesAtAgain machine progress = answer_of progress ≡ step.Again → progress.machine.next ≡ machine.next + 1
 
-value_again : (machine : Machine) (key : List ℕ) (operand : Operand) → FinishesAtAgain machine (set_value machine key operand)
-value_again machine key (Popped value below) e = absurd cc
-value_again machine key Missing e = absurd cc
-value_again machine key (Unfit below) e = absurd cc
-
-key_again : (machine : Machine) (operand : Operand) → FinishesAtAgain machine (set_key machine operand)
-key_again machine (Popped key below) e = value_again machine key (bytes_operand below) e
-key_again machine Missing e = absurd cc
-key_again machine (Unfit below) e = absurd cc
-
-instruction_again : (machine : Machine) (found : Option Instruction) → FinishesAtAgain machine (run_instruction machine found)
-instruction_again machine None e = absurd cc
-instruction_again machine (Some (instruction.Push element)) e = refl
-instruction_again machine (Some instruction.Set) e = key_again machine (bytes_operand machine.stack) e
-instruction_again machine (Some instruction.Commit) e = absurd cc
-
-next_again : (machine : Machine) (value : Option (List ℕ)) → FinishesAtAgain machine (run_next machine value)
-next_again machine None e = absurd cc
-next_again machine (Some value) e = instruction_again machine (instruction_of value) e
+act_again : (machine : Machine) (act : Act) → FinishesAtAgain machine (acted machine act)
+act_again machine (Does stack) e = refl
+act_again machine (Stops stack end) e = absurd cc
+act_again machine (Asks stack request awaits) e = absurd cc
 
 advance_again : (state : State) (machine : Machine) → machine.state ≡ state → IsDue state None → FinishesAtAgain machine (advance_by state machine)
-advance_again state.Running machine is due e = next_again machine (slice_get machine.instructions machine.next) e
+advance_again state.Running machine is due e = act_again machine (next_act machine (slice_get machine.instructions machine.next)) e
 advance_again (state.Awaiting awaits) machine is due e = absurd due
 advance_again (state.Stopped end) machine is due e = absurd (let stopped : answer_of (silent machine) ≡ step.Stopped end = ap (λ s. answer_of (silent (record machine { state = s }))) is in cc (sym e ∙ stopped))
 

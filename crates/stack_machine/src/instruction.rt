@@ -1,28 +1,35 @@
 //! Instructions as values of the database.
 
-ghost use Rattle.std.specs.Prelude.{◌≡◌, [], IfOk, option_to_list};
-ghost use Rattle.machine_rules.specs.Machines.{bytes_of, operation, instruction_in, instruction_of};
+ghost use Rattle.std.specs.Prelude.{◌≡◌, [], IfOk, IfSome, option_to_list};
+ghost use Rattle.machine_rules.specs.Operands.{bytes_of};
+ghost use Rattle.machine_rules.specs.Instructions.{stack_operation, bare_instruction, named_instruction, instruction_in, instruction_of};
+ghost use Rattle.stack_machine.specs.Pushes.{PushesAnElement};
+ghost use Rattle.fdb_tuple.specs.Listed.{IsElement};
+ghost use Rattle.stack_machine.specs.Pushes.{AreElements};
 
 use fdb_tuple::{Elem, UnpackFault, unpack};
-use machine_rules::Instruction;
+use machine_rules::{Instruction, StackOperation};
 use stack_items::bytes_of;
 use std::alloc::{AllocError, Global};
 
 /// The instruction that a value packs: a tuple of a name, a Unicode or a byte string, and for PUSH one element
 /// more. None where the value is no such tuple.
-#[tactic(auto, unfolding(machine_rules::specs::Machines::instruction_of))]
+#[tactic(auto, unfolding(machine_rules::specs::Instructions::instruction_of))]
 pub fn instruction_of(alloc: Global, value: &[u8]) -> Result<Option<Instruction>, AllocError>
-    ensures { IfOk result (λ instruction. instruction ≡ instruction_of value.now) }
+    ensures instruction { IfOk result (λ instruction. instruction ≡ instruction_of value.now) }
+    ensures element { IfOk result PushesAnElement }
 {
     match unpack(alloc, value) {
         Ok(tuple) => Ok(instruction_in(tuple.into_vec())),
-        Err(UnpackFault::NotBuilt) => Ok(None),
         Err(UnpackFault::NoMemory) => Err(AllocError),
+        Err(_) => Ok(None),
     }
 }
 
 fn instruction_in(elements: Vec<Elem>) -> Option<Instruction>
-    ensures { result ≡ instruction_in elements.items }
+    requires { AreElements elements.items }
+    ensures instruction { result ≡ instruction_in elements.items }
+    ensures element { PushesAnElement result }
 {
     let mut rest = elements.into_iter();
     let name = rest.next()?;
@@ -30,26 +37,67 @@ fn instruction_in(elements: Vec<Elem>) -> Option<Instruction>
     if rest.next().is_some() {
         return None;
     }
-    operation(bytes_of(&name)?, element)
+    named_instruction(bytes_of(&name)?, element)
 }
 
-fn operation(name: &[u8], element: Option<Elem>) -> Option<Instruction>
-    ensures { result ≡ operation name.now (option_to_list element) }
+fn named_instruction(name: &[u8], element: Option<Elem>) -> Option<Instruction>
+    requires { IfSome element IsElement }
+    ensures instruction { result ≡ named_instruction name.now (option_to_list element) }
+    ensures element { PushesAnElement result }
 {
     match element {
-        None => bare_operation(name),
+        None => bare_instruction(name),
         Some(element) if name == b"PUSH".as_slice() => Some(Instruction::Push(element)),
         Some(_) => None,
     }
 }
 
-fn bare_operation(name: &[u8]) -> Option<Instruction>
-    ensures { result ≡ operation name.now [] }
+fn bare_instruction(name: &[u8]) -> Option<Instruction>
+    ensures instruction { result ≡ bare_instruction name.now }
+    ensures element { PushesAnElement result }
 {
     if name == b"SET".as_slice() {
         Some(Instruction::Set)
     } else if name == b"COMMIT".as_slice() {
         Some(Instruction::Commit)
+    } else {
+        stack_operation(name).map(Instruction::OnStack)
+    }
+}
+
+fn stack_operation(name: &[u8]) -> Option<StackOperation>
+    ensures { result ≡ stack_operation name.now }
+{
+    if name == b"DUP".as_slice() {
+        Some(StackOperation::Dup)
+    } else if name == b"EMPTY_STACK".as_slice() {
+        Some(StackOperation::EmptyStack)
+    } else if name == b"SWAP".as_slice() {
+        Some(StackOperation::Swap)
+    } else if name == b"POP".as_slice() {
+        Some(StackOperation::Pop)
+    } else if name == b"SUB".as_slice() {
+        Some(StackOperation::Sub)
+    } else if name == b"CONCAT".as_slice() {
+        Some(StackOperation::Concat)
+    } else if name == b"WAIT_FUTURE".as_slice() {
+        Some(StackOperation::WaitFuture)
+    } else if name == b"TUPLE_PACK".as_slice() {
+        Some(StackOperation::TuplePack)
+    } else if name == b"TUPLE_PACK_WITH_VERSIONSTAMP".as_slice() {
+        Some(StackOperation::TuplePackWithVersionstamp)
+    } else if name == b"TUPLE_UNPACK".as_slice() {
+        Some(StackOperation::TupleUnpack)
+    } else if name == b"TUPLE_RANGE".as_slice() {
+        Some(StackOperation::TupleRange)
+    } else if name == b"TUPLE_SORT".as_slice() {
+        Some(StackOperation::TupleSort)
+    } else if name == b"GET_APPROXIMATE_SIZE".as_slice() {
+        Some(StackOperation::GetApproximateSize)
+    } else if name == b"GET_ESTIMATED_RANGE_SIZE".as_slice() {
+        Some(StackOperation::GetEstimatedRangeSize)
+    } else if name == b"UNIT_TESTS".as_slice() {
+        Some(StackOperation::UnitTests)
     } else {
         None
     }

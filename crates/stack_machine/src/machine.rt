@@ -2,13 +2,17 @@
 
 ghost use Rattle.std.specs.Prelude.{◌≡◌, ◌≢◌, ◌+◌, ◌<◌, ◌^◌, false, true, List, [], ◌∷◌, ◌++◌, length, map, Some, None, Ok, option_copied, slice_get, IfOk, IsErr, OnErr, IsTrue};
 ghost use Rattle.machine_rules.specs.declared.State.TheVariants.{Running, Awaiting, Stopped};
-ghost use Rattle.machine_rules.specs.Machines.{stopped, done, asking, silent, set_key, bytes_operand, run_instruction, run_next, advance, resumed, item, result_not_present, answered, answered_done, set_value};
+ghost use Rattle.fdb_tuple.specs.Listed.{IsElement};
+ghost use Rattle.machine_rules.specs.StackOperations.{pushed, operated};
+ghost use Rattle.machine_rules.specs.Machines.{stopped, done, asking, silent, set_operands, sets, does, act_of, acted, next_act, advance, resumed, result_not_present, answered, answered_done};
+ghost use Rattle.stack_items.specs.Pops.{Pops};
+ghost use Rattle.stack_machine.specs.Pushes.{PushesAnElement};
 
 use crate::instruction::instruction_of;
 use fdb_calls::{Reply, Request, TxnCall};
 use fdb_tuple::Elem;
 use key_bytes::{Bytes, Pairs};
-use machine_rules::{Awaits, End, Instruction, Item, State};
+use machine_rules::{Awaits, End, Instruction, Item, StackOperation, State};
 use stack_items::{Stack, StackFault};
 use std::alloc::{AllocError, Global};
 use std::marker::Model;
@@ -42,6 +46,11 @@ impl Model for Machine {
     ghost use Rattle.stack_machine.specs.Held.{Held, IsInside, values_of};
 
     ghost Value = { Held };
+
+    ghost use Rattle.machine_rules.specs.contracts.Item as item;
+    ghost use Rattle.std.specs.Coded.{codes};
+
+    ghost coded = { Prim.hlevel (codes, item.the_row.coded) };
 
     ghost view = { λ m. record {
       machine = record {
@@ -204,7 +213,7 @@ impl Machine {
     fn push_text(&mut self, text: &[u8]) -> Result<Step, AllocError>
         requires ready { self.old.is_out_of_memory ≡ false }
         requires inside { self.old.machine.next < length self.old.machine.instructions }
-        ensures { IfOk result (λ step. Moves self.old (silent (done self.old.machine (self.old.machine.stack ++ item self.old.machine (Elem.Bytes text.now) ∷ []))) step self.new) }
+        ensures { IfOk result (λ step. Moves self.old (silent (done self.old.machine (pushed self.old.machine.next (Elem.Bytes text.now ∷ []) self.old.machine.stack))) step self.new) }
     {
         let text = Bytes::from_slice(self.alloc, text)?;
         self.push(Elem::Bytes(text))
@@ -213,7 +222,7 @@ impl Machine {
     fn run_next(&mut self) -> Result<Step, AllocError>
         requires ready { self.old.is_out_of_memory ≡ false }
         requires running { self.old.machine.state ≡ Running }
-        ensures { IfOk result (λ step. Moves self.old (run_next self.old.machine (slice_get self.old.machine.instructions self.old.machine.next)) step self.new) }
+        ensures { IfOk result (λ step. Moves self.old (acted self.old.machine (next_act self.old.machine (slice_get self.old.machine.instructions self.old.machine.next))) step self.new) }
     {
         if self.next < self.instructions.len() {
             let value = self.instructions.get(self.next).value.as_slice();
@@ -224,14 +233,17 @@ impl Machine {
         }
     }
 
+    #[tactic(auto, unfolding(machine_rules::specs::Machines::act_of))]
     fn run(&mut self, instruction: Option<Instruction>) -> Result<Step, AllocError>
         requires ready { self.old.is_out_of_memory ≡ false }
         requires inside { self.old.machine.next < length self.old.machine.instructions }
-        ensures { IfOk result (λ step. Moves self.old (run_instruction self.old.machine instruction) step self.new) }
+        requires element { PushesAnElement instruction }
+        ensures { IfOk result (λ step. Moves self.old (acted self.old.machine (act_of self.old.machine.next self.old.machine.prefix self.old.machine.stack instruction)) step self.new) }
     {
         match instruction {
             None => Ok(self.stop(End::BadInstruction(self.next as u64))),
             Some(Instruction::Push(element)) => self.push(element),
+            Some(Instruction::OnStack(operation)) => self.operate(operation),
             Some(Instruction::Set) => self.set(),
             Some(Instruction::Commit) => self.ask(TxnCall::Commit, Awaits::NotPresent),
         }
@@ -240,7 +252,8 @@ impl Machine {
     fn push(&mut self, element: Elem) -> Result<Step, AllocError>
         requires ready { self.old.is_out_of_memory ≡ false }
         requires inside { self.old.machine.next < length self.old.machine.instructions }
-        ensures { IfOk result (λ step. Moves self.old (silent (done self.old.machine (self.old.machine.stack ++ item self.old.machine element ∷ []))) step self.new) }
+        requires element { IsElement element }
+        ensures { IfOk result (λ step. Moves self.old (silent (done self.old.machine (pushed self.old.machine.next (element ∷ []) self.old.machine.stack))) step self.new) }
     {
         self.stack.put(Item {
             element,
@@ -249,24 +262,27 @@ impl Machine {
         Ok(self.finish())
     }
 
-    fn set(&mut self) -> Result<Step, AllocError>
+    // An operation on the stack alone.
+    fn operate(&mut self, operation: StackOperation) -> Result<Step, AllocError>
         requires ready { self.old.is_out_of_memory ≡ false }
         requires inside { self.old.machine.next < length self.old.machine.instructions }
-        ensures { IfOk result (λ step. Moves self.old (set_key self.old.machine (bytes_operand self.old.machine.stack)) step self.new) }
+        ensures { IfOk result (λ step. Moves self.old (acted self.old.machine (does self.old.machine.next (operated operation self.old.machine.next self.old.machine.stack))) step self.new) }
     {
-        match self.stack.pop_bytes() {
-            Ok(key) => self.set_value(key),
+        match self.stack.operate(operation, self.next as u64) {
+            Ok(()) => Ok(self.finish()),
+            Err(StackFault::NoMemory) => Err(AllocError),
             Err(fault) => Ok(self.refuse(fault)),
         }
     }
 
-    fn set_value(&mut self, key: Bytes) -> Result<Step, AllocError>
+    // SET pops a key, and then a value.
+    fn set(&mut self) -> Result<Step, AllocError>
         requires ready { self.old.is_out_of_memory ≡ false }
         requires inside { self.old.machine.next < length self.old.machine.instructions }
-        ensures { IfOk result (λ step. Moves self.old (set_value self.old.machine key (bytes_operand self.old.machine.stack)) step self.new) }
+        ensures { IfOk result (λ step. Moves self.old (acted self.old.machine (sets self.old.machine.next self.old.machine.prefix (set_operands self.old.machine.stack))) step self.new) }
     {
-        match self.stack.pop_bytes() {
-            Ok(value) => self.ask(TxnCall::Set { key, value }, Awaits::Nothing),
+        match pop_key_and_value(&mut self.stack) {
+            Ok((key, value)) => self.ask(TxnCall::Set { key, value }, Awaits::Nothing),
             Err(fault) => Ok(self.refuse(fault)),
         }
     }
@@ -308,10 +324,18 @@ impl Machine {
     fn ask(&mut self, call: TxnCall, awaits: Awaits) -> Result<Step, AllocError>
         requires ready { self.old.is_out_of_memory ≡ false }
         requires inside { self.old.machine.next < length self.old.machine.instructions }
-        ensures { IfOk result (λ step. Moves self.old (asking self.old.machine self.old.machine.stack call awaits) step self.new) }
+        ensures { IfOk result (λ step. Moves self.old (asking self.old.machine self.old.machine.stack (Request.On self.old.machine.prefix call) awaits) step self.new) }
     {
         let name = self.prefix.copy()?;
         self.state = State::Awaiting(awaits);
         Ok(Step::Ask(Request::On { name, call }))
     }
+}
+
+fn pop_key_and_value(stack: &mut Stack) -> Result<(Bytes, Bytes), StackFault>
+    ensures { Pops (λ operands. operands) result (set_operands stack.old) stack.new }
+{
+    let key = stack.pop_bytes()?;
+    let value = stack.pop_bytes()?;
+    Ok((key, value))
 }

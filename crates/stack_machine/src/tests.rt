@@ -2,7 +2,7 @@ ghost use Rattle.std.specs.Prelude.{◌≡◌, false, IfOk};
 ghost use Rattle.machine_rules.specs.declared.State.TheVariants.{Running};
 
 use super::*;
-use fdb_tuple::{Elem, Text, Tuple, pack};
+use fdb_tuple::{Elem, Text, pack_element};
 use key_bytes::{Bytes, Pair, Pairs};
 use std::alloc::{AllocError, Global};
 use std::test::Fail;
@@ -12,12 +12,10 @@ fn machine_with(alloc: Global, name: &str) -> Result<Machine, AllocError>
     ensures ready { IfOk result (λ machine. machine.is_out_of_memory ≡ false) }
     ensures running { IfOk result (λ machine. machine.machine.state ≡ Running) }
 {
-    let mut tuple = Tuple::new(alloc);
-    tuple.push(Elem::Text(Text::from_str(alloc, name)?))?;
     let mut instructions = Pairs::new(alloc);
     instructions.push(Pair {
         key: Bytes::new(alloc),
-        value: pack(alloc, &tuple)?,
+        value: pack_element(alloc, &Elem::Text(Text::from_str(alloc, name)?))?,
     })?;
     let prefix = Bytes::from_slice(alloc, b"p")?;
     Ok(Machine::new(alloc, 0, prefix, instructions))

@@ -73,7 +73,6 @@ fn range_end(alloc: Global, prefix: &[u8], last: u8) -> Result<Key, AllocError>
     Ok(key)
 }
 
-#[tactic(auto, using(crate::proofs::Packed::packed_alone))]
 fn packed(alloc: Global, prefix: &[u8]) -> Result<Bytes, AllocError>
     ensures { IfOk result (λ packed. packed ≡ packed_prefix prefix.now) }
 {
