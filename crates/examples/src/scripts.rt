@@ -9,7 +9,7 @@ pub struct Script {
 }
 
 /// All of them.
-pub const SCRIPTS: [Script; 11] = [
+pub const SCRIPTS: [Script; 15] = [
     Script {
         input: "first.kv",
         prefix: "p",
@@ -75,5 +75,29 @@ pub const SCRIPTS: [Script; 11] = [
         prefix: "two words",
         status: 0,
         dump: "other_keys.dump",
+    },
+    Script {
+        input: "stack.kv",
+        prefix: "p",
+        status: 0,
+        dump: "stack.dump",
+    },
+    Script {
+        input: "tuples.kv",
+        prefix: "p",
+        status: 0,
+        dump: "tuples.dump",
+    },
+    Script {
+        input: "refused_tuple.kv",
+        prefix: "p",
+        status: 3,
+        dump: "refused_tuple.dump",
+    },
+    Script {
+        input: "count_past_the_stack.kv",
+        prefix: "p",
+        status: 3,
+        dump: "count_past_the_stack.dump",
     },
 ];
