@@ -11,17 +11,17 @@ use Rattle.key_bytes.specs.Successors.{raised, strinc, IsAboveEach, IsLeastAbove
 
 -- ---- the order, by the first bytes
 
-lt_first : (a c : ℕ) (x y : List ℕ) → a < c → key_lt (a ∷ x) (c ∷ y) ≡ true
+pub lt_first : (a c : ℕ) (x y : List ℕ) → a < c → key_lt (a ∷ x) (c ∷ y) ≡ true
 lt_first a c x y h = grind (arith, nat_tests)
 
-lt_later : (a c : ℕ) (x y : List ℕ) → c < a → key_lt (a ∷ x) (c ∷ y) ≡ false
+pub lt_later : (a c : ℕ) (x y : List ℕ) → c < a → key_lt (a ∷ x) (c ∷ y) ≡ false
 lt_later a c x y h = grind (arith, nat_tests)
 
-lt_rest : (a c : ℕ) (x y : List ℕ) → a ≡ c → key_lt (a ∷ x) (c ∷ y) ≡ key_lt x y
+pub lt_rest : (a c : ℕ) (x y : List ℕ) → a ≡ c → key_lt (a ∷ x) (c ∷ y) ≡ key_lt x y
 lt_rest a c x y h = grind (arith, nat_tests)
 
 -- one byte alone is not above a key whose first byte is as great
-not_below_alone : (a c : ℕ) (x : List ℕ) → a ≤ c → key_lt (c ∷ x) (a ∷ []) ≡ false
+pub not_below_alone : (a c : ℕ) (x : List ℕ) → a ≤ c → key_lt (c ∷ x) (a ∷ []) ≡ false
 not_below_alone a c [] h = grind (arith, nat_tests)
 not_below_alone a c (d ∷ x) h = grind (arith, nat_tests)
 
@@ -30,7 +30,7 @@ below_alone a c [] h = grind (arith, nat_tests)
 below_alone a c (d ∷ x) h = grind (arith, nat_tests)
 
 -- nothing is below itself
-irreflexive : (k : List ℕ) → key_lt k k ≡ false
+pub irreflexive : (k : List ℕ) → key_lt k k ≡ false
 irreflexive k = ap is_lt (tied_itself nat_list_cmp_total k)
 
 -- the first bytes of two keys are in the order of the keys, or the same
