@@ -1,18 +1,32 @@
 -- The database: a finite map from keys to byte strings, and its history.
-use Rattle.std.specs.Prelude.{ℕ, List, [], ◌∷◌, length, map, take}
+use Rattle.std.specs.Prelude.{ℕ, not, List, [], ◌∷◌, length, map, take, Option, Some, None}
 use Rattle.std.specs.FinMap as finite
-use Rattle.key_bytes.specs.Keys.{key_cmp}
+use Rattle.key_bytes.specs.Keys.{key_cmp, within}
+use Rattle.database_rules.specs.declared.AtomicOp.{AtomicOp}
+use Rattle.database_rules.specs.Atomics.{atom}
 
 abbrev pub Database : Type 0
 Database = finite.FinMap key_cmp (List ℕ)
 
 -- what a write of a transaction does
 pub data Operation : Type 0 where
-  Set : List ℕ → List ℕ → Operation
+  Set : (key value : List ℕ) → Operation
+  Clear : (key : List ℕ) → Operation
+  -- clears the keys that are at least begin and less than end
+  ClearRange : (begin end : List ℕ) → Operation
+  Atomic : (op : AtomicOp) (key operand : List ℕ) → Operation
+
+-- the database with a value under a key, or without the key
+abbrev pub put : Database → List ℕ → Option (List ℕ) → Database
+put database key (Some value) = finite.insert database key value
+put database key None = finite.remove database key
 
 -- the database after one operation
 abbrev pub do_one : Operation → Database → Database
 do_one (Set key value) database = finite.insert database key value
+do_one (Clear key) database = finite.remove database key
+do_one (ClearRange begin end) database = finite.retain_keys database (λ key. not (within begin end key))
+do_one (Atomic op key operand) database = put database key (atom op (finite.get database key) operand)
 
 -- the database after operations, in their order
 abbrev pub do_all : List Operation → Database → Database

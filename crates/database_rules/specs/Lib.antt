@@ -1,2 +1,3 @@
+pub mod Atomics
 pub mod Databases
 pub mod Transactions

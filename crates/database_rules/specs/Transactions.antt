@@ -1,24 +1,49 @@
--- A transaction, and the checks of its calls in their order.
-use Rattle.std.specs.Prelude.{ℕ, ◌+◌, Bool, true, false, not, ◌&&◌, if◌then◌else◌, List, [], ◌∷◌, ◌++◌, length, min, nat_lt, Option, Some, None}
+-- A transaction, the checks of its calls in their order, and what each call leaves (API reference, "Transaction").
+use Rattle.std.specs.Prelude.{ℕ, ◌+◌, ◌*◌, Bool, true, false, not, ◌&&◌, ◌||◌, ◌==◌, if◌then◌else◌, List, [], ◌∷◌, ◌++◌, length, min, nat_lt, Option, Some, None, unwrap_or, is_none}
+use Rattle.std.specs.List.{list_any}
+use Rattle.std.specs.FinMap as finite
+use Rattle.key_bytes.specs.declared.range.KeyRange.{KeyRange}
 use Rattle.key_bytes.specs.Keys.{key_lt, top}
+use Rattle.database_rules.specs.declared.Code.{Code}
 use Rattle.database_rules.specs.declared.Phase.{Phase}
-use Rattle.database_rules.specs.declared.Phase.TheVariants.{Active, Tried}
-use Rattle.database_rules.specs.Databases.{Operation, Set}
+use Rattle.database_rules.specs.declared.Phase.TheVariants as phase
+use Rattle.database_rules.specs.declared.Tried.{Tried}
+use Rattle.database_rules.specs.declared.Tried.TheVariants as tried
+use Rattle.database_rules.specs.declared.AtomicOp.{AtomicOp}
+use Rattle.database_rules.specs.Atomics.{atomic_named}
+use Rattle.database_rules.specs.Databases.{Database, Operation, Set, Clear, ClearRange, Atomic, History, do_all, at, last}
 
 pub record Transaction : Type 0 where
+  -- the number of its life
+  pub life : ℕ
+  -- its read version, once it is taken
+  pub version : Option ℕ
   pub operations : List Operation
+  -- the keys that its ordinary reads rest on; none yet
+  pub read_ranges : List KeyRange
   pub size : ℕ
   pub phase : Phase
 
-abbrev pub fresh : Transaction
-fresh = record { operations = []; size = 0; phase = Active }
+-- a life before its first call
+abbrev pub fresh : ℕ → Transaction
+fresh life = record { life = life; version = None; operations = []; read_ranges = []; size = 0; phase = phase.Active }
 
--- the codes of the API reference, by their names there
+-- ---- the codes of the API reference, by their names there
+
+abbrev pub transaction_cancelled : ℕ
+transaction_cancelled = 1025
+
 abbrev pub key_outside_legal_range : ℕ
 key_outside_legal_range = 2004
 
+abbrev pub inverted_range : ℕ
+inverted_range = 2005
+
 abbrev pub used_during_commit : ℕ
 used_during_commit = 2017
+
+abbrev pub invalid_mutation_type : ℕ
+invalid_mutation_type = 2018
 
 abbrev pub transaction_too_large : ℕ
 transaction_too_large = 2101
@@ -29,7 +54,13 @@ key_too_large = 2102
 abbrev pub value_too_large : ℕ
 value_too_large = 2103
 
--- limits in bytes
+-- the codes after which a transaction may be tried again: 1007 transaction_too_old, 1009 future_version, 1020 not_committed,
+-- 1021 commit_unknown_result and 1037 process_behind
+abbrev pub retryable : List ℕ
+retryable = 1007 ∷ 1009 ∷ 1020 ∷ 1021 ∷ 1037 ∷ []
+
+-- ---- limits in bytes
+
 abbrev pub key_limit : ℕ
 key_limit = 10000
 
@@ -39,49 +70,101 @@ value_limit = 100000
 abbrev pub size_limit : ℕ
 size_limit = 10000000
 
+-- ---- checks
+
 -- the code of the first check that fails: each is whether it fails, and its code
 abbrev pub first_failing : List (Bool × ℕ) → Option ℕ
 first_failing [] = None
 first_failing (check ∷ checks) = if check.0 then Some check.1 else first_failing checks
 
+abbrev pub is_cancelled : Phase → Bool
+is_cancelled phase.Cancelled = true
+is_cancelled _ = false
+
 abbrev pub is_tried : Phase → Bool
-is_tried Active = false
-is_tried Tried = true
+is_tried (phase.Tried outcome) = true
+is_tried _ = false
+
+-- a call on a life that takes no further call, and then other checks
+abbrev pub after_phase : Phase → List (Bool × ℕ) → List (Bool × ℕ)
+after_phase phase checks = (is_cancelled phase, transaction_cancelled) ∷ (is_tried phase, used_during_commit) ∷ checks
 
 -- a key of a client is less than FF
 abbrev pub is_outside : List ℕ → Bool
 is_outside key = not (key_lt key top)
 
+-- an end of a range is at most FF
+abbrev pub is_end_outside : List ℕ → Bool
+is_end_outside key = key_lt top key
+
+abbrev pub key_checks : List ℕ → List ℕ → List (Bool × ℕ)
+key_checks key value =
+    (is_outside key, key_outside_legal_range) ∷ (nat_lt key_limit (length key), key_too_large) ∷ (nat_lt value_limit (length value), value_too_large) ∷ []
+
+unfoldable pub get_code : Transaction → List ℕ → Option ℕ
+get_code transaction key = first_failing (after_phase transaction.phase ((is_outside key, key_outside_legal_range) ∷ []))
+
 unfoldable pub set_code : Transaction → List ℕ → List ℕ → Option ℕ
-set_code transaction key value = first_failing
-    ((is_tried transaction.phase, used_during_commit)
-    ∷ (is_outside key, key_outside_legal_range)
-    ∷ (nat_lt key_limit (length key), key_too_large)
-    ∷ (nat_lt value_limit (length value), value_too_large)
-    ∷ [])
+set_code transaction key value = first_failing (after_phase transaction.phase (key_checks key value))
+
+unfoldable pub clear_code : Transaction → List ℕ → Option ℕ
+clear_code transaction key = first_failing (after_phase transaction.phase ((is_outside key, key_outside_legal_range) ∷ []))
+
+unfoldable pub clear_range_code : Transaction → List ℕ → List ℕ → Option ℕ
+clear_range_code transaction begin end = first_failing (after_phase transaction.phase
+    ((is_end_outside begin || is_end_outside end, key_outside_legal_range) ∷ (key_lt end begin, inverted_range) ∷ []))
+
+unfoldable pub atomic_code : Transaction → List ℕ → List ℕ → List ℕ → Option ℕ
+atomic_code transaction name key operand = first_failing (after_phase transaction.phase
+    ((is_none (atomic_named name), invalid_mutation_type) ∷ key_checks key operand))
 
 -- without an operation the commit is read-only: it succeeds and makes no version
 abbrev pub is_read_only : Transaction → Bool
 is_read_only transaction = nat_lt (length transaction.operations) 1
 
 unfoldable pub commit_code : Transaction → Option ℕ
-commit_code transaction = first_failing
-    ((is_tried transaction.phase, used_during_commit)
-    ∷ (not (is_read_only transaction) && nat_lt size_limit transaction.size, transaction_too_large)
-    ∷ [])
+commit_code transaction = first_failing (after_phase transaction.phase
+    ((not (is_read_only transaction) && nat_lt size_limit transaction.size, transaction_too_large) ∷ []))
+
+-- ---- reading
+
+-- the version that a read has: the one that was taken, or the last
+abbrev pub version_in : History → Transaction → ℕ
+version_in history transaction = unwrap_or transaction.version (last history)
+
+-- the map that a transaction sees: that at its version, after its operations
+abbrev pub view : History → Transaction → Database
+view history transaction = do_all transaction.operations (at history (version_in history transaction))
+
+abbrev pub with_version : History → Transaction → Transaction
+with_version history transaction = record transaction { version = Some (version_in history transaction) }
+
+-- ---- writing
 
 -- the size after some bytes more, counted no further than one past its limit
 abbrev pub grown : ℕ → ℕ → ℕ
 grown size bytes = min (size + bytes) (size_limit + 1)
 
--- the transaction after an accepted set
-abbrev pub with_set : Transaction → List ℕ → List ℕ → Transaction
-with_set transaction key value = record {
-  operations = transaction.operations ++ Set key value ∷ [];
-  size = grown transaction.size (length key + length value);
-  phase = transaction.phase;
+-- how many bytes an operation counts: key and value, or twice the key and 1 of a clear, or both ends
+abbrev pub bytes_of : Operation → ℕ
+bytes_of (Set key value) = length key + length value
+bytes_of (Clear key) = 2 * length key + 1
+bytes_of (ClearRange begin end) = length begin + length end
+bytes_of (Atomic op key operand) = length key + length operand
+
+-- the transaction after an accepted write
+abbrev pub with_operation : Transaction → Operation → Transaction
+with_operation transaction operation = record transaction {
+  operations = transaction.operations ++ operation ∷ [];
+  size = grown transaction.size (bytes_of operation);
 }
 
--- the transaction after a commit was tried
-abbrev pub with_tried : Transaction → Transaction
-with_tried transaction = record transaction { phase = Tried }
+abbrev pub with_phase : Transaction → Phase → Transaction
+with_phase transaction phase = record transaction { phase = phase }
+
+-- cancelling a life that was tried, or is cancelled, changes nothing
+abbrev pub cancelled : Transaction → Transaction
+cancelled transaction = if is_tried transaction.phase then transaction else with_phase transaction phase.Cancelled
+
+abbrev pub is_retryable : ℕ → Bool
+is_retryable code = list_any (λ other. code == other) retryable

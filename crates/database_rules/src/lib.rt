@@ -1,15 +1,65 @@
-//! The database in definitions alone: what a finite map is after operations, what commits and histories are,
-//! and which check of a call fails first.
+//! The database in definitions alone: what a finite map is after operations, what commits and histories are, what a
+//! transaction is, and which check of a call fails first.
 //!
-//! Nothing here runs but a type that definitions and code share. The crates above state their contracts by these words: `specs/Databases.antt` has the
-//! database and its history, `specs/Transactions.antt` a transaction and the checks of its calls.
+//! Nothing here runs but a few types that definitions and code share. The crates above state their contracts by these
+//! words: `specs/Databases.antt` has the database and its history, `specs/Atomics.antt` the atomic operations,
+//! `specs/Transactions.antt` a transaction and the checks of its calls.
 #![tactic(auto)]
 
-/// Whether a commit was tried in this life of a transaction.
+/// An error code of the API reference ("Error Codes").
+#[derive(Clone, Copy, Debug, PartialEq, Eq)]
+pub struct Code(pub u16);
+
+/// What became of a commit that was tried.
+#[derive(Clone, Copy, Debug, PartialEq, Eq)]
+pub enum Tried {
+    /// It had nothing to write, and succeeded without a version.
+    ReadOnly,
+    /// It made this version.
+    Version(u64),
+    /// It was refused with this code.
+    Refused(Code),
+}
+
+/// How a life of a transaction stands.
 #[derive(Clone, Copy, Debug, PartialEq, Eq)]
 pub enum Phase {
     /// It takes calls.
     Active,
-    /// A commit was tried, and it takes no further call.
-    Tried,
+    /// It was cancelled, and takes no further call but a reset.
+    Cancelled,
+    /// A commit was tried, and it takes no further call but a reset and the handling of an error.
+    Tried(Tried),
+}
+
+/// What an atomic operation does to the value of a key: the operation is named, and has an operand.
+///
+/// What each makes of an old value and its operand is `atom` in `specs/Atomics.antt` (API reference of release 6.3,
+/// "fdb_transaction_atomic_op").
+#[derive(Clone, Copy, Debug, PartialEq, Eq)]
+pub enum AtomicOp {
+    /// The sum of the two as little-endian numbers, in as many bytes as the operand has.
+    Add,
+    /// Each byte of the value "and" that of the operand.
+    BitAnd,
+    /// Each byte of the value "or" that of the operand.
+    BitOr,
+    /// Each byte of the value "exclusive or" that of the operand.
+    BitXor,
+    /// The operand behind the value, where the two fit a value.
+    AppendIfFits,
+    /// The greater of the two as little-endian numbers, in as many bytes as the operand has.
+    Max,
+    /// The lesser of the two as little-endian numbers, in as many bytes as the operand has.
+    Min,
+    /// The lesser of the two in the order of keys.
+    ByteMin,
+    /// The greater of the two in the order of keys.
+    ByteMax,
+    /// No value where the value is the operand; else the value stays.
+    CompareAndClear,
+    /// Sets a key that has the commit's versionstamp in it.
+    SetVersionstampedKey,
+    /// Sets a value that has the commit's versionstamp in it.
+    SetVersionstampedValue,
 }

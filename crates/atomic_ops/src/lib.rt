@@ -1,0 +1,19 @@
+//! Atomic operations on values: which operation a name is, and what each makes of an old value and its operand.
+//!
+//! `from_name` and `apply` answer what `database_rules` defines (`specs/Atomics.antt`: `atomic_named` and `atom`).
+//! There numbers are numbers; here they are bytes, the lowest first, and no number is ever built: a sum goes up
+//! byte by byte with a carry, and a comparison goes down from the highest byte.
+#![tactic(auto)]
+
+mod applying;
+mod bits;
+mod fitting;
+mod names;
+mod numbers;
+
+pub use applying::apply;
+pub use database_rules::AtomicOp;
+pub use names::from_name;
+
+#[cfg(test)]
+mod tests;

@@ -1,0 +1,258 @@
+use super::*;
+use key_bytes::Bytes;
+use std::alloc::{AllocError, Global};
+use std::test::Fail;
+
+// What `apply` answers, and None for an operation that it is not asked.
+fn applied(
+    alloc: Global,
+    op: AtomicOp,
+    old: Option<&[u8]>,
+    operand: &[u8],
+) -> Result<Option<Bytes>, AllocError> {
+    match op {
+        AtomicOp::SetVersionstampedKey | AtomicOp::SetVersionstampedValue => Ok(None),
+        _ => apply(alloc, op, old, operand),
+    }
+}
+
+#[test]
+fn numbers(rt: HostRuntime) -> Result<(), Fail> {
+    let rows: [(AtomicOp, &[u8], &[u8], &[u8]); 20] = [
+        (AtomicOp::Add, b"\xFF", b"\x01\x00", b"\x00\x01"),
+        (AtomicOp::Add, b"\xFF\xFF\x07", b"\x01\x00", b"\x00\x00"),
+        (AtomicOp::Add, b"\xFF\xFE", b"\x01\x00\x00", b"\x00\xFF\x00"),
+        (AtomicOp::Add, b"\x07\x01", b"\x02", b"\x09"),
+        (AtomicOp::Add, b"", b"\x05", b"\x05"),
+        (AtomicOp::Add, b"\xFF", b"", b""),
+        (AtomicOp::Max, b"\x01\x09", b"\x02", b"\x02"),
+        (AtomicOp::Max, b"\x03\x01", b"\x02", b"\x03"),
+        (AtomicOp::Max, b"\x05", b"\x01\x01", b"\x01\x01"),
+        (AtomicOp::Max, b"\xFF", b"\x01\x00", b"\xFF\x00"),
+        (AtomicOp::Max, b"\x00\x02", b"\xFF\x01", b"\x00\x02"),
+        (AtomicOp::Max, b"\x07", b"\x07", b"\x07"),
+        (AtomicOp::Max, b"\x07", b"", b""),
+        (AtomicOp::Min, b"\x01\x09", b"\x02", b"\x01"),
+        (AtomicOp::Min, b"\x05", b"\x01\x01", b"\x05\x00"),
+        (AtomicOp::Min, b"\xFF", b"\x01\x00", b"\x01\x00"),
+        (AtomicOp::Min, b"\x00\x02", b"\xFF\x01", b"\xFF\x01"),
+        (AtomicOp::Min, b"", b"\x01", b"\x00"),
+        (AtomicOp::Min, b"\x07", b"\x07", b"\x07"),
+        (AtomicOp::Min, b"\x07", b"", b""),
+    ];
+    for (op, old, operand, wanted) in rows {
+        let value = applied(rt.alloc(), op, Some(old), operand)?;
+        assert_eq!(rt;
+            value.as_ref().map(|value| value.as_slice()),
+            Some(wanted),
+            "{op:?} {old:?} {operand:?}"
+        );
+    }
+    Ok(())
+}
+
+#[test]
+fn bytes(rt: HostRuntime) -> Result<(), Fail> {
+    let rows: [(AtomicOp, &[u8], &[u8], &[u8]); 20] = [
+        (AtomicOp::ByteMax, b"\x01\x09", b"\x02", b"\x02"),
+        (AtomicOp::ByteMax, b"\x01\x09", b"\x01", b"\x01\x09"),
+        (AtomicOp::ByteMax, b"\xFF", b"\x01\x00", b"\xFF"),
+        (AtomicOp::ByteMax, b"\xFF", b"", b"\xFF"),
+        (AtomicOp::ByteMin, b"\x01\x09", b"\x02", b"\x01\x09"),
+        (AtomicOp::ByteMin, b"\x01\x09", b"\x01", b"\x01"),
+        (AtomicOp::ByteMin, b"\xFF", b"\x01\x00", b"\x01\x00"),
+        (AtomicOp::ByteMin, b"\xFF", b"", b""),
+        (AtomicOp::BitAnd, b"\xF0", b"\x3C\xFF", b"\x30\x00"),
+        (AtomicOp::BitAnd, b"\xF0\xFF\x01", b"\x3C", b"\x30"),
+        (AtomicOp::BitAnd, b"\xF0", b"", b""),
+        (AtomicOp::BitOr, b"\xF0", b"\x3C\x01", b"\xFC\x01"),
+        (AtomicOp::BitOr, b"\xF0\xFF\x01", b"\x3C", b"\xFC"),
+        (AtomicOp::BitOr, b"\xF0", b"", b""),
+        (AtomicOp::BitXor, b"\xF0", b"\x3C\x01", b"\xCC\x01"),
+        (AtomicOp::BitXor, b"\xF0\xFF\x01", b"\x3C", b"\xCC"),
+        (AtomicOp::BitXor, b"\xF0", b"", b""),
+        (AtomicOp::AppendIfFits, b"ab", b"c", b"abc"),
+        (AtomicOp::AppendIfFits, b"ab", b"", b"ab"),
+        (AtomicOp::AppendIfFits, b"", b"c", b"c"),
+    ];
+    for (op, old, operand, wanted) in rows {
+        let value = applied(rt.alloc(), op, Some(old), operand)?;
+        assert_eq!(rt;
+            value.as_ref().map(|value| value.as_slice()),
+            Some(wanted),
+            "{op:?} {old:?} {operand:?}"
+        );
+    }
+    Ok(())
+}
+
+#[test]
+fn no_value(rt: HostRuntime) -> Result<(), Fail> {
+    let ops = [
+        AtomicOp::Add,
+        AtomicOp::BitAnd,
+        AtomicOp::BitOr,
+        AtomicOp::BitXor,
+        AtomicOp::AppendIfFits,
+        AtomicOp::Max,
+        AtomicOp::Min,
+        AtomicOp::ByteMin,
+        AtomicOp::ByteMax,
+    ];
+    for op in ops {
+        for operand in [b"\x01\x00".as_slice(), b"".as_slice()] {
+            let value = applied(rt.alloc(), op, None, operand)?;
+            assert_eq!(rt;
+                value.as_ref().map(|value| value.as_slice()),
+                Some(operand),
+                "{op:?}"
+            );
+        }
+    }
+    Ok(())
+}
+
+#[test]
+fn compare_and_clear(rt: HostRuntime) -> Result<(), Fail> {
+    let rows: [(Option<&[u8]>, &[u8], Option<&[u8]>); 6] = [
+        (Some(b"ab"), b"ab", None),
+        (Some(b""), b"", None),
+        (Some(b"ab"), b"a", Some(b"ab")),
+        (Some(b"a"), b"ab", Some(b"a")),
+        (Some(b"a"), b"b", Some(b"a")),
+        (None, b"ab", None),
+    ];
+    for (old, operand, wanted) in rows {
+        let value = apply(rt.alloc(), AtomicOp::CompareAndClear, old, operand)?;
+        assert_eq!(rt; value.as_ref().map(|value| value.as_slice()), wanted);
+    }
+    Ok(())
+}
+
+#[test]
+fn appends_up_to_the_limit(rt: HostRuntime) -> Result<(), Fail> {
+    let alloc = rt.alloc();
+    for (stored, len) in [(99_998, 99_999), (99_999, 100_000), (100_000, 100_000)] {
+        let old = vec![in alloc; 7u8; stored]?;
+        let value = apply(alloc, AtomicOp::AppendIfFits, Some(old.as_slice()), b"\x01")?;
+        assert_eq!(rt; value.as_ref().map(|value| value.len()), Some(len));
+        let sum = value.as_ref().map(|value| sum_of(value.as_slice()));
+        assert_eq!(rt; sum, Some(7 * stored as u64 + (len - stored) as u64));
+    }
+    Ok(())
+}
+
+fn sum_of(bytes: &[u8]) -> u64 {
+    bytes
+        .iter()
+        .fold(0u64, |sum, byte| sum.wrapping_add(u64::from(*byte)))
+}
+
+#[test]
+fn names(rt: HostRuntime) {
+    let rows: [(&[u8], Option<AtomicOp>); 20] = [
+        (b"ADD", Some(AtomicOp::Add)),
+        (b"BIT_AND", Some(AtomicOp::BitAnd)),
+        (b"AND", Some(AtomicOp::BitAnd)),
+        (b"BIT_OR", Some(AtomicOp::BitOr)),
+        (b"OR", Some(AtomicOp::BitOr)),
+        (b"BIT_XOR", Some(AtomicOp::BitXor)),
+        (b"XOR", Some(AtomicOp::BitXor)),
+        (b"APPEND_IF_FITS", Some(AtomicOp::AppendIfFits)),
+        (b"MAX", Some(AtomicOp::Max)),
+        (b"MIN", Some(AtomicOp::Min)),
+        (b"BYTE_MIN", Some(AtomicOp::ByteMin)),
+        (b"BYTE_MAX", Some(AtomicOp::ByteMax)),
+        (b"COMPARE_AND_CLEAR", Some(AtomicOp::CompareAndClear)),
+        (
+            b"SET_VERSIONSTAMPED_KEY",
+            Some(AtomicOp::SetVersionstampedKey),
+        ),
+        (
+            b"SET_VERSIONSTAMPED_VALUE",
+            Some(AtomicOp::SetVersionstampedValue),
+        ),
+        (b"PLUS", None),
+        (b"add", None),
+        (b"", None),
+        (b"ADD ", None),
+        (b"BIT_", None),
+    ];
+    for (name, op) in rows {
+        assert_eq!(rt; from_name(name), op);
+    }
+}
+
+// ---- sums beside those of a slow plain program
+
+// A generator of numbers that look mixed.
+#[derive(Drop)]
+struct Mixer {
+    state: u64,
+}
+
+impl Mixer {
+    fn next(&mut self) -> u64 {
+        self.state = self
+            .state
+            .wrapping_mul(6_364_136_223_846_793_005)
+            .wrapping_add(1_442_695_040_888_963_407);
+        self.state / 0x1_0000_0000
+    }
+
+    // Up to 15 bytes, of which many are `FF` or `00`.
+    fn bytes(&mut self, alloc: Global) -> Result<Vec<u8>, AllocError> {
+        let mut bytes = Vec::new(alloc);
+        for _ in 0..self.next() % 16 {
+            let byte = match self.next() % 4 {
+                0 => 0xFF,
+                1 => 0x00,
+                _ => (self.next() % 256) as u8,
+            };
+            bytes.push(byte)?;
+        }
+        Ok(bytes)
+    }
+}
+
+// The number of bytes, the lowest first.
+fn number(bytes: &[u8]) -> u128 {
+    bytes.iter().rev().fold(0u128, |number, byte| {
+        number.wrapping_mul(256).wrapping_add(u128::from(*byte))
+    })
+}
+
+// ADD on numbers.
+fn slow_sum(alloc: Global, old: &[u8], operand: &[u8]) -> Result<Vec<u8>, AllocError> {
+    let kept = &old[..old.len().min(operand.len())];
+    let mut rest = number(kept).wrapping_add(number(operand));
+    let mut sum = Vec::new(alloc);
+    for _ in 0..operand.len() {
+        sum.push((rest % 256) as u8)?;
+        rest /= 256;
+    }
+    Ok(sum)
+}
+
+#[test]
+fn sums_of_numbers(rt: HostRuntime) -> Result<(), Fail> {
+    let alloc = rt.alloc();
+    let mut mixer = Mixer { state: 630 };
+    for round in 0..400u32 {
+        let old = mixer.bytes(alloc)?;
+        let operand = mixer.bytes(alloc)?;
+        let value = apply(
+            alloc,
+            AtomicOp::Add,
+            Some(old.as_slice()),
+            operand.as_slice(),
+        )?;
+        let wanted = slow_sum(alloc, old.as_slice(), operand.as_slice())?;
+        assert_eq!(rt;
+            value.as_ref().map(|value| value.as_slice()),
+            Some(wanted.as_slice()),
+            "{round}"
+        );
+    }
+    Ok(())
+}
