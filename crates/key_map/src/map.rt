@@ -4,17 +4,19 @@ ghost use Rattle.std.specs.Prelude.{◌≡◌, ◌==◌, ℕ, List, [], not, Non
 ghost use Rattle.std.specs.Bool.{OnFalse};
 ghost use Rattle.std.specs.Borrow.{sem};
 ghost use Rattle.std.specs.List.{filter};
+ghost use Rattle.std.specs.List.Sorted.{IsStrictlySortedBy};
+ghost use Rattle.std.specs.Map.{keys_of};
 ghost use Rattle.std.specs.Option.{option_map, option_copied, option_copied_mut};
 ghost use Rattle.std.specs.FinMap as finite;
-ghost use Rattle.std.specs.Map.Iter.{ShowsInOrder, deref_pair};
-ghost use Rattle.key_bytes.specs.Keys.{key_le, key_lt, within};
+ghost use Rattle.std.specs.Map.Iter.{ShowsInOrder, GivesInOrder, deref_pair};
+ghost use Rattle.key_bytes.specs.Keys.{key_cmp, key_le, key_lt, within};
 ghost use Rattle.key_map.specs.Ends.{first, last};
 ghost use Rattle.key_map.specs.Inserted.{inserted};
 
 use key_bytes::{Bytes, Key, Pair, Pairs};
 use std::alloc::{AllocError, Global};
 use std::collections::BTreeMap;
-use std::collections::btree_map::{Iter, Range};
+use std::collections::btree_map::{IntoIter, Iter, Range};
 use std::marker::Model;
 
 /// An ordered map from keys to values. Contracts see the finite map.
@@ -139,6 +141,17 @@ impl<V> KeyMap<V> {
         ensures runs { ShowsInOrder (deref_pair {K = List ℕ} {X = V}) }
     {
         self.tree.iter()
+    }
+
+    /// The pairs themselves, in the order of their keys, for a loop that takes them. It takes no memory.
+    pub fn into_entries(self) -> IntoIter<Bytes, V, Global>
+    where
+        V: Drop,
+        ensures rest { result ≡ finite.entries self }
+        ensures rising { IsStrictlySortedBy key_cmp (keys_of (finite.entries self)) }
+        ensures runs { GivesInOrder (List ℕ × V) }
+    {
+        self.tree.into_iter()
     }
 }
 

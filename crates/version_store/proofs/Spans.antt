@@ -1,0 +1,84 @@
+-- A step of a loop over heads: what is present among those that are left.
+use Rattle.std.proofs.Common.{◌≡◌, ℕ, Bool, true, false, cond, List, [], ◌∷◌, ◌++◌, Option, Some, None, refl, sym, ap, ◌∙◌}
+use Rattle.std.proofs.lemmas.List.{map-append, append-nil}
+use Rattle.std.proofs.lemmas.List.Elements.{filter_map-append}
+use Rattle.std.proofs.lemmas.Map.Made.{lookup-map_values}
+use Rattle.std.specs.List.{filter}
+use Rattle.std.specs.List.Sorted.{IsStrictlySortedBy}
+use Rattle.std.specs.Map.{keys_of}
+use Rattle.std.specs.Option.{option_map, option_and_then}
+use Rattle.std.specs.FinMap.{entries, get}
+use Rattle.key_bytes.specs.Keys.{key_cmp}
+use Rattle.key_map.specs.Ends.{last}
+use Rattle.key_map.proofs.Spans.{last-append}
+use Rattle.version_store.specs.declared.chains.Head.{Head}
+use Rattle.version_store.specs.Chains.{Slots, chain_of, chains_of, head_of, database_of}
+use Rattle.version_store.specs.Versions.{holding, present}
+use Rattle.version_store.proofs.Present.{shown, present-filter, entries-database_at, get-database_at}
+
+-- what is present of the keys of these heads
+abbrev pub present_of : ℕ → Slots → List (List ℕ × Head) → List (List ℕ × List ℕ)
+present_of version slots heads = present version (chains_of slots heads)
+
+module _ (version : ℕ) (slots : Slots) (left more : List (List ℕ × Head)) (key : List ℕ) (head : Head) where
+  -- the first holds something
+  pub present_here : (value : List ℕ) → left ≡ (key, head) ∷ more → Some value ≡ holding version (chain_of slots head) → present_of version slots left ≡ (key, value) ∷ present_of version slots more
+  unfolding present
+  present_here value step here = ap (present_of version slots) step ∙ ap (λ o. shown key o (present_of version slots more)) (sym here)
+
+  -- the first holds nothing
+  pub present_passed : left ≡ (key, head) ∷ more → None ≡ holding version (chain_of slots head) → present_of version slots left ≡ present_of version slots more
+  unfolding present
+  present_passed step gone = ap (present_of version slots) step ∙ ap (λ o. shown key o (present_of version slots more)) (sym gone)
+
+  present-append : left ≡ more ++ (key, head) ∷ [] → present_of version slots left ≡ present_of version slots more ++ present_of version slots ((key, head) ∷ [])
+  unfolding present
+  present-append step = ap (present_of version slots) step ∙ ap (present version) (map-append _ more ((key, head) ∷ [])) ∙ filter_map-append _ (chains_of slots more) (chains_of slots ((key, head) ∷ []))
+
+  -- the last holds something
+  pub last_here : (value : List ℕ) → left ≡ more ++ (key, head) ∷ [] → Some value ≡ holding version (chain_of slots head) → last (present_of version slots left) ≡ Some (key, value)
+  unfolding present
+  last_here value step here =
+      ap last (present-append step ∙ ap (λ o. present_of version slots more ++ shown key o []) (sym here))
+      ∙ last-append (present_of version slots more) (key, value)
+
+  -- the last holds nothing
+  pub present_passed_last : left ≡ more ++ (key, head) ∷ [] → None ≡ holding version (chain_of slots head) → present_of version slots left ≡ present_of version slots more
+  unfolding present
+  present_passed_last step gone =
+      present-append step ∙ ap (λ o. present_of version slots more ++ shown key o []) (sym gone)
+      ∙ append-nil (present_of version slots more)
+
+module _ (slots : Slots) where
+  keys-chains_of : (heads : List (List ℕ × Head)) → keys_of (chains_of slots heads) ≡ keys_of heads
+  keys-chains_of [] = refl
+  keys-chains_of (e ∷ es) = ap (λ ks. e.0 ∷ ks) (keys-chains_of es)
+
+  rising_of : (heads : List (List ℕ × Head)) → IsStrictlySortedBy key_cmp (keys_of heads) → IsStrictlySortedBy key_cmp (keys_of (chains_of slots heads))
+  rising_of heads rising = rw keys-chains_of rising
+
+  -- the entries of the database
+  pub entries-database_of : (version : ℕ) (heads : List (List ℕ × Head)) → IsStrictlySortedBy key_cmp (keys_of heads) → entries (database_of version slots heads) ≡ present_of version slots heads
+  entries-database_of version heads rising = entries-database_at version (chains_of slots heads) (rising_of heads rising)
+
+  held : (version : ℕ) (o : Option Head) → option_and_then (holding version) (option_map (chain_of slots) o) ≡ option_and_then (λ head. holding version (chain_of slots head)) o
+  held version None = refl
+  held version (Some head) = refl
+
+  -- what the database has at a key
+  pub get-database_of : (version : ℕ) (heads : List (List ℕ × Head)) (key : List ℕ) → IsStrictlySortedBy key_cmp (keys_of heads) → get (database_of version slots heads) key ≡ option_and_then (λ head. holding version (chain_of slots head)) (head_of heads key)
+  get-database_of version heads key rising =
+      get-database_at version (chains_of slots heads) key (rising_of heads rising)
+      ∙ ap (option_and_then (holding version)) (lookup-map_values (chain_of slots) _ heads)
+      ∙ held version (head_of heads key)
+
+  -- a test of the keys may come first
+  pub filter-present_of : (version : ℕ) (p : List ℕ → Bool) (heads : List (List ℕ × Head)) → filter (λ e. p e.0) (present_of version slots heads) ≡ present_of version slots (filter (λ e. p e.0) heads)
+  filter-present_of version p heads = present-filter version p (chains_of slots heads) ∙ ap (present version) (by heads)
+    where
+      by : (heads : List (List ℕ × Head)) → filter (λ e. p e.0) (chains_of slots heads) ≡ chains_of slots (filter (λ e. p e.0) heads)
+      by [] = refl
+      by (e ∷ es) = elim (p e.0) as (λ b. cond b ((e.0, chain_of slots e.1) ∷ filter (λ e. p e.0) (chains_of slots es)) (filter (λ e. p e.0) (chains_of slots es)) ≡ chains_of slots (cond b (e ∷ filter (λ e. p e.0) es) (filter (λ e. p e.0) es))) [
+        | true ↦ ap (λ xs. (e.0, chain_of slots e.1) ∷ xs) (by es)
+        | false ↦ by es
+      ]

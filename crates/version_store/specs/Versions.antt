@@ -1,0 +1,64 @@
+-- What contracts see of a store: the database at each version.
+use Rattle.std.specs.Prelude.{◌≡◌, ℕ, ◌<◌, ◌≤◌, List, [], ◌∷◌, length, Option, None, IsSome, if◌then◌else◌, nat_lt}
+use Rattle.std.specs.BTreeMap.{is_at}
+use Rattle.std.specs.FinMap as finite
+use Rattle.std.specs.List.{All, filter_map}
+use Rattle.std.specs.Map.{lookup}
+use Rattle.std.specs.Option.{option_map}
+use Rattle.key_bytes.specs.Keys.{key_cmp}
+use Rattle.database_rules.specs.Databases.{Database}
+use Rattle.version_store.specs.declared.fault.VersionFault.{VersionFault}
+use Rattle.version_store.specs.declared.fault.VersionFault.TheVariants.{TooOld, Future}
+
+-- what one key was given, each with its version, the newest first; no value where the key was removed
+abbrev pub Chain : Type 0
+Chain = List (ℕ × Option (List ℕ))
+
+-- The last version, the chain of each key in the order of the keys, and how many changes there is room for.
+-- Contracts cite the words below, and no field.
+pub record Versions : Type 0 where
+  pub last : ℕ
+  pub chains : List (List ℕ × Chain)
+  pub room : ℕ
+
+-- what a chain holds at a version: what was given last up to this version
+unfoldable pub holding : ℕ → Chain → Option (List ℕ)
+holding version [] = None
+holding version (given ∷ older) = if nat_lt version given.0 then holding version older else given.1
+
+-- the keys that hold something at a version, with what they hold
+unfoldable pub present : ℕ → List (List ℕ × Chain) → List (List ℕ × List ℕ)
+present version chains = filter_map (λ e. option_map (λ value. (e.0, value)) (holding version e.1)) chains
+
+-- the database that chains make at a version
+unfoldable pub database_at : ℕ → List (List ℕ × Chain) → Database
+database_at version chains = finite.from_entries (present version chains)
+
+-- the database at a version
+unfoldable pub at : Versions → ℕ → Database
+at versions version = database_at version versions.chains
+
+-- the last version
+unfoldable pub last_of : Versions → ℕ
+last_of versions = versions.last
+
+-- the oldest version that can be read
+unfoldable pub oldest_of : Versions → ℕ
+oldest_of versions = 0
+
+-- the key of a change has a chain, which may be empty
+abbrev pub HasKey : List (List ℕ × Chain) → List ℕ → Type 0
+HasKey chains key = IsSome (lookup (is_at (key_cmp key)) chains)
+
+-- these changes can be installed without memory: there is room for each, and each key has its chain
+unfoldable pub IsReadyFor : Versions → List (List ℕ × Option (List ℕ)) → Type 0
+IsReadyFor versions changes = (length changes ≤ versions.room) × All (λ change. HasKey versions.chains change.0) changes
+
+-- why a version can't be read: the fault says which version can
+abbrev pub IsFaultAt : Versions → ℕ → VersionFault → Type 0
+IsFaultAt versions version (TooOld oldest) = (version < oldest_of versions) × (oldest ≡ oldest_of versions)
+IsFaultAt versions version (Future last) = (oldest_of versions ≤ version) × (last_of versions < version) × (last ≡ last_of versions)
+
+-- a version that can be read
+abbrev pub IsReadable : Versions → ℕ → Type 0
+IsReadable versions version = (oldest_of versions ≤ version) × (version ≤ last_of versions)

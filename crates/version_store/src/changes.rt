@@ -1,0 +1,106 @@
+//! What a commit changes: keys with their values from then on.
+
+ghost use Rattle.std.specs.Prelude.{◌≡◌, ◌==◌, ◌<◌, List, [], ◌∷◌, ◌++◌, Some, length, slice_get, IfOk, OnOk, OnErr, IsTrue};
+ghost use Rattle.version_store.specs.Changed.{change_of, changes_of, is_above, IsRising};
+
+use key_bytes::{Bytes, Key};
+use std::alloc::{AllocError, Global};
+use std::marker::Model;
+
+/// What a key has from then on: a value, or none where the key is removed.
+#[derive(Debug, Drop)]
+pub struct Change {
+    pub key: Key,
+    pub value: Option<Bytes>,
+}
+
+/// A list of changes, whose keys are distinct and rise. Contracts see the list of keys with their values.
+#[derive(Debug, Drop)]
+pub struct Changes {
+    items: Vec<Change>,
+}
+
+impl Model for Changes {
+    ghost use Rattle.std.specs.Prelude.{ℕ, List, Option};
+    ghost use Rattle.version_store.specs.Changed.{changes_of, IsRising};
+
+    ghost Value = { List (List ℕ × Option (List ℕ)) };
+
+    ghost view = { λ changes. changes_of changes.items.items };
+
+    ghost invariant = { λ changes. IsRising (changes_of changes.items.items) };
+}
+
+impl Changes {
+    /// The empty list. It takes no memory, and keeps the allocator for what is added later.
+    pub fn new(alloc: Global) -> Changes
+        ensures { result ≡ [] }
+    {
+        Changes {
+            items: Vec::new(alloc),
+        }
+    }
+
+    /// How many changes there are. It takes no memory.
+    pub fn len(&self) -> usize
+        ensures { result ≡ length self.now }
+    {
+        self.items.len()
+    }
+
+    /// Whether there is no change. It takes no memory.
+    pub fn is_empty(&self) -> bool
+        ensures { result ≡ (length self.now == 0) }
+    {
+        self.items.is_empty()
+    }
+
+    /// The change at place `i`. It takes no memory.
+    pub fn get(&self, i: usize) -> &Change
+        requires { i < length self.now }
+        ensures { slice_get self.now i ≡ Some (change_of result.now) }
+    {
+        &self.items[i]
+    }
+
+    /// Whether `key` stands above the keys of all changes, so that a change of it may be added. It takes no memory.
+    pub fn is_below(&self, key: &Key) -> bool
+        ensures { result ≡ is_above self.now key.now }
+    {
+        match self.items.last() {
+            Some(change) => change.key.cmp(key).is_lt(),
+            None => true,
+        }
+    }
+
+    /// Adds a change at the end, of a key above those of all others. After a refusal the list is unchanged.
+    pub fn push(&mut self, change: Change) -> Result<(), AllocError>
+        requires { IsTrue (is_above self.old change.key) }
+        ensures ok { OnOk result (self.new ≡ self.old ++ change_of change ∷ []) }
+        ensures err { OnErr result (self.new ≡ self.old) }
+    {
+        self.items.push(change)?;
+        Ok(())
+    }
+
+    /// The changes in order, for a loop over them. It takes no memory.
+    pub fn as_slice(&self) -> &[Change]
+        ensures { changes_of result.now ≡ self.now }
+    {
+        self.items.as_slice()
+    }
+
+    /// That the keys are distinct and rise. It does nothing when it runs.
+    pub fn is_rising(&self)
+        ensures { IsRising self.now }
+    {
+        let _items = &self.items;
+    }
+
+    /// The changes themselves, in order. It takes no memory.
+    pub fn into_vec(self) -> Vec<Change>
+        ensures { changes_of result.items ≡ self }
+    {
+        self.items
+    }
+}

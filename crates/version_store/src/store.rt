@@ -1,0 +1,172 @@
+//! The store.
+
+ghost use Rattle.std.specs.Prelude.{◌≡◌, ℕ, ◌+◌, ◌^◌, ◌<◌, ◌≤◌, IfOk, IfErr, OnOk, option_copied};
+ghost use Rattle.std.specs.FinMap as finite;
+ghost use Rattle.std.specs.List.{filter};
+ghost use Rattle.std.specs.Map.Iter.{deref_pair};
+ghost use Rattle.std.specs.Option.{option_map};
+ghost use Rattle.key_bytes.specs.Keys.{key_le, key_lt};
+ghost use Rattle.key_map.specs.Ends.{first, last};
+ghost use Rattle.version_store.specs.Versions.{at, last_of, oldest_of, IsReadable, IsFaultAt, IsReadyFor};
+ghost use Rattle.version_store.specs.Changed.{changed};
+
+use crate::chains::{
+    Head, Node, add_keys, copied, first_present, last_present, put_changes, value_at,
+};
+use crate::changes::Changes;
+use crate::fault::VersionFault;
+use key_bytes::{Bytes, Key, Pairs};
+use slab::Slab;
+use std::alloc::{AllocError, Global};
+use std::collections::BTreeMap;
+use std::marker::Model;
+
+/// The database at each of its versions.
+#[derive(Drop)]
+pub struct Store {
+    alloc: Global,
+    tree: BTreeMap<Bytes, Head>,
+    nodes: Slab<Node>,
+    last: u64,
+}
+
+impl Model for Store {
+    ghost use Rattle.std.specs.Prelude.{◌-◌};
+    ghost use Rattle.slab.specs.Slab.{slab_len};
+    ghost use Rattle.version_store.specs.Versions.{Versions};
+    ghost use Rattle.version_store.specs.Chains.{chains_of, Sound};
+
+    ghost Value = { Versions };
+
+    ghost view = { λ store. record {
+      last = store.last;
+      chains = chains_of store.nodes.slots store.tree.entries;
+      room = store.nodes.capacity - slab_len store.nodes;
+    } };
+
+    ghost invariant = { λ store. Sound store.nodes.slots (slab_len store.nodes) store.last store.tree.entries };
+}
+
+impl Store {
+    /// The empty map at version 0. It takes no memory, and keeps the allocator for what comes later.
+    #[tactic(auto, unfolding(crate::specs::Versions::last_of, crate::specs::Versions::oldest_of, crate::specs::Versions::at, crate::specs::Versions::database_at, crate::specs::Versions::present))]
+    pub fn new(alloc: Global) -> Store
+        ensures last { last_of result ≡ 0 }
+        ensures oldest { oldest_of result ≡ 0 }
+        ensures empty { at result 0 ≡ finite.empty }
+    {
+        Store {
+            alloc,
+            tree: BTreeMap::new(alloc),
+            nodes: Slab::new(alloc),
+            last: 0,
+        }
+    }
+
+    /// The last version. It takes no memory.
+    #[tactic(auto, unfolding(crate::specs::Versions::last_of))]
+    pub fn last(&self) -> u64
+        ensures { result ≡ last_of self.now }
+    {
+        self.last
+    }
+
+    /// The oldest version that can be read. It takes no memory.
+    #[tactic(auto, unfolding(crate::specs::Versions::oldest_of))]
+    pub fn oldest(&self) -> u64
+        ensures { result ≡ oldest_of self.now }
+    {
+        0
+    }
+
+    // Whether a version can be read.
+    fn check(&self, version: u64) -> Result<(), VersionFault>
+        ensures ok { OnOk result (IsReadable self.now version) }
+        ensures err { IfErr result (IsFaultAt self.now version) }
+    {
+        let (oldest, last) = (self.oldest(), self.last());
+        if version < oldest {
+            return Err(VersionFault::TooOld { oldest });
+        }
+        if version > last {
+            return Err(VersionFault::Future { last });
+        }
+        Ok(())
+    }
+
+    /// The value of `key` at a version, if it has one then. TooOld exactly where the version is less than the oldest
+    /// one, Future exactly where it is greater than the last one. It takes no memory.
+    pub fn get_at(&self, key: &Key, version: u64) -> Result<Option<&[u8]>, VersionFault>
+        ensures ok { IfOk result (λ value. IsReadable self.now version
+            × (option_copied value ≡ finite.get (at self.now version) key.now)) }
+        ensures err { IfErr result (IsFaultAt self.now version) }
+    {
+        self.check(version)?;
+        let Some(head) = self.tree.get(key) else {
+            return Ok(None);
+        };
+        match value_at(&self.nodes, *head, version) {
+            Some(value) => Ok(Some(value.as_slice())),
+            None => Ok(None),
+        }
+    }
+
+    /// The first pair at a version with a key that is at least `key`. TooOld exactly where the version is less than the
+    /// oldest one, Future exactly where it is greater than the last one. It takes no memory.
+    pub fn next_at(&self, key: &Key, version: u64) -> Result<Option<(&Key, &Bytes)>, VersionFault>
+        ensures ok { IfOk result (λ pair. IsReadable self.now version
+            × (option_map deref_pair pair
+            ≡ first (filter (λ e. key_le key.now e.0) (finite.entries (at self.now version))))) }
+        ensures err { IfErr result (IsFaultAt self.now version) }
+    {
+        self.check(version)?;
+        Ok(first_present(&self.nodes, self.tree.range(key..), version))
+    }
+
+    /// The last pair at a version with a key that is less than `key`. TooOld exactly where the version is less than the
+    /// oldest one, Future exactly where it is greater than the last one. It takes no memory.
+    pub fn prev_at(&self, key: &Key, version: u64) -> Result<Option<(&Key, &Bytes)>, VersionFault>
+        ensures ok { IfOk result (λ pair. IsReadable self.now version
+            × (option_map deref_pair pair
+            ≡ last (filter (λ e. key_lt e.0 key.now) (finite.entries (at self.now version))))) }
+        ensures err { IfErr result (IsFaultAt self.now version) }
+    {
+        self.check(version)?;
+        Ok(last_present(&self.nodes, self.tree.range(..key), version))
+    }
+
+    /// Takes the memory that installing these changes needs. Reads are as before, also after a refusal.
+    pub fn reserve(&mut self, changes: &Changes) -> Result<(), AllocError>
+        ensures last { last_of self.new ≡ last_of self.old }
+        ensures oldest { oldest_of self.new ≡ oldest_of self.old }
+        ensures reads { (version : ℕ) → at self.new version ≡ at self.old version }
+        ensures ready { OnOk result (IsReadyFor self.new changes.now) }
+    {
+        self.nodes.reserve(changes.len())?;
+        add_keys(&mut self.tree, changes.as_slice())
+    }
+
+    /// Adds one version: the database before, after these changes. They were reserved, and nothing was installed since.
+    /// It takes no memory.
+    pub fn install(&mut self, changes: Changes)
+        requires ready { IsReadyFor self.old changes }
+        requires next { last_of self.old + 1 < 2 ^ 64 }
+        ensures last { last_of self.new ≡ last_of self.old + 1 }
+        ensures oldest { oldest_of self.new ≡ oldest_of self.old }
+        ensures before { (version : ℕ) → version ≤ last_of self.old
+            → at self.new version ≡ at self.old version }
+        ensures after { at self.new (last_of self.old + 1)
+            ≡ changed changes (at self.old (last_of self.old)) }
+    {
+        let version = self.last + 1;
+        put_changes(&mut self.tree, &mut self.nodes, version, changes.into_vec());
+        self.last = version;
+    }
+
+    /// A copy of the pairs at the last version, in the order of their keys.
+    pub fn pairs(&self) -> Result<Pairs, AllocError>
+        ensures { IfOk result (λ pairs. pairs ≡ finite.entries (at self.now (last_of self.now))) }
+    {
+        copied(self.alloc, &self.nodes, self.tree.range(..), self.last)
+    }
+}
