@@ -7,6 +7,12 @@ use Rattle.fdb_tuple.specs.Listed.{elements_of}
 use Rattle.fdb_tuple.specs.Reading.{read_tuple}
 use Rattle.machine_rules.specs.declared.StackOperation.{StackOperation}
 use Rattle.machine_rules.specs.declared.StackOperation.TheVariants as operation
+use Rattle.machine_rules.specs.declared.TransactionOperation.{TransactionOperation}
+use Rattle.machine_rules.specs.declared.TransactionOperation.TheVariants as on_transaction
+use Rattle.machine_rules.specs.declared.DatabaseOperation.{DatabaseOperation}
+use Rattle.machine_rules.specs.declared.DatabaseOperation.TheVariants as on_database
+use Rattle.machine_rules.specs.declared.Scope.{Scope}
+use Rattle.machine_rules.specs.declared.Scope.TheVariants as scope
 use Rattle.machine_rules.specs.declared.Instruction.{Instruction}
 use Rattle.machine_rules.specs.declared.Instruction.TheVariants as instruction
 use Rattle.machine_rules.specs.Operands.{bytes_of}
@@ -31,12 +37,45 @@ stack_operation name =
     else if bytes_eq name (codes "UNIT_TESTS") then Some operation.UnitTests
     else None
 
+-- the operation on the current transaction of a name
+abbrev pub transaction_operation : List ℕ → Option TransactionOperation
+transaction_operation name =
+    if bytes_eq name (codes "NEW_TRANSACTION") then Some on_transaction.NewTransaction
+    else if bytes_eq name (codes "ON_ERROR") then Some on_transaction.OnError
+    else if bytes_eq name (codes "RESET") then Some on_transaction.Reset
+    else if bytes_eq name (codes "CANCEL") then Some on_transaction.Cancel
+    else if bytes_eq name (codes "COMMIT") then Some on_transaction.Commit
+    else None
+
+-- the call of two forms of a name, with its form
+abbrev pub database_operation : List ℕ → Option (DatabaseOperation × Scope)
+database_operation name =
+    if bytes_eq name (codes "GET") then Some (on_database.Get, scope.Transaction)
+    else if bytes_eq name (codes "GET_DATABASE") then Some (on_database.Get, scope.Database)
+    else if bytes_eq name (codes "SET") then Some (on_database.Set, scope.Transaction)
+    else if bytes_eq name (codes "SET_DATABASE") then Some (on_database.Set, scope.Database)
+    else if bytes_eq name (codes "CLEAR") then Some (on_database.Clear, scope.Transaction)
+    else if bytes_eq name (codes "CLEAR_DATABASE") then Some (on_database.Clear, scope.Database)
+    else if bytes_eq name (codes "CLEAR_RANGE") then Some (on_database.ClearRange, scope.Transaction)
+    else if bytes_eq name (codes "CLEAR_RANGE_DATABASE") then Some (on_database.ClearRange, scope.Database)
+    else if bytes_eq name (codes "CLEAR_RANGE_STARTS_WITH") then Some (on_database.ClearRangeStartsWith, scope.Transaction)
+    else if bytes_eq name (codes "CLEAR_RANGE_STARTS_WITH_DATABASE") then Some (on_database.ClearRangeStartsWith, scope.Database)
+    else if bytes_eq name (codes "ATOMIC_OP") then Some (on_database.AtomicOp, scope.Transaction)
+    else if bytes_eq name (codes "ATOMIC_OP_DATABASE") then Some (on_database.AtomicOp, scope.Database)
+    else None
+
+-- the first that is there
+abbrev pub or_else : {A : Type 0} → Option A → Option A → Option A
+or_else (Some x) other = Some x
+or_else None other = other
+
 -- the instruction of a name that stands alone
 abbrev pub bare_instruction : List ℕ → Option Instruction
 bare_instruction name =
-    if bytes_eq name (codes "SET") then Some instruction.Set
-    else if bytes_eq name (codes "COMMIT") then Some instruction.Commit
-    else option_map (λ found. instruction.OnStack found) (stack_operation name)
+    if bytes_eq name (codes "USE_TRANSACTION") then Some instruction.UseTransaction
+    else or_else (option_map (λ found. instruction.OnTransaction found) (transaction_operation name))
+    (or_else (option_map (λ found. instruction.OnDatabase found.0 found.1) (database_operation name))
+    (option_map (λ found. instruction.OnStack found) (stack_operation name)))
 
 -- the instruction of a name with the elements behind the name: PUSH has one, every other operation none
 abbrev pub named_instruction : List ℕ → List Elem → Option Instruction

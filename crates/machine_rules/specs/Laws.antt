@@ -10,9 +10,13 @@ use Rattle.machine_rules.specs.declared.Awaits.{Awaits}
 use Rattle.machine_rules.specs.declared.Awaits.TheVariants as awaits
 use Rattle.machine_rules.specs.declared.State.{State}
 use Rattle.machine_rules.specs.declared.State.TheVariants as state
-use Rattle.machine_rules.specs.Worlds.{World, refusal}
-use Rattle.machine_rules.specs.Machines.{Machine, Progress, Act, Does, Stops, Asks, silent, refused, acted, next_act, advance_by, advance, resumed, resumed_by, answered}
-use Rattle.machine_rules.specs.Runs.{Run, is_running, rested, at_rest, judged_by, judged, standing, take_place, run_from}
+use Rattle.machine_rules.specs.declared.Instruction.{Instruction}
+use Rattle.machine_rules.specs.declared.Instruction.TheVariants as instruction
+use Rattle.machine_rules.specs.Operands.{Refusal, Missing, Unfit, Popped}
+use Rattle.machine_rules.specs.StackOperations.{Operated, operated}
+use Rattle.machine_rules.specs.Instructions.{instruction_of}
+use Rattle.machine_rules.specs.Machines.{Machine, Progress, Act, Does, Uses, Stops, Asks, Use, Goes, Pushes, Faults, silent, acted, next_act, advance_by, advance, resumed, resumed_by, use_of, used, answered}
+use Rattle.machine_rules.specs.Runs.{Run, is_running, rested, at_rest, take_place, run_from}
 
 -- ---- one step of a machine
 
@@ -28,6 +32,7 @@ not_running e = absurd cc
 
 act_running : (machine : Machine) (act : Act) → machine.next < length machine.instructions → is_running (acted machine act).machine.state ≡ true → Finishes machine (acted machine act)
 act_running machine (Does stack) inside e = record { silent_is = refl; instructions = refl; next = refl; inside = inside }
+act_running machine (Uses name stack) inside e = record { silent_is = refl; instructions = refl; next = refl; inside = inside }
 act_running machine (Stops stack end) inside e = not_running e
 act_running machine (Asks stack request awaits) inside e = not_running e
 
@@ -61,6 +66,7 @@ silent_asks machine request e = absurd cc
 
 act_asks : (machine : Machine) (act : Act) → AsksAwaiting (acted machine act)
 act_asks machine (Does stack) request e = absurd cc
+act_asks machine (Uses name stack) request e = absurd cc
 act_asks machine (Stops stack end) request e = absurd cc
 act_asks machine (Asks stack asked awaits) request e = refl
 
@@ -79,6 +85,7 @@ IsQuiet progress = progress.asks ≡ None → is_awaiting progress.machine.state
 
 act_quiet : (machine : Machine) (act : Act) → IsQuiet (acted machine act)
 act_quiet machine (Does stack) e = refl
+act_quiet machine (Uses name stack) e = refl
 act_quiet machine (Stops stack end) e = refl
 act_quiet machine (Asks stack request awaits) e = absurd cc
 
@@ -101,40 +108,25 @@ pub advance_still : (machine : Machine) → is_running machine.state ≡ false �
 unfolding advance
 advance_still machine e = stopped_by machine.state machine e
 
--- a machine that used a reply awaits none, and has gone on by one instruction where it runs
-answered_goes : (machine : Machine) (awaits : Awaits) (given : Reply) → (is_awaiting (answered machine awaits given).state ≡ false) × (is_running (answered machine awaits given).state ≡ true → (answered machine awaits given).next ≡ machine.next + 1)
-answered_goes machine awaits.Nothing reply.Done = (refl, λ e. refl)
-answered_goes machine awaits.NotPresent reply.Done = (refl, λ e. refl)
-answered_goes machine awaits (reply.Fault code) = (refl, λ e. not_running e)
-answered_goes machine awaits reply.NoMemory = (refl, λ e. refl)
+-- a machine that used a reply has gone on by one instruction
+pub record GoneOn (before after : Machine) : Type 0 where
+  pub instructions : after.instructions ≡ before.instructions
+  pub next : after.next ≡ before.next + 1
+  pub state : after.state ≡ state.Running
 
-resumed_goes_by : (state : State) (machine : Machine) (given : Reply) → is_awaiting state ≡ true → (is_awaiting (resumed_by state machine given).state ≡ false) × (is_running (resumed_by state machine given).state ≡ true → (resumed_by state machine given).next ≡ machine.next + 1)
+used_goes : (machine : Machine) (used_for : Use) → GoneOn machine (used machine used_for)
+used_goes machine Goes = record { instructions = refl; next = refl; state = refl }
+used_goes machine (Pushes element) = record { instructions = refl; next = refl; state = refl }
+used_goes machine (Faults code) = record { instructions = refl; next = refl; state = refl }
+
+resumed_goes_by : (state : State) (machine : Machine) (given : Reply) → is_awaiting state ≡ true → GoneOn machine (resumed_by state machine given)
 resumed_goes_by state.Running machine given e = not_running e
-resumed_goes_by (state.Awaiting awaits) machine given e = answered_goes machine awaits given
+resumed_goes_by (state.Awaiting awaits) machine given e = used_goes machine (use_of awaits given)
 resumed_goes_by (state.Stopped end) machine given e = not_running e
 
-pub resumed_goes : (machine : Machine) (given : Reply) → is_awaiting machine.state ≡ true → (is_awaiting (resumed machine given).state ≡ false) × (is_running (resumed machine given).state ≡ true → (resumed machine given).next ≡ machine.next + 1)
+pub resumed_goes : (machine : Machine) (given : Reply) → is_awaiting machine.state ≡ true → GoneOn machine (resumed machine given)
 unfolding resumed
 resumed_goes machine given e = resumed_goes_by machine.state machine given e
-
--- no step changes what the instructions are
-abbrev SameInstructions : Machine → Machine → Type 0
-SameInstructions before after = after.instructions ≡ before.instructions
-
-answered_same : (machine : Machine) (awaits : Awaits) (given : Reply) → SameInstructions machine (answered machine awaits given)
-answered_same machine awaits.Nothing reply.Done = refl
-answered_same machine awaits.NotPresent reply.Done = refl
-answered_same machine awaits (reply.Fault code) = refl
-answered_same machine awaits reply.NoMemory = refl
-
-resumed_same_by : (state : State) (machine : Machine) (given : Reply) → SameInstructions machine (resumed_by state machine given)
-resumed_same_by state.Running machine given = refl
-resumed_same_by (state.Awaiting awaits) machine given = answered_same machine awaits given
-resumed_same_by (state.Stopped end) machine given = refl
-
-pub resumed_same : (machine : Machine) (given : Reply) → (resumed machine given).instructions ≡ machine.instructions
-unfolding resumed
-resumed_same machine given = resumed_same_by machine.state machine given
 
 -- where a machine asks, it stands at one of its instructions
 pub record AsksInside (before : Machine) (progress : Progress) : Type 0 where
@@ -147,6 +139,7 @@ AsksAt machine progress = (request : Request) → progress.asks ≡ Some request
 
 act_at : (machine : Machine) (act : Act) → machine.next < length machine.instructions → AsksAt machine (acted machine act)
 act_at machine (Does stack) inside request e = absurd cc
+act_at machine (Uses name stack) inside request e = absurd cc
 act_at machine (Stops stack end) inside request e = absurd cc
 act_at machine (Asks stack asked awaits) inside request e = record { instructions = refl; next = refl; inside = inside }
 
@@ -167,16 +160,6 @@ awaiting_rests : (state : State) → is_awaiting state ≡ true → is_running s
 awaiting_rests state.Running e = absurd cc
 awaiting_rests (state.Awaiting awaits) e = refl
 awaiting_rests (state.Stopped end) e = refl
-
-refused_by : (state : State) (machine : Machine) (code : Code) → is_awaiting state ≡ true → is_running (resumed_by state machine (reply.Fault code)).state ≡ false
-refused_by state.Running machine code e = absurd cc
-refused_by (state.Awaiting awaits) machine code e = refl
-refused_by (state.Stopped end) machine code e = absurd cc
-
--- a refusal ends the machine
-pub refused_rests : (machine : Machine) (code : Code) → is_awaiting machine.state ≡ true → is_running (resumed machine (reply.Fault code)).state ≡ false
-unfolding resumed
-refused_rests machine code e = refused_by machine.state machine code e
 
 -- ---- coming to rest
 
@@ -219,49 +202,18 @@ at_rest_again machine was e =
     ∙ ap (λ n. rested n progress) (fewer machine.next progress.machine.next (length machine.instructions) (length progress.machine.instructions) finishes.next (ap length finishes.instructions) finishes.inside)
     ∙ ap (rested (length progress.machine.instructions - progress.machine.next + 1)) (silent_of progress finishes.silent_is)
 
--- ---- standing in a world
+-- one that stops in a step is at rest as it is then
+pub at_rest_stops : (machine : Machine) → is_running machine.state ≡ true → is_running (advance machine).machine.state ≡ false → (advance machine).asks ≡ None
+    → at_rest machine ≡ at_rest (advance machine).machine
+at_rest_stops machine was e quiet =
+    at_rest_after machine was e ∙ silent_of (advance machine) quiet ∙ sym (at_rest_still (advance machine).machine e)
 
--- a machine that still runs after a step stands where it stood
-pub standing_again : (world : World) (machine : Machine) → is_running machine.state ≡ true → is_running (advance machine).machine.state ≡ true
-    → standing world machine ≡ standing world (advance machine).machine
-unfolding standing
-standing_again world machine was e = ap (judged world) (at_rest_again machine was e)
-
--- one that has stopped stands there
-pub standing_still : (world : World) (machine : Machine) → is_running machine.state ≡ false → standing world machine ≡ silent machine
-unfolding standing
-standing_still world machine e = ap (judged world) (at_rest_still machine e)
-
--- one that stops in a step stands there
-pub standing_stops : (world : World) (machine : Machine) → is_running machine.state ≡ true → is_running (advance machine).machine.state ≡ false → (advance machine).asks ≡ None
-    → standing world machine ≡ standing world (advance machine).machine
-unfolding standing
-standing_stops world machine was e quiet =
-    ap (judged world) (at_rest_after machine was e ∙ silent_of (advance machine) quiet) ∙ ap (judged world) (sym (at_rest_still (advance machine).machine e))
-
-asking_at : (machine : Machine) (request : Request) → is_running machine.state ≡ true → (advance machine).asks ≡ Some request
+-- one that asks is at rest at its request
+pub at_rest_asks : (machine : Machine) (request : Request) → is_running machine.state ≡ true → (advance machine).asks ≡ Some request
     → at_rest machine ≡ record { machine = (advance machine).machine; asks = Some request }
-asking_at machine request was asks =
+at_rest_asks machine request was asks =
     at_rest_after machine was (awaiting_rests (advance machine).machine.state (advance_asks machine request asks))
     ∙ ap (λ (a : Option Request). record { machine = (advance machine).machine; asks = a }) asks
-
--- one that asks what is taken stands at its request
-pub standing_asks : (world : World) (machine : Machine) (request : Request) → is_running machine.state ≡ true → (advance machine).asks ≡ Some request → refusal world request ≡ None
-    → standing world machine ≡ record { machine = (advance machine).machine; asks = Some request }
-unfolding standing
-standing_asks world machine request was asks taken =
-    let progress : Progress = record { machine = (advance machine).machine; asks = Some request } in
-    ap (judged world) (asking_at machine request was asks) ∙ ap (λ code. judged_by code progress) taken
-
--- one that asks what is refused ends by the refusal
-pub standing_refused : (world : World) (machine : Machine) (request : Request) (code : ℕ) → is_running machine.state ≡ true → (advance machine).asks ≡ Some request → refusal world request ≡ Some code
-    → standing world machine ≡ standing world (resumed (advance machine).machine (reply.Fault (record { 0 = code })))
-unfolding standing
-standing_refused world machine request code was asks refused =
-    let progress : Progress = record { machine = (advance machine).machine; asks = Some request } in
-    let ended = resumed (advance machine).machine (reply.Fault (record { 0 = code })) in
-    ap (judged world) (asking_at machine request was asks) ∙ ap (λ found. judged_by found progress) refused
-    ∙ ap (judged world) (sym (at_rest_still ended (refused_rests (advance machine).machine (record { 0 = code }) (advance_asks machine request asks))))
 
 -- ---- orders
 

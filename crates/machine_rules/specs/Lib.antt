@@ -1,6 +1,7 @@
 pub mod Worlds
 pub mod Operands
 pub mod StackOperations
+pub mod Calls
 pub mod Instructions
 pub mod Machines
 pub mod Runs

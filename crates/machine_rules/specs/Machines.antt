@@ -1,23 +1,27 @@
 -- A machine and its instructions (bindingApiTester.md).
-use Rattle.std.specs.Prelude.{ℕ, ◌+◌, List, [], ◌∷◌, Option, Some, None, Ok, Err, slice_get, codes}
+use Rattle.std.specs.Prelude.{ℕ, ◌+◌, List, [], ◌∷◌, ◌++◌, Option, Some, None, Ok, Err, slice_get, codes, decimal}
 use Rattle.fdb_tuple.specs.declared.tuple.Elem.{Elem}
 use Rattle.fdb_tuple.specs.declared.tuple.Elem.TheVariants as elem
-use Rattle.fdb_calls.specs.declared.TxnCall.TheVariants as call
+use Rattle.fdb_tuple.specs.Tuples.{Bytes, End, Single}
+use Rattle.fdb_tuple.specs.Spelling.{spelling}
+use Rattle.fdb_calls.specs.declared.TxnCall.{TxnCall}
 use Rattle.fdb_calls.specs.declared.Request.{Request}
-use Rattle.fdb_calls.specs.declared.Request.TheVariants as request
 use Rattle.fdb_calls.specs.declared.Reply.{Reply}
 use Rattle.fdb_calls.specs.declared.Reply.TheVariants as reply
 use Rattle.machine_rules.specs.declared.Item.{Item}
-use Rattle.machine_rules.specs.declared.End.{End}
+use Rattle.machine_rules.specs.declared.ErrorNote.{ErrorNote}
+use Rattle.machine_rules.specs.declared.End.{End as HowEnded}
 use Rattle.machine_rules.specs.declared.End.TheVariants as end
 use Rattle.machine_rules.specs.declared.Awaits.{Awaits}
 use Rattle.machine_rules.specs.declared.Awaits.TheVariants as awaits
 use Rattle.machine_rules.specs.declared.State.{State}
 use Rattle.machine_rules.specs.declared.State.TheVariants as state
+use Rattle.machine_rules.specs.declared.Scope.{Scope}
 use Rattle.machine_rules.specs.declared.Instruction.{Instruction}
 use Rattle.machine_rules.specs.declared.Instruction.TheVariants as instruction
-use Rattle.machine_rules.specs.Operands.{Refusal, Missing, Unfit, Popped, bytes_operand, two_operands}
+use Rattle.machine_rules.specs.Operands.{Refusal, Missing, Unfit, ◌>>=◌, Popped, bytes_operand}
 use Rattle.machine_rules.specs.StackOperations.{Operated, pushed, operated}
+use Rattle.machine_rules.specs.Calls.{call_of, request_in, awaits_in, request_of, awaits_of}
 use Rattle.machine_rules.specs.Instructions.{instruction_of}
 
 -- ---- a machine
@@ -28,8 +32,12 @@ pub record Machine : Type 0 where
   -- the values of its instructions, and the number of the next one
   pub instructions : List (List ℕ)
   pub next : ℕ
+  -- the name of its current transaction
+  pub name : List ℕ
   -- its items, the top first
   pub stack : List Item
+  -- the errors that it noted, the earliest first
+  pub errors : List ErrorNote
   pub state : State
 
 -- a machine, and the request that it asks, if it asks one
@@ -41,7 +49,7 @@ abbrev pub silent : Machine → Progress
 silent machine = record { machine = machine; asks = None }
 
 -- the machine as it stops at its instruction
-abbrev pub stopped : Machine → List Item → End → Machine
+abbrev pub stopped : Machine → List Item → HowEnded → Machine
 stopped machine stack end = record machine { stack = stack; state = state.Stopped end }
 
 -- the machine as it has done its instruction
@@ -60,8 +68,10 @@ asking machine stack request awaits = record {
 pub data Act : Type 0 where
   -- it is done, and leaves this stack
   Does : (stack : List Item) → Act
+  -- it is done, and leaves this name as that of the current transaction, and this stack
+  Uses : (name : List ℕ) (stack : List Item) → Act
   -- it stops the machine
-  Stops : (stack : List Item) (end : End) → Act
+  Stops : (stack : List Item) (end : HowEnded) → Act
   -- it asks a request, whose reply it awaits
   Asks : (stack : List Item) (request : Request) (awaits : Awaits) → Act
 
@@ -74,24 +84,34 @@ abbrev pub does : ℕ → Operated → Act
 does number (Ok stack) = Does stack
 does number (Err refusal) = refused number refusal
 
--- SET pops a key, and then a value
-abbrev pub set_operands : List Item → Popped (List ℕ × List ℕ)
-set_operands stack = two_operands bytes_operand bytes_operand stack
+-- a request, where its operands were popped
+abbrev pub asks : ℕ → Awaits → Popped Request → Act
+asks number awaits (Ok popped) = Asks popped.1 popped.0 awaits
+asks number awaits (Err refusal) = refused number refusal
 
-abbrev pub sets : ℕ → List ℕ → Popped (List ℕ × List ℕ) → Act
-sets number prefix (Ok popped) = Asks popped.1 (request.On prefix (call.Set popped.0.0 popped.0.1)) awaits.Nothing
-sets number prefix (Err refusal) = refused number refusal
+-- a call on the database as a request
+abbrev pub requested : Scope → List ℕ → Popped TxnCall → Popped Request
+requested scope name popped = do
+  called ← popped
+  Ok (request_in scope name called.0, called.1)
 
--- the instruction of this number, of a machine under this prefix with this stack
+-- USE_TRANSACTION pops the name
+abbrev pub uses : ℕ → Popped (List ℕ) → Act
+uses number (Ok popped) = Uses popped.0 popped.1
+uses number (Err refusal) = refused number refusal
+
+-- the instruction of this number, where this is the name of the current transaction, on this stack
 unfoldable pub act_of : ℕ → List ℕ → List Item → Option Instruction → Act
-act_of number prefix stack None = Stops stack (end.BadInstruction number)
-act_of number prefix stack (Some (instruction.Push element)) = Does (pushed number (element ∷ []) stack)
-act_of number prefix stack (Some (instruction.OnStack operation)) = does number (operated operation number stack)
-act_of number prefix stack (Some instruction.Set) = sets number prefix (set_operands stack)
-act_of number prefix stack (Some instruction.Commit) = Asks stack (request.On prefix call.Commit) awaits.NotPresent
+act_of number name stack None = Stops stack (end.BadInstruction number)
+act_of number name stack (Some (instruction.Push element)) = Does (pushed number (element ∷ []) stack)
+act_of number name stack (Some (instruction.OnStack operation)) = does number (operated operation number stack)
+act_of number name stack (Some instruction.UseTransaction) = uses number (bytes_operand stack)
+act_of number name stack (Some (instruction.OnTransaction operation)) = asks number (awaits_of operation) (request_of operation name stack)
+act_of number name stack (Some (instruction.OnDatabase operation scope)) = asks number (awaits_in operation scope) (requested scope name (call_of operation stack))
 
 abbrev pub acted : Machine → Act → Progress
 acted machine (Does stack) = silent (done machine stack)
+acted machine (Uses name stack) = silent (done (record machine { name = name }) stack)
 acted machine (Stops stack end) = silent (stopped machine stack end)
 acted machine (Asks stack request awaits) = asking machine stack request awaits
 
@@ -100,7 +120,7 @@ acted machine (Asks stack request awaits) = asking machine stack request awaits
 -- what a running machine does next: an instruction, or its end where all were run
 abbrev pub next_act : Machine → Option (List ℕ) → Act
 next_act machine None = Stops machine.stack end.Ended
-next_act machine (Some value) = act_of machine.next machine.prefix machine.stack (instruction_of value)
+next_act machine (Some value) = act_of machine.next machine.name machine.stack (instruction_of value)
 
 abbrev pub advance_by : State → Machine → Progress
 advance_by state.Running machine = acted machine (next_act machine (slice_get machine.instructions machine.next))
@@ -115,15 +135,45 @@ advance machine = advance_by machine.state machine
 abbrev pub result_not_present : Elem
 result_not_present = elem.Bytes (codes "RESULT_NOT_PRESENT")
 
-abbrev pub answered_done : Machine → Awaits → Machine
-answered_done machine awaits.Nothing = done machine machine.stack
-answered_done machine awaits.NotPresent = done machine (pushed machine.next (result_not_present ∷ []) machine.stack)
+-- the digits of a code, and the item that tells of it
+abbrev pub error_item : ℕ → Elem
+error_item code = elem.Bytes (spelling (Single (Bytes (codes "ERROR")) (Single (Bytes (decimal code)) End)))
 
--- a refusal ends the machine, for now; a reply that no request gets changes nothing but that the machine goes on
+abbrev pub error_note : ℕ → ℕ → ErrorNote
+error_note number code = record { instruction = number; word = decimal code }
+
+-- a fault is noted, and pushed
+abbrev pub faulted : Machine → ℕ → Machine
+faulted machine code =
+    done (record machine { errors = machine.errors ++ error_note machine.next code ∷ [] }) (pushed machine.next (error_item code ∷ []) machine.stack)
+
+abbrev pub pushes : Machine → Elem → Machine
+pushes machine element = done machine (pushed machine.next (element ∷ []) machine.stack)
+
+abbrev pub value_or_text : Option (List ℕ) → Elem
+value_or_text (Some value) = elem.Bytes value
+value_or_text None = result_not_present
+
+-- what a reply comes to
+pub data Use : Type 0 where
+  Goes : Use
+  Pushes : (element : Elem) → Use
+  Faults : (code : ℕ) → Use
+
+-- what a reply is used for; one of another kind than the request's changes nothing but that the machine goes on
+abbrev pub use_of : Awaits → Reply → Use
+use_of awaits (reply.Fault code) = Faults code.0
+use_of awaits.NotPresent reply.Done = Pushes result_not_present
+use_of awaits.Value (reply.Value value) = Pushes (value_or_text value)
+use_of awaits reply = Goes
+
+abbrev pub used : Machine → Use → Machine
+used machine Goes = done machine machine.stack
+used machine (Pushes element) = pushes machine element
+used machine (Faults code) = faulted machine code
+
 abbrev pub answered : Machine → Awaits → Reply → Machine
-answered machine awaits reply.Done = answered_done machine awaits
-answered machine awaits (reply.Fault code) = stopped machine machine.stack (end.BadInstruction machine.next)
-answered machine awaits reply.NoMemory = done machine machine.stack
+answered machine awaits reply = used machine (use_of awaits reply)
 
 abbrev pub resumed_by : State → Machine → Reply → Machine
 resumed_by state.Running machine reply = machine

@@ -1,6 +1,6 @@
 -- Operands: what an operation pops from a stack, one item after the other, and the kinds that it takes. A stack is
 -- the list of its items, the top first.
-use Rattle.std.specs.Prelude.{ℕ, zero, suc, List, [], ◌∷◌, ℤ, pos, negsuc, Option, Some, None, Result, Ok, Err, option_and_then}
+use Rattle.std.specs.Prelude.{ℕ, zero, suc, List, [], ◌∷◌, ℤ, pos, negsuc, Option, Some, None, Result, Ok, Err, option_and_then, nat_lt, if◌then◌else◌}
 use Rattle.fdb_tuple.specs.declared.tuple.Elem.{Elem}
 use Rattle.fdb_tuple.specs.declared.tuple.Elem.TheVariants as elem
 use Rattle.fdb_tuple.specs.Tuples.{Elements}
@@ -33,6 +33,13 @@ count_in (negsuc n) = None
 
 abbrev pub count_of : Elem → Option ℕ
 count_of element = option_and_then count_in (int_of element)
+
+-- "code": an integer from 0 to 65,535
+abbrev pub code_in : ℕ → Option ℕ
+code_in n = if nat_lt n 65536 then Some n else None
+
+abbrev pub code_of : Elem → Option ℕ
+code_of element = option_and_then code_in (count_of element)
 
 -- ---- popping
 
@@ -78,6 +85,9 @@ int_operand stack = operand_by int_of stack
 
 abbrev pub count_operand : List Item → Popped ℕ
 count_operand stack = operand_by count_of stack
+
+abbrev pub code_operand : List Item → Popped ℕ
+code_operand stack = operand_by code_of stack
 
 -- so many operands, in the order popped
 unfoldable pub operands_by : {A : Type 0} → (List Item → Popped A) → ℕ → List Item → Popped (List A)

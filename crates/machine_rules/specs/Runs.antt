@@ -8,12 +8,11 @@ use Rattle.fdb_tuple.specs.Tuples.{Bytes, End, Single}
 use Rattle.fdb_tuple.specs.Listed.{before}
 use Rattle.fdb_tuple.specs.Spelling.{spelling}
 use Rattle.fdb_calls.specs.declared.Request.{Request}
-use Rattle.fdb_calls.specs.declared.Reply.TheVariants as reply
-use Rattle.line_rules.specs.Printing.{machine_line, item_line, order_line, pair_line}
+use Rattle.line_rules.specs.Printing.{machine_line, item_line, error_line, order_line, pair_line}
 use Rattle.machine_rules.specs.declared.End.TheVariants as end
 use Rattle.machine_rules.specs.declared.State.{State}
 use Rattle.machine_rules.specs.declared.State.TheVariants as state
-use Rattle.machine_rules.specs.Worlds.{World, Stepped, begun, step, refusal}
+use Rattle.machine_rules.specs.Worlds.{World, Stepped, begun, step}
 use Rattle.machine_rules.specs.Machines.{Machine, Progress, silent, advance, resumed}
 
 -- ---- coming to rest
@@ -31,22 +30,6 @@ rested (suc more) progress = if is_running progress.machine.state then rested mo
 -- each instruction is run once at most, and then the machine ends: so many steps are enough
 unfoldable pub at_rest : Machine → Progress
 at_rest machine = rested (length machine.instructions - machine.next + 1) (silent machine)
-
--- a request that would be refused isn't taken: its machine ends there
-abbrev pub judged_by : Option ℕ → Progress → Progress
-judged_by None progress = progress
-judged_by (Some code) progress = silent (resumed progress.machine (reply.Fault (record { 0 = code })))
-
-abbrev pub judged_asking : World → Option Request → Progress → Progress
-judged_asking world None progress = progress
-judged_asking world (Some request) progress = judged_by (refusal world request) progress
-
-abbrev pub judged : World → Progress → Progress
-judged world progress = judged_asking world progress.asks progress
-
--- a machine as it stands in a world: at its next request, or at its end
-unfoldable pub standing : World → Machine → Progress
-standing world machine = judged world (at_rest machine)
 
 -- ---- starting a machine
 
@@ -70,7 +53,9 @@ started world number prefix = record {
   prefix = prefix;
   instructions = instructions_in (newest world) prefix;
   next = 0;
+  name = prefix;
   stack = [];
+  errors = [];
   state = state.Running;
 }
 
@@ -83,13 +68,13 @@ pub record Run : Type 0 where
 
 -- the run before any request was taken: machine 0 was started under the prefix
 abbrev pub start : List (List ℕ × List ℕ) → List ℕ → Run
-start pairs prefix = record { world = begun pairs; machines = standing (begun pairs) (started (begun pairs) 0 prefix) ∷ [] }
+start pairs prefix = record { world = begun pairs; machines = at_rest (started (begun pairs) 0 prefix) ∷ [] }
 
 -- a machine's request was taken: its machine has the reply, and stands at its next request or its end
 abbrev pub replied : Run → ℕ → Machine → Stepped → Run
 replied run machine_number machine stepped = record {
   world = stepped.world;
-  machines = slice_set run.machines machine_number (standing stepped.world (resumed machine stepped.reply));
+  machines = slice_set run.machines machine_number (at_rest (resumed machine stepped.reply));
 }
 
 abbrev pub taken : Run → ℕ → Progress → Option Run
@@ -144,10 +129,15 @@ abbrev pub stack_lines : Machine → List ℕ
 stack_lines machine =
     flat_map (λ (place, item). item_line machine.number place item.instruction (spelling (before item.element End))) (enumerate_from 0 (reverse machine.stack))
 
--- how the machines ended, their stacks, the order, and the map at the last version in the order of its keys
+-- the errors that a machine noted
+abbrev pub error_lines : Machine → List ℕ
+error_lines machine = flat_map (λ note. error_line machine.number note.instruction note.word) machine.errors
+
+-- how the machines ended, their stacks, their errors, the order, and the map at the last version in the order of its keys
 unfoldable pub dump : List ℕ → Run → List ℕ
 dump order run =
     flat_map (λ progress. end_line progress.machine progress.machine.state) run.machines
     ++ flat_map (λ progress. stack_lines progress.machine) run.machines
+    ++ flat_map (λ progress. error_lines progress.machine) run.machines
     ++ flat_map order_line order
     ++ flat_map (λ entry. pair_line entry.0 entry.1) (finite.entries (newest run.world))

@@ -9,6 +9,7 @@
 #![tactic(auto)]
 
 use fdb_tuple::Elem;
+use key_bytes::Bytes;
 
 /// An item of a machine's stack: an element, and the number of the instruction that pushed it.
 #[derive(Debug, Drop)]
@@ -28,13 +29,22 @@ pub enum End {
     Underflow(u64),
 }
 
-/// What the reply to a request is used for.
+/// An error that a machine noted: the number of the instruction that was run, and the digits of the code.
+#[derive(Debug, Drop)]
+pub struct ErrorNote {
+    pub instruction: u64,
+    pub word: Bytes,
+}
+
+/// What the reply to a request is used for, where it is no fault.
 #[derive(Clone, Copy, Debug, PartialEq, Eq)]
 pub enum Awaits {
     /// Nothing is pushed.
     Nothing,
     /// The fixed text `RESULT_NOT_PRESENT` is pushed.
     NotPresent,
+    /// The value is pushed, or the fixed text `RESULT_NOT_PRESENT` where there is none.
+    Value,
 }
 
 /// What a machine is about to do.
@@ -83,6 +93,47 @@ pub enum StackOperation {
     UnitTests,
 }
 
+/// A call on the database that has two forms (bindingApiTester.md): on the current transaction, or with `_DATABASE`.
+#[derive(Clone, Copy, Debug, PartialEq, Eq)]
+pub enum DatabaseOperation {
+    /// Pops a key, and pushes its value.
+    Get,
+    /// Pops a key and a value, and writes the value under the key.
+    Set,
+    /// Pops a key, and clears it.
+    Clear,
+    /// Pops two keys, and clears the range between them.
+    ClearRange,
+    /// Pops a prefix, and clears the keys that begin with it.
+    ClearRangeStartsWith,
+    /// Pops a name, a key and an operand, and does the atomic operation of the name.
+    AtomicOp,
+}
+
+/// Where a call of two forms is made.
+#[derive(Clone, Copy, Debug, PartialEq, Eq)]
+pub enum Scope {
+    /// On the current transaction.
+    Transaction,
+    /// On a transaction of its own, which is then committed.
+    Database,
+}
+
+/// An operation on the current transaction alone (bindingApiTester.md).
+#[derive(Clone, Copy, Debug, PartialEq, Eq)]
+pub enum TransactionOperation {
+    /// A new transaction under the current name.
+    NewTransaction,
+    /// Pops a code, and begins anew where it may be retried.
+    OnError,
+    /// Begins anew.
+    Reset,
+    /// Cancels.
+    Cancel,
+    /// Commits.
+    Commit,
+}
+
 /// An instruction that the machine knows.
 #[derive(Debug, Drop)]
 pub enum Instruction {
@@ -90,8 +141,10 @@ pub enum Instruction {
     Push(Elem),
     /// Works on the stack alone.
     OnStack(StackOperation),
-    /// Pops a key and a value, and writes the value under the key.
-    Set,
-    /// Commits the transaction.
-    Commit,
+    /// Pops a name, which is the current one from then on.
+    UseTransaction,
+    /// Works on the current transaction.
+    OnTransaction(TransactionOperation),
+    /// Calls the database in one of two forms.
+    OnDatabase(DatabaseOperation, Scope),
 }

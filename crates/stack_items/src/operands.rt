@@ -2,7 +2,7 @@
 
 ghost use Rattle.std.specs.Prelude.{◌≡◌, ◌≤◌, [], ◌∷◌, ◌++◌, length, map, take, drop, Err, option_map, IfOk, OnOk, OnErr, IsOkUnless};
 ghost use Rattle.fdb_tuple.specs.Listed.{elements_of, IsElement};
-ghost use Rattle.machine_rules.specs.Operands.{bytes_of, string_of, int_of, count_in, item_operand, bytes_operand, string_operand, int_operand, count_operand, tuple_operand, byte_strings_operand, left_of};
+ghost use Rattle.machine_rules.specs.Operands.{bytes_of, string_of, int_of, count_in, code_in, code_operand, item_operand, bytes_operand, string_operand, int_operand, count_operand, tuple_operand, byte_strings_operand, left_of};
 ghost use Rattle.stack_items.specs.Items.{IsItem, EndsIn};
 ghost use Rattle.stack_items.specs.Pops.{Pops, PopsUnlessFull};
 
@@ -54,6 +54,18 @@ impl Stack {
         let item = self.pop_item()?;
         into_int(item.element)
             .and_then(count_in)
+            .ok_or(StackFault::Operand)
+    }
+
+    /// Pops a code: an integer from 0 to 65,535. Where there is no item it answers Underflow; where the top item is no
+    /// such integer it answers Operand, and the item is gone. It takes no memory.
+    pub fn pop_code(&mut self) -> Result<u16, StackFault>
+        ensures { Pops (λ code. code) result (code_operand self.old) self.new }
+    {
+        let item = self.pop_item()?;
+        into_int(item.element)
+            .and_then(count_in)
+            .and_then(code_in)
             .ok_or(StackFault::Operand)
     }
 
@@ -149,6 +161,12 @@ fn count_in(number: i128) -> Option<u128>
     } else {
         Some(number.unsigned_abs())
     }
+}
+
+fn code_in(number: u128) -> Option<u16>
+    ensures { result ≡ code_in number }
+{
+    u16::try_from(number).ok()
 }
 
 /// The bytes of an element of the kind "bytes": of a byte string, or of a Unicode string's UTF-8. It takes no memory.

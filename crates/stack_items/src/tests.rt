@@ -225,3 +225,16 @@ fn operations_are_done_by_name(rt: HostRuntime) -> Result<(), Fail> {
     assert!(rt; matches!(underflow, Err(StackFault::Underflow)));
     Ok(())
 }
+
+#[test]
+fn a_code_has_16_bits(rt: HostRuntime) -> Result<(), Fail> {
+    let mut stack = Stack::new(rt.alloc());
+    for number in [65_535, 65_536, -1] {
+        stack.push(Elem::Int(number), 0)?;
+    }
+    assert_eq!(rt; stack.pop_code(), Err(StackFault::Operand));
+    assert_eq!(rt; stack.pop_code(), Err(StackFault::Operand));
+    assert_eq!(rt; stack.pop_code(), Ok(65_535));
+    assert_eq!(rt; stack.pop_code(), Err(StackFault::Underflow));
+    Ok(())
+}
