@@ -1,0 +1,7 @@
+use Rattle.std.proofs.Common.{◌≤◌, min, arith}
+use Rattle.version_store.specs.Versions.{last_of}
+use Rattle.txn_core.proofs.Stored.{no_fault}
+use Rattle.txn_core.proofs.reading.stored.Goals as goal
+
+pub returns-in-Err : goal.returns-in-Err
+returns-in-Err c = absurd (no_fault _ _ _ (omega arith) c.in-Err.ensures.err)

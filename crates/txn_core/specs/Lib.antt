@@ -1,0 +1,5 @@
+pub mod Edits
+pub mod KeyByKey
+pub mod Seen
+pub mod Stands
+pub mod Touched
