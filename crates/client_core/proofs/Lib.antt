@@ -1,4 +1,6 @@
-pub mod Commits
-pub mod Loads
-pub mod Made
+pub mod Named
+pub mod Calls
+pub mod Databases
 pub mod Steps
+pub mod Walks
+pub mod Loads

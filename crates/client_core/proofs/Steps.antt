@@ -1,62 +1,89 @@
--- What a call leaves of all that a core keeps is what the step leaves of the world.
-use Rattle.std.proofs.Common.{◌≡◌, ℕ, ◌+◌, List, [], ◌∷◌, ◌++◌, length, Option, Some, refl, sym, ap, subst, ◌∙◌, length-append, arith}
-use Rattle.std.specs.Prelude.{unwrap_or}
+-- What a step leaves: few commits and lives, and what the core answers by it.
+use Rattle.std.proofs.Common.{◌≡◌, ℕ, ◌+◌, ◌*◌, ◌^◌, ◌<◌, ◌≤◌, Bool, true, false, cond, List, [], ◌∷◌, ◌++◌, length, refl, sym, subst, length-append, arith}
+use Rattle.std.specs.Prelude.{is_some}
 use Rattle.std.specs.FinMap as finite
-use Rattle.std.proofs.lemmas.List.{take_all}
-use Rattle.fdb_calls.specs.declared.Request.{Request}
-use Rattle.fdb_calls.specs.declared.Request.TheVariants as request
 use Rattle.fdb_calls.specs.declared.Reply.{Reply}
 use Rattle.fdb_calls.specs.declared.Reply.TheVariants as reply
-use Rattle.database_rules.specs.Databases.{Commit, Database, History, after_commits, do_all, at, last}
-use Rattle.database_rules.specs.Transactions.{Transaction, fresh}
-use Rattle.machine_rules.specs.Worlds.{World, Called, Transactions, transaction_of, stepped, step, called, refusal, call_code}
+use Rattle.fdb_calls.specs.declared.Request.{Request}
+use Rattle.fdb_calls.specs.declared.Request.TheVariants as request
+use Rattle.fdb_calls.specs.declared.TxnCall.{TxnCall}
+use Rattle.fdb_calls.specs.declared.TxnCall.TheVariants as call
+use Rattle.database_rules.specs.Databases.{Commit, last}
+use Rattle.machine_rules.specs.Worlds.{World, Called, called, step, with_new, with_named, transaction_of, call_named, fresh_at_last, is_fault, Stepped}
 use Rattle.client_core.specs.Stands.{Kept, StandsFor, Answers}
-use Rattle.client_core.specs.Calls.{Calls, Takes, TakesRequest, name_of, call_of}
+use Rattle.client_core.specs.Sound.{IsSound, Took}
+use Rattle.client_core.proofs.Calls.{few_commits, few_lives, commit_commits, first_commits}
+use Rattle.client_core.proofs.Databases.{first_called}
 
-after_commits-append : (first second : List Commit) (database : Database) → after_commits (first ++ second) database ≡ after_commits second (after_commits first database)
-after_commits-append [] second database = refl
-after_commits-append (commit ∷ first) second database = after_commits-append first second (do_all commit.operations database)
+-- a step makes one commit at most, and draws two lives at most
+pub record IsFew (before after : World) : Type 0 where
+  pub commits : last after.history ≤ last before.history + 1
+  pub lives : after.next_life ≤ before.next_life + 2
 
--- the map at the last version is that after all commits
-at_last : (history : History) → at history (last history) ≡ after_commits history finite.empty
-at_last history = ap (λ (h : History). after_commits h finite.empty) (take_all (length history) history (omega arith))
+counts : (first second : List Commit) → length second ≤ 1 → length (first ++ second) ≤ length first + 1
+counts first second few = subst (λ n. n ≤ length first + 1) (sym (length-append first second)) (omega arith)
 
-pub leads : (core new : Kept) (world : World) (name : List ℕ) (called : Called) (reply : Reply) → StandsFor core world → Takes core name called new reply → StandsFor new (stepped world name called).world
-leads core new world name called reply stands takes = record {
-  version = takes.version ∙ ap (λ n. n + length called.commits) stands.version ∙ sym (length-append world.history called.commits);
-  database = takes.database ∙ ap (after_commits called.commits) (stands.database ∙ at_last world.history)
-      ∙ sym (after_commits-append world.history called.commits finite.empty) ∙ sym (at_last (world.history ++ called.commits));
-  transactions = takes.calls.transactions ∙ ap (λ t. finite.insert t name called.transaction) stands.transactions;
-}
+one_or_none : (b : Bool) (commits : List Commit) → length commits ≤ 1 → length (cond b [] commits) ≤ 1
+one_or_none true commits few = omega arith
+one_or_none false commits few = few
 
-answers : (reply : Reply) (core : Kept) (world : World) (name : List ℕ) (called : Called) → reply ≡ called.reply → StandsFor core (stepped world name called).world → Answers reply core (stepped world name called)
-answers reply.Done core world name called e stands = (sym e, stands)
-answers (reply.Fault code) core world name called e stands = (sym e, stands)
-answers reply.NoMemory core world name called e stands = tt
-
--- a request that was taken is answered as the step answers it, in each world for which the core stood
-pub takes_step : (core new : Kept) (given : Request) (reply : Reply) → TakesRequest core given new reply → (world : World) → StandsFor core world → Answers reply new (step world given)
+pub step_few : (world : World) (given : Request) → IsFew world (step world given).world
 unfolding step
-takes_step core new (request.On name call) reply takes world stands =
-    let made = called (transaction_of world.transactions name) call in
-    let same : called (transaction_of core.transactions name) call ≡ made = ap (λ t. called (transaction_of t name) call) stands.transactions in
-    let taken = subst (λ c. Takes core name c new reply) same takes in
-    answers reply new world name made taken.calls.reply_is (leads core new world name made reply stands taken)
+step_few world (request.New name) = record { commits = omega arith; lives = omega arith }
+step_few world (request.On name its_call) = by (is_some (finite.get world.transactions name))
+  where
+    -- a call in a world that drew one life at most since
+    called_few : (between : World) → between.history ≡ world.history → between.next_life ≤ world.next_life + 1 → IsFew world (call_named between name its_call).world
+    called_few between same few =
+        let made = few_commits between.history between.next_life (transaction_of between name) its_call in
+        let drawn = few_lives between.history between.next_life (transaction_of between name) its_call in
+        record {
+          commits = subst (λ h. length (between.history ++ (called between.history between.next_life (transaction_of between name) its_call).commits) ≤ length h + 1) same
+              (counts between.history (called between.history between.next_life (transaction_of between name) its_call).commits made);
+          lives = omega (arith, few, drawn);
+        }
 
--- the refusal of a request, in each world for which the core stands
-pub refused_alike : (core : Kept) (given : Request) (code : Option ℕ) → code ≡ call_code (transaction_of core.transactions (name_of given)) (call_of given)
-    → (world : World) → StandsFor core world → code ≡ refusal world given
-unfolding refusal
-refused_alike core (request.On name call) code is world stands = is ∙ ap (λ t. call_code (transaction_of t name) call) stands.transactions
+    by : (b : Bool) → IsFew world (call_named (cond b world (with_new world name)) name its_call).world
+    by true = called_few world refl (omega arith)
+    by false = called_few (with_new world name) refl (omega arith)
+step_few world (request.Database its_call) =
+    let made = first_called world its_call in
+    let second = called world.history (world.next_life + 1 + made.lives) made.transaction call.Commit in
+    let drawn = few_lives world.history (world.next_life + 1) (fresh_at_last world) its_call in
+    record {
+      commits = counts world.history (cond (is_fault made.reply) [] second.commits)
+          (one_or_none (is_fault made.reply) second.commits (commit_commits world.history (world.next_life + 1 + made.lives) made.transaction));
+      lives = omega (arith, drawn);
+    }
 
-found_is : (found : Option Transaction) (t : Transaction) → found ≡ Some t → unwrap_or found fresh ≡ t
-found_is found t e = ap (λ o. unwrap_or o fresh) e
+-- the reply and what a core stands for, as the contract says it
+pub took_answers : (its_reply : Reply) (core : Kept) (stepped : Stepped) → Took its_reply core stepped → Answers its_reply core stepped
+took_answers reply.Done core stepped took = (sym took.reply_is, took.stands)
+took_answers (reply.Value value) core stepped took = (sym took.reply_is, took.stands)
+took_answers (reply.Fault code) core stepped took = (sym took.reply_is, took.stands)
+took_answers reply.NoMemory core stepped took = tt
 
--- a call on the transaction that a name was given is a call on the one that it had by the rule
-pub calls_made : (f : Transaction → Called) (old made new : Transactions) (name : List ℕ) (reply : Reply)
-    → finite.get made name ≡ Some (transaction_of old name) → ((t : Transaction) → finite.insert made name t ≡ finite.insert old name t)
-    → Calls made name (f (transaction_of made name)) new reply → Calls old name (f (transaction_of old name)) new reply
-calls_made f old made new name reply found others calls =
-    let same : transaction_of made name ≡ transaction_of old name = found_is (finite.get made name) (transaction_of old name) found in
-    let moved : Calls made name (f (transaction_of old name)) new reply = subst (λ t. Calls made name (f t) new reply) same calls in
-    record { reply_is = moved.reply_is; transactions = moved.transactions ∙ others (f (transaction_of old name)).transaction }
+-- how many requests were taken does not matter for what a core stands for
+pub stands_counted : (core : Kept) (applied : ℕ) (world : World) → StandsFor core world → StandsFor (record core { applied = applied }) world
+stands_counted core applied world stands = record { keeps = stands.keeps; transactions = stands.transactions; next_life = stands.next_life }
+
+-- a core that is sound takes a request, and is sound after it
+pub sound_taken : (core after : Kept) (given : Request) (its_reply : Reply) (applied : ℕ) → ((world : World) → StandsFor core world → Took its_reply after (step world given))
+    → IsSound core (applied + 1) (2 * applied) → IsSound after (applied + 1 + 1) (2 * (applied + 1))
+sound_taken core after given its_reply applied took sound =
+    let few = step_few sound.world given in
+    record {
+      world = (step sound.world given).world;
+      stands = (took sound.world sound.stands).stands;
+      few_commits = omega (arith, few.commits, sound.few_commits);
+      few_lives = omega (arith, few.lives, sound.few_lives);
+    }
+
+-- a core that is sound has versions and lives to spare
+pub sound_enough : (core : Kept) (applied counted : ℕ) → applied < 2 ^ 62 → IsSound core (applied + 1) (2 * applied) → IsSound (record core { applied = counted }) (2 ^ 62) (2 ^ 63)
+sound_enough core applied counted few sound = record {
+  world = sound.world;
+  stands = stands_counted core counted sound.world sound.stands;
+  few_commits = omega (arith, sound.few_commits);
+  few_lives = omega (arith, sound.few_lives);
+}

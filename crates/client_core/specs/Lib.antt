@@ -1,3 +1,5 @@
 pub mod Stands
-pub mod Calls
-pub mod Commits
+pub mod Sound
+pub mod Contents
+pub mod Reading
+pub mod Loading

@@ -1,28 +1,40 @@
 -- What a core stands for.
-use Rattle.std.specs.Prelude.{◌≡◌, ℕ, ⊤}
+use Rattle.std.specs.Prelude.{◌≡◌, ℕ, ⊤, List, Option, Some, None}
+use Rattle.std.specs.FinMap as finite
 use Rattle.fdb_calls.specs.declared.Code.{Code}
 use Rattle.fdb_calls.specs.declared.Reply.{Reply}
 use Rattle.fdb_calls.specs.declared.Reply.TheVariants as reply
-use Rattle.database_rules.specs.Databases.{Database, last}
+use Rattle.database_rules.specs.Transactions.{Transaction}
 use Rattle.machine_rules.specs.Worlds.{World, Transactions, Stepped}
-use Rattle.machine_rules.specs.Runs.{newest}
+use Rattle.version_store.specs.Versions.{Versions}
+use Rattle.txn_core.specs.Stands as txn
 
--- what a core keeps: the last version, the map at that version, the transactions by name, and how many requests it took
+-- what a core keeps: the store of its versions, the transactions by name, the number of the next life, and how many
+-- requests it took
 pub record Kept : Type 0 where
-  pub version : ℕ
-  pub database : Database
+  pub store : Versions
   pub transactions : Transactions
+  pub next_life : ℕ
   pub applied : ℕ
 
--- a core stands for each world with its last version, its map at that version and its transactions
+-- both are none, or the first stands for the second
+abbrev pub AreAlike : Option Transaction → Option Transaction → Type 0
+AreAlike None None = ⊤
+AreAlike None (Some transaction) = ⊥
+AreAlike (Some kept) None = ⊥
+AreAlike (Some kept) (Some transaction) = txn.StandsFor kept transaction
+
+-- A core stands for each world whose history its store keeps, which has the number of its next life, and in which each
+-- name has a transaction that the core's stands for, or none where the core has none.
 pub record StandsFor (core : Kept) (world : World) : Type 0 where
-  pub version : core.version ≡ last world.history
-  pub database : core.database ≡ newest world
-  pub transactions : core.transactions ≡ world.transactions
+  pub keeps : txn.Keeps core.store world.history
+  pub transactions : (name : List ℕ) → AreAlike (finite.get core.transactions name) (finite.get world.transactions name)
+  pub next_life : core.next_life ≡ world.next_life
 
 -- the reply is that of a step and the core stands for its world; or memory ran out, and nothing is said of the core
 abbrev pub Answers : Reply → Kept → Stepped → Type 0
 Answers reply.Done core stepped = (stepped.reply ≡ reply.Done) × StandsFor core stepped.world
+Answers (reply.Value value) core stepped = (stepped.reply ≡ reply.Value value) × StandsFor core stepped.world
 Answers (reply.Fault code) core stepped = (stepped.reply ≡ reply.Fault code) × StandsFor core stepped.world
 Answers reply.NoMemory core stepped = ⊤
 

@@ -1,187 +1,122 @@
 //! The core.
 
-ghost use Rattle.std.specs.Prelude.{◌≡◌, ◌+◌, ◌<◌, ◌≤◌, ◌^◌, IfOk, option_map};
+ghost use Rattle.std.specs.Prelude.{◌≡◌, ◌+◌, ◌<◌, ◌^◌, IfOk};
 ghost use Rattle.std.specs.FinMap as finite;
-ghost use Rattle.database_rules.specs.Transactions.{set_code};
-ghost use Rattle.client_core.specs.Calls.{name_of, call_of};
-ghost use Rattle.machine_rules.specs.Worlds.{World, begun, step, refusal, called, set_by, transaction_of};
+ghost use Rattle.std.specs.List.{filter};
+ghost use Rattle.key_bytes.specs.Keys.{within};
+ghost use Rattle.machine_rules.specs.Worlds.{World, begun, step};
+ghost use Rattle.version_store.specs.Versions.{at, last_of};
 
-use crate::named;
-use crate::transaction::Transaction;
-use fdb_calls::{Code, Reply, Request, TxnCall};
-use key_bytes::{Bytes, Key, Pairs};
+use crate::contents::Contents;
+use crate::loading::first_changes;
+use crate::reading::pairs_between;
+use fdb_calls::{Reply, Request};
+use key_bytes::{Key, Pairs};
 use key_map::KeyMap;
 use std::alloc::{AllocError, Global};
 use std::marker::Model;
+use version_store::Store;
 
 /// The core of the database. Contracts see what it keeps.
 #[derive(Drop)]
 pub struct Core {
-    alloc: Global,
-    version: u64,
-    database: KeyMap<Bytes>,
-    transactions: KeyMap<Transaction>,
-    applied: u64,
+    contents: Contents,
+    is_out_of_memory: bool,
 }
 
 impl Model for Core {
-    ghost use Rattle.std.specs.Prelude.{◌≤◌, ◌+◌};
+    ghost use Rattle.std.specs.Prelude.{◌≡◌, false, ◌+◌, ◌*◌};
     ghost use Rattle.client_core.specs.Stands.{Kept};
+    ghost use Rattle.client_core.specs.Sound.{IsSound};
+    ghost use Rattle.client_core.specs.Contents.{kept_of};
     ghost use Rattle.std.specs.FinMap as finite;
     ghost use Rattle.key_bytes.specs.Keys.{key_cmp};
     ghost use Rattle.std.specs.Coded.{codes, coded_ℕ, coded_list};
-    ghost use Rattle.client_core.specs.contracts.transaction.Transaction as transaction;
+    ghost use Rattle.version_store.specs.contracts.store.Store as store;
+    ghost use Rattle.txn_core.specs.contracts.txn.Txn as txn;
 
     ghost Value = { Kept };
 
-    ghost coded = { Prim.hlevel (codes, finite.code {R = key_cmp} (coded_list coded_ℕ) (coded_list coded_ℕ), finite.code {R = key_cmp} (coded_list coded_ℕ) transaction.the_row.coded) };
+    ghost coded = { Prim.hlevel (codes, store.the_row.coded, finite.code {R = key_cmp} (coded_list coded_ℕ) txn.the_row.coded) };
 
-    ghost view = { λ core. record {
-      version = core.version;
-      database = core.database;
-      transactions = core.transactions;
-      applied = core.applied;
-    } };
+    ghost view = { λ core. kept_of core.contents };
 
-    ghost invariant = { λ core. core.version ≤ core.applied + 1 };
+    ghost invariant = { λ core. core.is_out_of_memory ≡ false
+        → IsSound (kept_of core.contents) (core.contents.applied + 1) (2 * core.contents.applied) };
 }
 
 impl Core {
-    ghost use Rattle.client_core.specs.Stands.{StandsFor, Answers, number_of};
-    ghost use Rattle.client_core.specs.Calls.{Takes, TakesRequest};
-    ghost use Rattle.client_core.specs.Commits.{tried};
+    ghost use Rattle.client_core.specs.Stands.{StandsFor, Answers};
 
     /// The core with these pairs as its first commit; of two values of one key the later stays.
     pub fn load(alloc: Global, pairs: Pairs) -> Result<Core, AllocError>
         ensures begun { IfOk result (λ core. StandsFor core (begun pairs)) }
         ensures applied { IfOk result (λ core. core.applied ≡ 0) }
     {
+        let changes = first_changes(alloc, pairs)?;
+        let mut store = Store::new(alloc);
+        store.reserve(&changes)?;
+        store.install(changes);
         Ok(Core {
-            alloc,
-            version: 1,
-            database: KeyMap::from_pairs(alloc, pairs)?,
-            transactions: KeyMap::new(alloc),
-            applied: 0,
+            contents: Contents {
+                alloc,
+                store,
+                transactions: KeyMap::new(alloc),
+                next_life: 0,
+                applied: 0,
+            },
+            is_out_of_memory: false,
         })
     }
 
     /// The last version. It takes no memory.
     pub fn last(&self) -> u64
-        ensures { result ≡ self.now.version }
+        ensures { result ≡ last_of self.now.store }
     {
-        self.version
+        self.contents.store.last()
     }
 
     /// How many requests were applied. It takes no memory.
     pub fn applied(&self) -> u64
         ensures { result ≡ self.now.applied }
     {
-        self.applied
-    }
-
-    /// The map at the last version. It takes no memory.
-    pub fn database(&self) -> &KeyMap<Bytes>
-        ensures { result.now ≡ self.now.database }
-    {
-        &self.database
+        self.contents.applied
     }
 
     /// The pairs of the map at the last version, in the order of their keys.
     pub fn dump_pairs(&self) -> Result<Pairs, AllocError>
-        ensures { IfOk result (λ pairs. pairs ≡ finite.entries self.now.database) }
+        ensures { IfOk result (λ pairs. pairs ≡ finite.entries (at self.now.store (last_of self.now.store))) }
     {
-        self.database.pairs()
+        self.contents.store.pairs()
+    }
+
+    /// A copy of the pairs of the map at the last version with keys from `begin` up to `end`, `end` left out, in the
+    /// order of their keys. There is none where `begin` isn't less than `end`.
+    pub fn pairs_between(&self, begin: &Key, end: &Key) -> Result<Pairs, AllocError>
+        ensures { IfOk result (λ pairs. pairs
+            ≡ filter (λ e. within begin.now end.now e.0) (finite.entries (at self.now.store (last_of self.now.store)))) }
+    {
+        pairs_between(self.contents.alloc, &self.contents.store, begin, end)
     }
 
     /// Takes a request of a machine: its step in the world, and the reply that is fixed there. NoMemory comes for
-    /// want of memory alone, and nothing is said of the core then.
+    /// want of memory alone, nothing is said of the core then, and each further request is answered so too.
     pub fn apply(&mut self, _machine: u16, request: &Request) -> Reply
         requires { self.old.applied < 2 ^ 62 }
         ensures step { (world : World) → StandsFor self.old world → Answers result self.new (step world request.now) }
         ensures applied { self.new.applied ≡ self.old.applied + 1 }
     {
-        self.applied += 1;
-        match self.take(request) {
-            Ok(reply) => reply,
+        self.contents.applied += 1;
+        if self.is_out_of_memory {
+            return Reply::NoMemory;
+        }
+        self.is_out_of_memory = true;
+        match self.contents.take(request) {
+            Ok(reply) => {
+                self.is_out_of_memory = false;
+                reply
+            }
             Err(_) => Reply::NoMemory,
         }
     }
-
-    fn take(&mut self, request: &Request) -> Result<Reply, AllocError>
-        requires few { self.old.applied ≤ 2 ^ 62 }
-        requires counted { self.old.version ≤ self.old.applied }
-        ensures step { IfOk result (λ reply. TakesRequest self.old request.now self.new reply) }
-        ensures applied { self.new.applied ≡ self.old.applied }
-    {
-        self.call(name_of(request), call_of(request))
-    }
-
-    #[tactic(auto, unfolding(machine_rules::specs::Worlds::called))]
-    fn call(&mut self, name: &Bytes, call: &TxnCall) -> Result<Reply, AllocError>
-        requires few { self.old.applied ≤ 2 ^ 62 }
-        requires counted { self.old.version ≤ self.old.applied }
-        ensures step { IfOk result (λ reply. Takes self.old name.now (called (transaction_of self.old.transactions name.now) call.now) self.new reply) }
-        ensures applied { self.new.applied ≡ self.old.applied }
-    {
-        match call {
-            TxnCall::Set { key, value } => self.set(name, key, value),
-            TxnCall::Commit => self.commit(name),
-        }
-    }
-
-    fn set(&mut self, name: &Bytes, key: &Key, value: &Bytes) -> Result<Reply, AllocError>
-        ensures step { let t = transaction_of self.old.transactions name.now in
-            IfOk result (Takes self.old name.now (set_by (set_code t key.now value.now) t key.now value.now) self.new) }
-        ensures applied { self.new.applied ≡ self.old.applied }
-        ensures version { self.new.version ≡ self.old.version }
-    {
-        named::set(&mut self.transactions, self.alloc, name, key, value)
-    }
-
-    fn commit(&mut self, name: &Bytes) -> Result<Reply, AllocError>
-        requires few { self.old.applied ≤ 2 ^ 62 }
-        requires counted { self.old.version ≤ self.old.applied }
-        ensures step { let t = transaction_of self.old.transactions name.now in
-            IfOk result (Takes self.old name.now (tried t) self.new) }
-        ensures applied { self.new.applied ≡ self.old.applied }
-    {
-        let committed = named::commit(
-            &mut self.transactions,
-            self.alloc,
-            name,
-            &mut self.database,
-        )?;
-        if committed.has_version {
-            self.version += 1;
-        }
-        Ok(committed.reply)
-    }
-
-    /// The code that a request would be refused with. It takes no memory.
-    pub fn refusal(&self, request: &Request) -> Option<Code>
-        ensures { (world : World) → StandsFor self.now world → option_map number_of result ≡ refusal world request.now }
-    {
-        named::code(
-            &self.transactions,
-            self.alloc,
-            name_of(request),
-            call_of(request),
-        )
-    }
-}
-
-// The name whose transaction a request calls.
-fn name_of(request: &Request) -> &Bytes
-    ensures { result.now ≡ name_of request.now }
-{
-    let Request::On { name, .. } = request;
-    name
-}
-
-// The call that a request makes.
-fn call_of(request: &Request) -> &TxnCall
-    ensures { result.now ≡ call_of request.now }
-{
-    let Request::On { call, .. } = request;
-    call
 }
