@@ -7,7 +7,7 @@ use Rattle.machine_rules.specs.declared.Awaits.{Awaits}
 use Rattle.machine_rules.specs.declared.Awaits.TheVariants as awaits
 use Rattle.machine_rules.specs.declared.State.{State}
 use Rattle.machine_rules.specs.declared.State.TheVariants as state
-use Rattle.machine_rules.specs.Machines.{Machine, Progress, Act, Does, Stops, Asks, silent, acted, next_act, answered, advance_by, advance, resumed, resumed_by}
+use Rattle.machine_rules.specs.Machines.{Machine, Progress, Act, Does, Uses, Stops, Asks, Use, Goes, Pushes, Faults, silent, acted, next_act, use_of, used, advance_by, advance, resumed, resumed_by}
 use Rattle.stack_machine.specs.Held.{Held}
 use Rattle.stack_machine.specs.Steps.{IsDue, MayStep, moved, answer_of, Moves}
 use Rattle.stack_machine.specs.declared.machine.Step.{Step}
@@ -18,6 +18,7 @@ FinishesAtAgain machine progress = answer_of progress ≡ step.Again → progres
 
 act_again : (machine : Machine) (act : Act) → FinishesAtAgain machine (acted machine act)
 act_again machine (Does stack) e = refl
+act_again machine (Uses name stack) e = refl
 act_again machine (Stops stack end) e = absurd cc
 act_again machine (Asks stack request awaits) e = absurd cc
 
@@ -26,15 +27,14 @@ advance_again state.Running machine is due e = act_again machine (next_act machi
 advance_again (state.Awaiting awaits) machine is due e = absurd due
 advance_again (state.Stopped end) machine is due e = absurd (let stopped : answer_of (silent machine) ≡ step.Stopped end = ap (λ s. answer_of (silent (record machine { state = s }))) is in cc (sym e ∙ stopped))
 
-answered_again : (machine : Machine) (awaits : Awaits) (given : Reply) → FinishesAtAgain machine (silent (answered machine awaits given))
-answered_again machine awaits.Nothing reply.Done e = refl
-answered_again machine awaits.NotPresent reply.Done e = refl
-answered_again machine awaits (reply.Fault code) e = absurd cc
-answered_again machine awaits reply.NoMemory e = refl
+used_again : (machine : Machine) (used_for : Use) → FinishesAtAgain machine (silent (used machine used_for))
+used_again machine Goes e = refl
+used_again machine (Pushes element) e = refl
+used_again machine (Faults code) e = refl
 
 resumed_again : (state : State) (machine : Machine) (given : Reply) → IsDue state (Some given) → FinishesAtAgain machine (silent (resumed_by state machine given))
 resumed_again state.Running machine given due e = absurd due
-resumed_again (state.Awaiting awaits) machine given due e = answered_again machine awaits given e
+resumed_again (state.Awaiting awaits) machine given due e = used_again machine (use_of awaits given) e
 resumed_again (state.Stopped end) machine given due e = absurd due
 
 moved_again : (machine : Machine) (given : Option Reply) → IsDue machine.state given → FinishesAtAgain machine (moved machine given)

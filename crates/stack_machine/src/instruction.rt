@@ -2,13 +2,13 @@
 
 ghost use Rattle.std.specs.Prelude.{◌≡◌, [], IfOk, IfSome, option_to_list};
 ghost use Rattle.machine_rules.specs.Operands.{bytes_of};
-ghost use Rattle.machine_rules.specs.Instructions.{stack_operation, bare_instruction, named_instruction, instruction_in, instruction_of};
+ghost use Rattle.machine_rules.specs.Instructions.{stack_operation, transaction_operation, database_operation, bare_instruction, named_instruction, instruction_in, instruction_of};
 ghost use Rattle.stack_machine.specs.Pushes.{PushesAnElement};
 ghost use Rattle.fdb_tuple.specs.Listed.{IsElement};
 ghost use Rattle.stack_machine.specs.Pushes.{AreElements};
 
 use fdb_tuple::{Elem, UnpackFault, unpack};
-use machine_rules::{Instruction, StackOperation};
+use machine_rules::{DatabaseOperation, Instruction, Scope, StackOperation, TransactionOperation};
 use stack_items::bytes_of;
 use std::alloc::{AllocError, Global};
 
@@ -56,12 +56,65 @@ fn bare_instruction(name: &[u8]) -> Option<Instruction>
     ensures instruction { result ≡ bare_instruction name.now }
     ensures element { PushesAnElement result }
 {
-    if name == b"SET".as_slice() {
-        Some(Instruction::Set)
+    if name == b"USE_TRANSACTION".as_slice() {
+        return Some(Instruction::UseTransaction);
+    }
+    if let Some(operation) = transaction_operation(name) {
+        return Some(Instruction::OnTransaction(operation));
+    }
+    if let Some((operation, scope)) = database_operation(name) {
+        return Some(Instruction::OnDatabase(operation, scope));
+    }
+    stack_operation(name).map(Instruction::OnStack)
+}
+
+fn transaction_operation(name: &[u8]) -> Option<TransactionOperation>
+    ensures { result ≡ transaction_operation name.now }
+{
+    if name == b"NEW_TRANSACTION".as_slice() {
+        Some(TransactionOperation::NewTransaction)
+    } else if name == b"ON_ERROR".as_slice() {
+        Some(TransactionOperation::OnError)
+    } else if name == b"RESET".as_slice() {
+        Some(TransactionOperation::Reset)
+    } else if name == b"CANCEL".as_slice() {
+        Some(TransactionOperation::Cancel)
     } else if name == b"COMMIT".as_slice() {
-        Some(Instruction::Commit)
+        Some(TransactionOperation::Commit)
     } else {
-        stack_operation(name).map(Instruction::OnStack)
+        None
+    }
+}
+
+fn database_operation(name: &[u8]) -> Option<(DatabaseOperation, Scope)>
+    ensures { result ≡ database_operation name.now }
+{
+    if name == b"GET".as_slice() {
+        Some((DatabaseOperation::Get, Scope::Transaction))
+    } else if name == b"GET_DATABASE".as_slice() {
+        Some((DatabaseOperation::Get, Scope::Database))
+    } else if name == b"SET".as_slice() {
+        Some((DatabaseOperation::Set, Scope::Transaction))
+    } else if name == b"SET_DATABASE".as_slice() {
+        Some((DatabaseOperation::Set, Scope::Database))
+    } else if name == b"CLEAR".as_slice() {
+        Some((DatabaseOperation::Clear, Scope::Transaction))
+    } else if name == b"CLEAR_DATABASE".as_slice() {
+        Some((DatabaseOperation::Clear, Scope::Database))
+    } else if name == b"CLEAR_RANGE".as_slice() {
+        Some((DatabaseOperation::ClearRange, Scope::Transaction))
+    } else if name == b"CLEAR_RANGE_DATABASE".as_slice() {
+        Some((DatabaseOperation::ClearRange, Scope::Database))
+    } else if name == b"CLEAR_RANGE_STARTS_WITH".as_slice() {
+        Some((DatabaseOperation::ClearRangeStartsWith, Scope::Transaction))
+    } else if name == b"CLEAR_RANGE_STARTS_WITH_DATABASE".as_slice() {
+        Some((DatabaseOperation::ClearRangeStartsWith, Scope::Database))
+    } else if name == b"ATOMIC_OP".as_slice() {
+        Some((DatabaseOperation::AtomicOp, Scope::Transaction))
+    } else if name == b"ATOMIC_OP_DATABASE".as_slice() {
+        Some((DatabaseOperation::AtomicOp, Scope::Database))
+    } else {
+        None
     }
 }
 

@@ -4,11 +4,14 @@
 //! step of those definitions. It runs one instruction, asks one request, uses one reply, or says how it stopped.
 #![tactic(auto)]
 
+mod call;
+mod errors;
 mod instruction;
 mod machine;
 
+pub use errors::Errors;
 pub use machine::{Machine, Step};
-pub use machine_rules::{End, State};
+pub use machine_rules::{End, ErrorNote, State};
 
 #[cfg(test)]
 mod tests;

@@ -4,15 +4,21 @@ ghost use Rattle.std.specs.Prelude.{◌≡◌, ◌≢◌, ◌+◌, ◌<◌, ◌^
 ghost use Rattle.machine_rules.specs.declared.State.TheVariants.{Running, Awaiting, Stopped};
 ghost use Rattle.fdb_tuple.specs.Listed.{IsElement};
 ghost use Rattle.machine_rules.specs.StackOperations.{pushed, operated};
-ghost use Rattle.machine_rules.specs.Machines.{stopped, done, asking, silent, set_operands, sets, does, act_of, acted, next_act, advance, resumed, result_not_present, answered, answered_done};
-ghost use Rattle.stack_items.specs.Pops.{Pops};
+ghost use Rattle.machine_rules.specs.Operands.{bytes_operand};
+ghost use Rattle.machine_rules.specs.Calls.{call_of, request_in, awaits_in, request_of, awaits_of};
+ghost use Rattle.machine_rules.specs.Machines.{stopped, done, asking, silent, uses, asks, requested, does, act_of, acted, next_act, advance, resumed, answered, faulted, pushes, value_or_text};
 ghost use Rattle.stack_machine.specs.Pushes.{PushesAnElement};
 
+use crate::call::{awaits_in, awaits_of, pop_call, pop_request};
+use crate::errors::{Errors, digits_of, error_item};
 use crate::instruction::instruction_of;
-use fdb_calls::{Reply, Request, TxnCall};
+use fdb_calls::{Code, Reply, Request, TxnCall};
 use fdb_tuple::Elem;
 use key_bytes::{Bytes, Pairs};
-use machine_rules::{Awaits, End, Instruction, Item, StackOperation, State};
+use machine_rules::{
+    Awaits, DatabaseOperation, End, ErrorNote, Instruction, Item, Scope, StackOperation, State,
+    TransactionOperation,
+};
 use stack_items::{Stack, StackFault};
 use std::alloc::{AllocError, Global};
 use std::marker::Model;
@@ -35,7 +41,9 @@ pub struct Machine {
     prefix: Bytes,
     instructions: Pairs,
     next: usize,
+    name: Bytes,
     stack: Stack,
+    errors: Errors,
     state: State,
     is_out_of_memory: bool,
     alloc: Global,
@@ -58,7 +66,9 @@ impl Model for Machine {
         prefix = m.prefix;
         instructions = values_of m.instructions;
         next = m.next;
+        name = m.name;
         stack = m.stack;
+        errors = m.errors;
         state = m.state;
       };
       is_out_of_memory = m.is_out_of_memory;
@@ -72,28 +82,38 @@ impl Machine {
     ghost use Rattle.stack_machine.specs.Steps.{MayStep, moved, Moves, end_of};
 
     /// A machine before its first instruction, under a number and a prefix, with the values of these pairs as
-    /// its instructions, in order. It takes no memory, and keeps the allocator.
-    pub fn new(alloc: Global, number: u16, prefix: Bytes, instructions: Pairs) -> Machine
-        ensures machine { result.machine ≡ record {
+    /// its instructions, in order.
+    pub fn new(
+        alloc: Global,
+        number: u16,
+        prefix: Bytes,
+        instructions: Pairs,
+    ) -> Result<Machine, AllocError>
+        ensures machine { IfOk result (λ machine. machine.machine ≡ record {
           number = number;
           prefix = prefix;
           instructions = values_of instructions;
           next = 0;
+          name = prefix;
           stack = [];
+          errors = [];
           state = Running;
-        } }
-        ensures ready { result.is_out_of_memory ≡ false }
+        }) }
+        ensures ready { IfOk result (λ machine. machine.is_out_of_memory ≡ false) }
     {
-        Machine {
+        let name = prefix.copy()?;
+        Ok(Machine {
             number,
             prefix,
             instructions,
             next: 0,
+            name,
             stack: Stack::new(alloc),
+            errors: Errors::new(alloc),
             state: State::Running,
             is_out_of_memory: false,
             alloc,
-        }
+        })
     }
 
     /// The machine's number. It takes no memory.
@@ -129,6 +149,13 @@ impl Machine {
         ensures { result.now ≡ self.now.machine.stack }
     {
         &self.stack
+    }
+
+    /// The errors that the machine noted, in the order in which they arose. It takes no memory.
+    pub fn errors(&self) -> &Errors
+        ensures { result.now ≡ self.now.machine.errors }
+    {
+        &self.errors
     }
 
     /// One step. With no reply it runs one instruction, asks a request, or says how the machine has stopped; with
@@ -191,21 +218,36 @@ impl Machine {
         requires inside { self.old.machine.next < length self.old.machine.instructions }
         ensures { IfOk result (λ step. Moves self.old (silent (answered self.old.machine awaits reply.now)) step self.new) }
     {
-        match reply {
-            Reply::Done => self.answer_done(awaits),
-            Reply::Fault(_) => Ok(self.stop(End::BadInstruction(self.next as u64))),
-            Reply::NoMemory => Ok(self.finish()),
+        match (awaits, reply) {
+            (_, Reply::Fault(code)) => self.note(*code),
+            (Awaits::NotPresent, Reply::Done) => self.push_text(b"RESULT_NOT_PRESENT"),
+            (Awaits::Value, Reply::Value(value)) => self.push_value(value),
+            _ => Ok(self.finish()),
         }
     }
 
-    fn answer_done(&mut self, awaits: Awaits) -> Result<Step, AllocError>
+    // Notes a fault, and pushes the item that tells of it.
+    fn note(&mut self, code: Code) -> Result<Step, AllocError>
         requires ready { self.old.is_out_of_memory ≡ false }
         requires inside { self.old.machine.next < length self.old.machine.instructions }
-        ensures { IfOk result (λ step. Moves self.old (silent (answered_done self.old.machine awaits)) step self.new) }
+        ensures { IfOk result (λ step. Moves self.old (silent (faulted self.old.machine code.0)) step self.new) }
     {
-        match awaits {
-            Awaits::Nothing => Ok(self.finish()),
-            Awaits::NotPresent => self.push_text(b"RESULT_NOT_PRESENT"),
+        let item = error_item(self.alloc, code.0)?;
+        let word = digits_of(self.alloc, code.0)?;
+        let instruction = self.next as u64;
+        self.errors.push(ErrorNote { instruction, word })?;
+        self.push(item)
+    }
+
+    // Pushes a value, or the fixed text where there is none.
+    fn push_value(&mut self, value: &Option<Bytes>) -> Result<Step, AllocError>
+        requires ready { self.old.is_out_of_memory ≡ false }
+        requires inside { self.old.machine.next < length self.old.machine.instructions }
+        ensures { IfOk result (λ step. Moves self.old (silent (pushes self.old.machine (value_or_text value.now))) step self.new) }
+    {
+        match value {
+            Some(value) => self.push_text(value.as_slice()),
+            None => self.push_text(b"RESULT_NOT_PRESENT"),
         }
     }
 
@@ -238,14 +280,15 @@ impl Machine {
         requires ready { self.old.is_out_of_memory ≡ false }
         requires inside { self.old.machine.next < length self.old.machine.instructions }
         requires element { PushesAnElement instruction }
-        ensures { IfOk result (λ step. Moves self.old (acted self.old.machine (act_of self.old.machine.next self.old.machine.prefix self.old.machine.stack instruction)) step self.new) }
+        ensures { IfOk result (λ step. Moves self.old (acted self.old.machine (act_of self.old.machine.next self.old.machine.name self.old.machine.stack instruction)) step self.new) }
     {
         match instruction {
             None => Ok(self.stop(End::BadInstruction(self.next as u64))),
             Some(Instruction::Push(element)) => self.push(element),
             Some(Instruction::OnStack(operation)) => self.operate(operation),
-            Some(Instruction::Set) => self.set(),
-            Some(Instruction::Commit) => self.ask(TxnCall::Commit, Awaits::NotPresent),
+            Some(Instruction::UseTransaction) => self.use_transaction(),
+            Some(Instruction::OnTransaction(operation)) => self.on_transaction(operation),
+            Some(Instruction::OnDatabase(operation, scope)) => self.on_database(operation, scope),
         }
     }
 
@@ -275,16 +318,67 @@ impl Machine {
         }
     }
 
-    // SET pops a key, and then a value.
-    fn set(&mut self) -> Result<Step, AllocError>
+    // USE_TRANSACTION pops the name.
+    fn use_transaction(&mut self) -> Result<Step, AllocError>
         requires ready { self.old.is_out_of_memory ≡ false }
         requires inside { self.old.machine.next < length self.old.machine.instructions }
-        ensures { IfOk result (λ step. Moves self.old (acted self.old.machine (sets self.old.machine.next self.old.machine.prefix (set_operands self.old.machine.stack))) step self.new) }
+        ensures { IfOk result (λ step. Moves self.old (acted self.old.machine (uses self.old.machine.next (bytes_operand self.old.machine.stack))) step self.new) }
     {
-        match pop_key_and_value(&mut self.stack) {
-            Ok((key, value)) => self.ask(TxnCall::Set { key, value }, Awaits::Nothing),
+        match self.stack.pop_bytes() {
+            Ok(name) => {
+                self.name = name;
+                Ok(self.finish())
+            }
             Err(fault) => Ok(self.refuse(fault)),
         }
+    }
+
+    // An operation on the current transaction.
+    fn on_transaction(&mut self, operation: TransactionOperation) -> Result<Step, AllocError>
+        requires ready { self.old.is_out_of_memory ≡ false }
+        requires inside { self.old.machine.next < length self.old.machine.instructions }
+        ensures { IfOk result (λ step. Moves self.old (acted self.old.machine
+            (asks self.old.machine.next (awaits_of operation) (request_of operation self.old.machine.name self.old.machine.stack))) step self.new) }
+    {
+        let name = self.name.copy()?;
+        match pop_request(&mut self.stack, operation, name) {
+            Ok(request) => Ok(self.ask(request, awaits_of(operation))),
+            Err(StackFault::NoMemory) => Err(AllocError),
+            Err(fault) => Ok(self.refuse(fault)),
+        }
+    }
+
+    // A call of two forms.
+    fn on_database(
+        &mut self,
+        operation: DatabaseOperation,
+        scope: Scope,
+    ) -> Result<Step, AllocError>
+        requires ready { self.old.is_out_of_memory ≡ false }
+        requires inside { self.old.machine.next < length self.old.machine.instructions }
+        ensures { IfOk result (λ step. Moves self.old (acted self.old.machine
+            (asks self.old.machine.next (awaits_in operation scope) (requested scope self.old.machine.name (call_of operation self.old.machine.stack)))) step self.new) }
+    {
+        match pop_call(&mut self.stack, self.alloc, operation) {
+            Ok(call) => self.ask_in(scope, call, awaits_in(operation, scope)),
+            Err(StackFault::NoMemory) => Err(AllocError),
+            Err(fault) => Ok(self.refuse(fault)),
+        }
+    }
+
+    fn ask_in(&mut self, scope: Scope, call: TxnCall, awaits: Awaits) -> Result<Step, AllocError>
+        requires ready { self.old.is_out_of_memory ≡ false }
+        requires inside { self.old.machine.next < length self.old.machine.instructions }
+        ensures { IfOk result (λ step. Moves self.old (asking self.old.machine self.old.machine.stack (request_in scope self.old.machine.name call) awaits) step self.new) }
+    {
+        let request = match scope {
+            Scope::Transaction => Request::On {
+                name: self.name.copy()?,
+                call,
+            },
+            Scope::Database => Request::Database { call },
+        };
+        Ok(self.ask(request, awaits))
     }
 
     fn refuse(&mut self, fault: StackFault) -> Step
@@ -321,21 +415,12 @@ impl Machine {
         Step::Again
     }
 
-    fn ask(&mut self, call: TxnCall, awaits: Awaits) -> Result<Step, AllocError>
+    fn ask(&mut self, request: Request, awaits: Awaits) -> Step
         requires ready { self.old.is_out_of_memory ≡ false }
         requires inside { self.old.machine.next < length self.old.machine.instructions }
-        ensures { IfOk result (λ step. Moves self.old (asking self.old.machine self.old.machine.stack (Request.On self.old.machine.prefix call) awaits) step self.new) }
+        ensures { Moves self.old (asking self.old.machine self.old.machine.stack request awaits) result self.new }
     {
-        let name = self.prefix.copy()?;
         self.state = State::Awaiting(awaits);
-        Ok(Step::Ask(Request::On { name, call }))
+        Step::Ask(request)
     }
-}
-
-fn pop_key_and_value(stack: &mut Stack) -> Result<(Bytes, Bytes), StackFault>
-    ensures { Pops (λ operands. operands) result (set_operands stack.old) stack.new }
-{
-    let key = stack.pop_bytes()?;
-    let value = stack.pop_bytes()?;
-    Ok((key, value))
 }

@@ -18,7 +18,7 @@ fn machine_with(alloc: Global, name: &str) -> Result<Machine, AllocError>
         value: pack_element(alloc, &Elem::Text(Text::from_str(alloc, name)?))?,
     })?;
     let prefix = Bytes::from_slice(alloc, b"p")?;
-    Ok(Machine::new(alloc, 0, prefix, instructions))
+    Machine::new(alloc, 0, prefix, instructions)
 }
 
 #[test]
@@ -27,6 +27,7 @@ fn an_unknown_name_stops(rt: HostRuntime) -> Result<(), Fail> {
     assert_eq!(rt; machine.number(), 0);
     assert_eq!(rt; machine.prefix().as_slice(), b"p".as_slice());
     assert_eq!(rt; machine.instruction_count(), 1);
+    assert_eq!(rt; machine.errors().len(), 0);
     let step = machine.step(None)?;
     assert!(rt; matches!(step, Step::Stopped(End::BadInstruction(0))));
     assert_eq!(rt; machine.state(), State::Stopped(End::BadInstruction(0)));

@@ -1,5 +1,5 @@
 -- A machine that has stopped ends the run: what is rendered is its dump and its status.
-use Rattle.std.proofs.Common.{◌≡◌, ℕ, Bool, true, false, ◌&&◌, cond, subst, List, [], ◌∷◌, ◌++◌, Some, refl, sym, ap, ◌∙◌}
+use Rattle.std.proofs.Common.{◌≡◌, ℕ, Bool, true, false, ◌&&◌, cond, subst, List, [], ◌∷◌, ◌++◌, Some, refl, sym, ap, ◌∙◌, arith}
 use Rattle.std.specs.Prelude.{IsTrue}
 use Rattle.std.specs.List.{flat_map}
 use Rattle.std.proofs.lemmas.List.{append-nil}
@@ -7,28 +7,37 @@ use Rattle.std.proofs.lemmas.List.Concat.{flat_map-cons}
 use Rattle.client_core.specs.Stands.{Kept, StandsFor}
 use Rattle.machine_rules.specs.declared.State.{State}
 use Rattle.machine_rules.specs.declared.State.TheVariants as state
-use Rattle.database_rules.specs.Databases.{Database}
+use Rattle.std.specs.FinMap as finite
+use Rattle.version_store.specs.Versions.{at, last_of}
+use Rattle.database_rules.specs.Databases.{Database, last}
 use Rattle.machine_rules.specs.Worlds.{World, begun}
 use Rattle.machine_rules.specs.Machines.{Machine, Progress, silent}
-use Rattle.machine_rules.specs.Runs.{started, instructions_in, newest, run_from, is_running, has_stopped, has_ended, status_of, end_line, stack_lines, dump}
-use Rattle.machine_rules.specs.Laws.{standing_still}
+use Rattle.machine_rules.specs.Runs.{started, instructions_in, newest, run_from, is_running, has_stopped, has_ended, status_of, end_line, stack_lines, error_lines, dump}
+use Rattle.machine_rules.specs.Laws.{at_rest_still}
 use Rattle.line_rules.specs.Printing.{order_line}
 use Rattle.tester_run.specs.Driving.{Leads, run_of}
-use Rattle.tester_run.specs.Dumps.{database_lines, machine_dump}
+use Rattle.tester_run.specs.Dumps.{pair_lines, machine_dump}
 use Rattle.tester_run.specs.Rendered.{Renders}
 use Rattle.tester_run.specs.declared.running.Rendered.{Rendered}
 
+-- the map at the last version that a core keeps
+abbrev pub kept_map : Kept → Database
+kept_map core = at core.store (last_of core.store)
+
+pub kept_newest : (core : Kept) (world : World) → StandsFor core world → kept_map core ≡ newest world
+kept_newest core world stands = ap (at core.store) stands.keeps.last_is ∙ stands.keeps.at_is (last world.history) (omega arith)
+
 -- machine 0 as it is started
 abbrev pub first_machine : Database → List ℕ → Machine
-first_machine database prefix = record { number = 0; prefix = prefix; instructions = instructions_in database prefix; next = 0; stack = []; state = state.Running }
+first_machine database prefix = record { number = 0; prefix = prefix; instructions = instructions_in database prefix; next = 0; name = prefix; stack = []; errors = []; state = state.Running }
 
 -- before any request the empty order leads to the start
-pub begins : (pairs : List (List ℕ × List ℕ)) (prefix : List ℕ) (core : Kept) (machine : Machine) → StandsFor core (begun pairs) → machine ≡ first_machine core.database prefix → Leads pairs prefix core machine []
+pub begins : (pairs : List (List ℕ × List ℕ)) (prefix : List ℕ) (core : Kept) (machine : Machine) → StandsFor core (begun pairs) → machine ≡ first_machine (kept_map core) prefix → Leads pairs prefix core machine []
 unfolding run_from started
 begins pairs prefix core machine stands is = record {
   world = begun pairs;
   stands = stands;
-  runs = ap (λ (m : Machine). Some (run_of (begun pairs) m)) (sym (is ∙ ap (λ (d : Database). first_machine d prefix) stands.database));
+  runs = ap (λ (m : Machine). Some (run_of (begun pairs) m)) (sym (is ∙ ap (λ (d : Database). first_machine d prefix) (kept_newest core (begun pairs) stands)));
 }
 
 stopped_rests : (state : State) → has_stopped state ≡ true → is_running state ≡ false
@@ -39,13 +48,15 @@ stopped_rests (state.Stopped end) e = refl
 alone : {X : Type 0} (f : X → List ℕ) (x : X) → flat_map f (x ∷ []) ≡ f x
 alone f x = flat_map-cons f x [] ∙ append-nil (f x)
 
-dump_alone : (order : List ℕ) (world : World) (machine : Machine) → dump order (record { world = world; machines = silent machine ∷ [] }) ≡ machine_dump machine order (newest world)
+dump_alone : (order : List ℕ) (world : World) (machine : Machine) → dump order (record { world = world; machines = silent machine ∷ [] }) ≡ machine_dump machine order (finite.entries (newest world))
 unfolding dump machine_dump
 dump_alone order world machine =
-    ap (λ (ends : List ℕ). ends ++ flat_map (λ (p : Progress). stack_lines p.machine) (silent machine ∷ []) ++ flat_map order_line order ++ database_lines (newest world))
+    ap (λ (ends : List ℕ). ends ++ flat_map (λ (p : Progress). stack_lines p.machine) (silent machine ∷ []) ++ flat_map (λ (p : Progress). error_lines p.machine) (silent machine ∷ []) ++ flat_map order_line order ++ pair_lines (finite.entries (newest world)))
     (alone (λ (p : Progress). end_line p.machine p.machine.state) (silent machine))
-    ∙ ap (λ (stacks : List ℕ). end_line machine machine.state ++ stacks ++ flat_map order_line order ++ database_lines (newest world))
+    ∙ ap (λ (stacks : List ℕ). end_line machine machine.state ++ stacks ++ flat_map (λ (p : Progress). error_lines p.machine) (silent machine ∷ []) ++ flat_map order_line order ++ pair_lines (finite.entries (newest world)))
     (alone (λ (p : Progress). stack_lines p.machine) (silent machine))
+    ∙ ap (λ (errors : List ℕ). end_line machine machine.state ++ stack_lines machine ++ errors ++ flat_map order_line order ++ pair_lines (finite.entries (newest world)))
+    (alone (λ (p : Progress). error_lines p.machine) (silent machine))
 
 and_true : (b : Bool) → (b && true) ≡ b
 and_true true = refl
@@ -56,13 +67,13 @@ status_alone world machine = ap (λ b. cond b 0 3) (and_true (has_ended machine.
 
 -- where the order leads to a machine that has stopped, what was rendered is what the run leaves
 pub finishes : (pairs : List (List ℕ × List ℕ)) (prefix : List ℕ) (core : Kept) (machine : Machine) (rendered : Rendered) → Leads pairs prefix core machine rendered.order → has_stopped machine.state ≡ true
-    → rendered.dump ≡ machine_dump machine rendered.order core.database → rendered.status ≡ cond (has_ended machine.state) 0 3 → Renders pairs prefix rendered
+    → rendered.dump ≡ machine_dump machine rendered.order (finite.entries (kept_map core)) → rendered.status ≡ cond (has_ended machine.state) 0 3 → Renders pairs prefix rendered
 finishes pairs prefix core machine rendered leads stopped dump_is status_is = record {
   run = record { world = leads.world; machines = silent machine ∷ [] };
   runs = record {
-    runs = leads.runs ∙ ap (λ (p : Progress). Some (record { world = leads.world; machines = p ∷ [] })) (standing_still leads.world machine (stopped_rests machine.state stopped));
+    runs = leads.runs ∙ ap (λ (p : Progress). Some (record { world = leads.world; machines = p ∷ [] })) (at_rest_still machine (stopped_rests machine.state stopped));
     complete = subst (λ b. IsTrue (b && true)) (sym stopped) refl;
   };
-  dump_is = dump_is ∙ ap (machine_dump machine rendered.order) leads.stands.database ∙ sym (dump_alone rendered.order leads.world machine);
+  dump_is = dump_is ∙ ap (λ (d : Database). machine_dump machine rendered.order (finite.entries d)) (kept_newest core leads.world leads.stands) ∙ sym (dump_alone rendered.order leads.world machine);
   status_is = status_is ∙ sym (status_alone leads.world machine);
 }

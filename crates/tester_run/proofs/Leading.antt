@@ -1,11 +1,10 @@
 -- Each step of the machine leads to the same run, and each request taken leads one place further.
 use Rattle.std.proofs.Common.{◌≡◌, ◌≢◌, ℕ, ◌+◌, ◌-◌, ◌<◌, Bool, true, false, cond, List, [], ◌∷◌, length, Option, Some, None, refl, sym, ap, subst, ◌∙◌, arith}
 use Rattle.std.specs.Prelude.{option_and_then, option_map}
-use Rattle.fdb_calls.specs.declared.Code.{Code}
 use Rattle.fdb_calls.specs.declared.Request.{Request}
 use Rattle.fdb_calls.specs.declared.Reply.{Reply}
 use Rattle.fdb_calls.specs.declared.Reply.TheVariants as reply
-use Rattle.client_core.specs.Stands.{Kept, StandsFor, Answers, number_of}
+use Rattle.client_core.specs.Stands.{Kept, StandsFor, Answers}
 use Rattle.stack_machine.specs.Held.{Held}
 use Rattle.stack_machine.specs.Steps.{answer_in, answer_by, answer_of, Moves}
 use Rattle.stack_machine.specs.declared.machine.Step.{Step}
@@ -13,10 +12,10 @@ use Rattle.stack_machine.specs.declared.machine.Step.TheVariants as step
 use Rattle.machine_rules.specs.declared.End.{End}
 use Rattle.machine_rules.specs.declared.State.{State}
 use Rattle.machine_rules.specs.declared.State.TheVariants as state
-use Rattle.machine_rules.specs.Worlds.{World, Stepped, step as world_step, refusal}
+use Rattle.machine_rules.specs.Worlds.{World, Stepped, step as world_step}
 use Rattle.machine_rules.specs.Machines.{Machine, Progress, silent, advance, resumed}
-use Rattle.machine_rules.specs.Runs.{Run, start, standing, take_place, replied, run_from, is_running, has_stopped}
-use Rattle.machine_rules.specs.Laws.{is_awaiting, advance_finishes, advance_asks, advance_quiet, advance_still, advance_asks_inside, resumed_goes, resumed_same, standing_again, standing_stops, standing_asks, standing_refused, run_from-append}
+use Rattle.machine_rules.specs.Runs.{Run, start, at_rest, take_place, replied, run_from, is_running, has_stopped}
+use Rattle.machine_rules.specs.Laws.{is_awaiting, advance_finishes, advance_asks, advance_quiet, advance_still, advance_asks_inside, resumed_goes, at_rest_again, at_rest_stops, at_rest_asks, run_from-append}
 use Rattle.tester_run.specs.Driving.{run_of, Leads, GoesOn, GoesOnFromAsking, IsNearerThanAsking, ComesToAsk, Takes, work_left}
 
 -- ---- what an answer of a step says
@@ -50,18 +49,18 @@ stopped_state None (state.Stopped its_end) end e = (refl, refl, refl)
 -- ---- leading
 
 same_stand : (pairs : List (List ℕ × List ℕ)) (prefix : List ℕ) (core : Kept) (machine after : Machine) (order : List ℕ)
-    → ((world : World) → standing world machine ≡ standing world after) → Leads pairs prefix core machine order → Leads pairs prefix core after order
+    → at_rest machine ≡ at_rest after → Leads pairs prefix core machine order → Leads pairs prefix core after order
 same_stand pairs prefix core machine after order same leads = record {
   world = leads.world;
   stands = leads.stands;
-  runs = leads.runs ∙ ap (λ (p : Progress). Some (record { world = leads.world; machines = p ∷ [] })) (same leads.world);
+  runs = leads.runs ∙ ap (λ (p : Progress). Some (record { world = leads.world; machines = p ∷ [] })) same;
 }
 
 -- ---- a step with no reply
 
 -- what a step without a reply leaves, where it asks nothing
 pub record Quiet (before after : Machine) : Type 0 where
-  pub same : (world : World) → standing world before ≡ standing world after
+  pub same : at_rest before ≡ at_rest after
   pub silent_after : is_awaiting after.state ≡ false
 
 still_step : (old new : Held) (answer : Step) → Moves old (advance old.machine) answer new → is_running old.machine.state ≡ false → (answer ≡ answer_in old.machine.state) × (new.machine ≡ old.machine)
@@ -112,7 +111,7 @@ turn_again old new answer moves silent_before e =
     let runs = again_state (advance old.machine).asks (advance old.machine).machine.state told quiet in
     let finishes = advance_finishes old.machine was runs in (
       record {
-        same = λ world. standing_again world old.machine was runs ∙ ap (standing world) (sym moves.machine);
+        same = at_rest_again old.machine was runs ∙ ap at_rest (sym moves.machine);
         silent_after = ap (λ (m : Machine). is_awaiting m.state) moves.machine ∙ quiet;
       },
       less_left old.machine new.machine was (ap (λ (m : Machine). m.instructions) moves.machine ∙ finishes.instructions)
@@ -128,13 +127,13 @@ turn_stopped old new answer end moves silent_before e = by (is_running old.machi
         let asks = stopped_is (advance old.machine).asks (advance old.machine).machine.state end told in
         let states = stopped_state (advance old.machine).asks (advance old.machine).machine.state end told in
         record {
-          same = λ world. standing_stops world old.machine was states.1 asks ∙ ap (standing world) (sym moves.machine);
+          same = at_rest_stops old.machine was states.1 asks ∙ ap at_rest (sym moves.machine);
           silent_after = ap (λ (m : Machine). is_awaiting m.state) moves.machine ∙ states.2;
         }
     by false still =
         let told = still_step old new answer moves still in
         record {
-          same = λ world. ap (standing world) (sym told.1);
+          same = ap at_rest (sym told.1);
           silent_after = ap (λ (m : Machine). is_awaiting m.state) told.1 ∙ silent_before;
         }
 
@@ -151,21 +150,9 @@ quiet_goes_on core before after order quiet pairs prefix leads = same_stand pair
 
 -- ---- a reply
 
--- a refusal takes no place of the order
-pub refused_goes_on : (core : Kept) (asking after : Machine) (order : List ℕ) (request : Request) (code : Code)
-    → ((world : World) → StandsFor core world → Some (number_of code) ≡ refusal world request) → after ≡ resumed asking (reply.Fault code) → GoesOnFromAsking core asking order request core after order
-refused_goes_on core asking after order request code refused is before comes pairs prefix leads =
-    let same : standing leads.world before ≡ standing leads.world after =
-    standing_refused leads.world before request (number_of code) comes.was_running comes.asks (sym (refused leads.world leads.stands))
-    ∙ ap (λ (m : Machine). standing leads.world (resumed m (reply.Fault code))) (sym comes.machine) ∙ ap (standing leads.world) (sym is) in
-    record {
-      world = leads.world;
-      stands = leads.stands;
-      runs = leads.runs ∙ ap (λ (p : Progress). Some (record { world = leads.world; machines = p ∷ [] })) same;
-    }
-
 stands_after : (given : Reply) (core : Kept) (stepped : Stepped) → given ≢ reply.NoMemory → Answers given core stepped → (stepped.reply ≡ given) × StandsFor core stepped.world
 stands_after reply.Done core stepped is answers = answers
+stands_after (reply.Value value) core stepped is answers = answers
 stands_after (reply.Fault code) core stepped is answers = answers
 stands_after reply.NoMemory core stepped is answers = absurd (is refl)
 
@@ -185,12 +172,12 @@ one_more run = by (take_place 0 run)
 
 -- a request that is taken is one more place of the order
 pub taken_goes_on : (core core_after : Kept) (asking after : Machine) (order order_after : List ℕ) (request : Request)
-    → ((world : World) → StandsFor core world → None ≡ refusal world request) → Takes core asking order request core_after after order_after
+    → Takes core asking order request core_after after order_after
     → GoesOnFromAsking core asking order request core_after after order_after
-taken_goes_on core core_after asking after order order_after request refused takes before comes pairs prefix leads =
+taken_goes_on core core_after asking after order order_after request takes before comes pairs prefix leads =
     let progress : Progress = record { machine = (advance before).machine; asks = Some request } in
     let run : Run = record { world = leads.world; machines = progress ∷ [] } in
-    let asked : standing leads.world before ≡ progress = standing_asks leads.world before request comes.was_running comes.asks (sym (refused leads.world leads.stands)) in
+    let asked : at_rest before ≡ progress = at_rest_asks before request comes.was_running comes.asks in
     let stepped = world_step leads.world request in
     let answered = stands_after takes.given core_after stepped takes.is_given (takes.answers leads.world leads.stands) in
     let machine_is : resumed (advance before).machine stepped.reply ≡ after =
@@ -214,9 +201,9 @@ replied_nearer asking after request given is before comes =
     let awaits : is_awaiting asking.state ≡ true = ap (λ (m : Machine). is_awaiting m.state) comes.machine ∙ advance_asks before request comes.asks in
     let goes = resumed_goes asking given awaits in
     less_left before after comes.was_running
-    (ap (λ (m : Machine). m.instructions) is ∙ resumed_same asking given ∙ ap (λ (m : Machine). m.instructions) comes.machine ∙ inside.instructions)
-    (λ h. ap (λ (m : Machine). m.next) is ∙ goes.1 (sym (ap (λ (m : Machine). is_running m.state) is) ∙ h) ∙ ap (λ (m : Machine). m.next + 1) comes.machine ∙ ap (λ n. n + 1) inside.next)
+    (ap (λ (m : Machine). m.instructions) is ∙ goes.instructions ∙ ap (λ (m : Machine). m.instructions) comes.machine ∙ inside.instructions)
+    (λ h. ap (λ (m : Machine). m.next) is ∙ goes.next ∙ ap (λ (m : Machine). m.next + 1) comes.machine ∙ ap (λ n. n + 1) inside.next)
     inside.inside
 
 pub replied_silent : (asking after : Machine) (given : Reply) → is_awaiting asking.state ≡ true → after ≡ resumed asking given → is_awaiting after.state ≡ false
-replied_silent asking after given awaits is = ap (λ (m : Machine). is_awaiting m.state) is ∙ (resumed_goes asking given awaits).0
+replied_silent asking after given awaits is = ap (λ (m : Machine). is_awaiting m.state) is ∙ ap is_awaiting (resumed_goes asking given awaits).state

@@ -6,11 +6,11 @@ use Rattle.fdb_calls.specs.declared.Reply.TheVariants as reply
 use Rattle.client_core.specs.Stands.{Kept, StandsFor, Answers}
 use Rattle.machine_rules.specs.Worlds.{World, step}
 use Rattle.machine_rules.specs.Machines.{Machine, advance, resumed}
-use Rattle.machine_rules.specs.Runs.{Run, start, standing, run_from, is_running}
+use Rattle.machine_rules.specs.Runs.{Run, start, at_rest, run_from, is_running}
 
 -- the run of a world and one machine
 abbrev pub run_of : World → Machine → Run
-run_of world machine = record { world = world; machines = standing world machine ∷ [] }
+run_of world machine = record { world = world; machines = at_rest machine ∷ [] }
 
 -- The order so far leads from the start to a run: the core stands for its world, and its one machine is this one come to rest.
 pub record Leads (pairs : List (List ℕ × List ℕ)) (prefix : List ℕ) (core : Kept) (machine : Machine) (order : List ℕ) : Type 0 where

@@ -24,8 +24,8 @@ enum Motion {
     Stopped,
 }
 
-/// Runs a machine until it has stopped. Each request that it asks and that isn't refused is taken, and is one
-/// more place of the order. It is refused for want of memory alone, and nothing is said of the three then.
+/// Runs a machine until it has stopped. Each request that it asks is taken, and is one more place of the
+/// order. It is refused for want of memory alone, and nothing is said of the three then.
 pub fn drive(core: &mut Core, machine: &mut Machine, order: &mut Order) -> Result<(), AllocError>
     requires ready { machine.old.is_out_of_memory ≡ false }
     requires silent { is_awaiting machine.old.machine.state ≡ false }
@@ -62,7 +62,7 @@ fn turn(core: &mut Core, machine: &mut Machine, order: &mut Order) -> Result<Mot
     }
 }
 
-// Gives the machine the reply to what it asks: its refusal, or the reply of the core that takes it.
+// Gives the machine the reply to what it asks.
 fn answer(
     core: &mut Core,
     machine: &mut Machine,
@@ -78,10 +78,7 @@ fn answer(
     ensures counted { OnOk result (core.new.applied ≡ length order.new) }
     ensures nearer { OnOk result (IsNearerThanAsking machine.old.machine request.now machine.new.machine) }
 {
-    match core.refusal(request) {
-        Some(code) => hand(machine, &Reply::Fault(code)),
-        None => take(core, machine, order, request),
-    }
+    take(core, machine, order, request)
 }
 
 // Has the core take the request that the machine asks: one more place of the order.
@@ -114,7 +111,7 @@ fn hand(machine: &mut Machine, reply: &Reply) -> Result<(), AllocError>
 {
     match reply {
         Reply::NoMemory => Err(AllocError),
-        Reply::Done | Reply::Fault(_) => use_reply(machine, reply),
+        Reply::Done | Reply::Value(_) | Reply::Fault(_) => use_reply(machine, reply),
     }
 }
 

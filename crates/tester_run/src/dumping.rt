@@ -3,33 +3,34 @@
 ghost use Rattle.std.specs.Prelude.{◌≡◌, ℕ, ◌++◌, length, IfOk, OnOk};
 ghost use Rattle.std.specs.List.{flat_map};
 ghost use Rattle.line_rules.specs.Printing.{order_line};
-ghost use Rattle.machine_rules.specs.Runs.{end_line, stack_lines};
-ghost use Rattle.tester_run.specs.Dumps.{database_lines, machine_dump};
+ghost use Rattle.machine_rules.specs.Runs.{end_line, stack_lines, error_lines};
+ghost use Rattle.tester_run.specs.Dumps.{pair_lines, machine_dump};
 
 use dump_text::{
-    EndWord, Order, write_item_line, write_machine_line, write_order_line, write_pair_line,
+    EndWord, Order, write_error_line, write_item_line, write_machine_line, write_order_line,
+    write_pair_line,
 };
 use fdb_tuple::pack_element;
-use key_bytes::Bytes;
-use key_map::KeyMap;
+use key_bytes::{Bytes, Pairs};
 use stack_machine::{End, Machine, State};
 use std::alloc::{AllocError, Global};
 
-/// The dump of a machine that has stopped, of the order, and of the map at the last version.
+/// The dump of a machine that has stopped, of the order, and of the pairs of the map at the last version.
 #[tactic(auto, unfolding(crate::specs::Dumps::machine_dump))]
 pub fn render(
     alloc: Global,
     machine: &Machine,
     order: &Order,
-    database: &KeyMap<Bytes>,
+    pairs: &Pairs,
 ) -> Result<Bytes, AllocError>
-    ensures { IfOk result (λ dump. dump ≡ machine_dump machine.now.machine order.now database.now) }
+    ensures { IfOk result (λ dump. dump ≡ machine_dump machine.now.machine order.now pairs.now) }
 {
     let mut dump = Bytes::new(alloc);
     add_end_line(&mut dump, machine)?;
     add_stack_lines(alloc, &mut dump, machine)?;
+    add_error_lines(&mut dump, machine)?;
     add_order_lines(&mut dump, order)?;
-    add_database_lines(&mut dump, database)?;
+    add_pair_lines(&mut dump, pairs)?;
     Ok(dump)
 }
 
@@ -79,6 +80,16 @@ fn add_stack_lines(alloc: Global, to: &mut Bytes, machine: &Machine) -> Result<(
     Ok(())
 }
 
+fn add_error_lines(to: &mut Bytes, machine: &Machine) -> Result<(), AllocError>
+    ensures { OnOk result (to.new ≡ to.old ++ error_lines machine.now.machine) }
+{
+    let number = machine.number();
+    for note in machine.errors().as_slice() {
+        write_error_line(to, number, note.instruction, note.word.as_slice())?;
+    }
+    Ok(())
+}
+
 fn add_order_lines(to: &mut Bytes, order: &Order) -> Result<(), AllocError>
     ensures { OnOk result (to.new ≡ to.old ++ flat_map order_line order.now) }
 {
@@ -88,11 +99,11 @@ fn add_order_lines(to: &mut Bytes, order: &Order) -> Result<(), AllocError>
     Ok(())
 }
 
-fn add_database_lines(to: &mut Bytes, database: &KeyMap<Bytes>) -> Result<(), AllocError>
-    ensures { OnOk result (to.new ≡ to.old ++ database_lines database.now) }
+fn add_pair_lines(to: &mut Bytes, pairs: &Pairs) -> Result<(), AllocError>
+    ensures { OnOk result (to.new ≡ to.old ++ pair_lines pairs.now) }
 {
-    for (key, value) in database.entries() {
-        write_pair_line(to, key.as_slice(), value.as_slice())?;
+    for pair in pairs.as_slice() {
+        write_pair_line(to, pair.key.as_slice(), pair.value.as_slice())?;
     }
     Ok(())
 }

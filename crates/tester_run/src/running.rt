@@ -3,6 +3,7 @@
 ghost use Rattle.std.specs.Prelude.{◌≡◌, [], ◌∷◌, ◌++◌, false, if◌then◌else◌, IfOk};
 ghost use Rattle.machine_rules.specs.declared.State.TheVariants.{Running};
 ghost use Rattle.machine_rules.specs.Runs.{has_ended, instructions_in, packed_prefix};
+ghost use Rattle.version_store.specs.Versions.{at, last_of};
 ghost use Rattle.tester_run.specs.Rendered.{Renders};
 
 use crate::driving::drive;
@@ -36,7 +37,8 @@ pub fn run(alloc: Global, prefix: &[u8], pairs: Pairs) -> Result<Rendered, Alloc
     let mut machine = start(alloc, &core, prefix)?;
     let mut order = Order::new(alloc);
     drive(&mut core, &mut machine, &mut order)?;
-    let dump = render(alloc, &machine, &order, core.database())?;
+    let pairs = core.dump_pairs()?;
+    let dump = render(alloc, &machine, &order, &pairs)?;
     let status = status_of(&machine);
     Ok(Rendered {
         dump,
@@ -50,18 +52,20 @@ fn start(alloc: Global, core: &Core, prefix: &[u8]) -> Result<Machine, AllocErro
     ensures machine { IfOk result (λ machine. machine.machine ≡ record {
       number = 0;
       prefix = prefix.now;
-      instructions = instructions_in core.now.database prefix.now;
+      instructions = instructions_in (at core.now.store (last_of core.now.store)) prefix.now;
       next = 0;
+      name = prefix.now;
       stack = [];
+      errors = [];
       state = Running;
     }) }
     ensures ready { IfOk result (λ machine. machine.is_out_of_memory ≡ false) }
 {
     let begin = range_end(alloc, prefix, 0)?;
     let end = range_end(alloc, prefix, 0xff)?;
-    let instructions = core.database().pairs_between(&begin, &end)?;
+    let instructions = core.pairs_between(&begin, &end)?;
     let prefix = Bytes::from_slice(alloc, prefix)?;
-    Ok(Machine::new(alloc, 0, prefix, instructions))
+    Machine::new(alloc, 0, prefix, instructions)
 }
 
 // An end of the range of the tuples that begin with a prefix: the packed prefix, and one byte more.

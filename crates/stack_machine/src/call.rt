@@ -1,0 +1,171 @@
+//! Requests by what an instruction pops.
+
+ghost use Rattle.std.specs.Prelude.{◌≡◌, false, IfOk};
+ghost use Rattle.std.specs.Option.{option_map_or};
+ghost use Rattle.database_rules.specs.Atomics.{is_versionstamped};
+ghost use Rattle.machine_rules.specs.Operands.{operand_by};
+ghost use Rattle.machine_rules.specs.Calls.{get_call, set_call, clear_call, clear_range_call, clear_range_starts_with_call, atomic_name, atomic_call, call_of, prefix_end, request_of, awaits_in, awaits_of};
+ghost use Rattle.stack_items.specs.Pops.{Pops, PopsUnlessFull};
+
+use atomic_ops::{AtomicOp, from_name};
+use fdb_calls::{Code, Request, TxnCall};
+use key_bytes::{Bytes, Key, KeyRange};
+use machine_rules::{Awaits, DatabaseOperation, Scope, TransactionOperation};
+use stack_items::{Stack, StackFault};
+use std::alloc::{AllocError, Global};
+
+/// The call that an operation makes, by what it pops.
+pub fn pop_call(
+    stack: &mut Stack,
+    alloc: Global,
+    operation: DatabaseOperation,
+) -> Result<TxnCall, StackFault>
+    ensures { PopsUnlessFull (λ call. call) result (call_of operation stack.old) stack.new }
+{
+    match operation {
+        DatabaseOperation::Get => pop_get(stack),
+        DatabaseOperation::Set => pop_set(stack),
+        DatabaseOperation::Clear => pop_clear(stack),
+        DatabaseOperation::ClearRange => pop_clear_range(stack),
+        DatabaseOperation::ClearRangeStartsWith => pop_clear_range_starts_with(stack, alloc),
+        DatabaseOperation::AtomicOp => pop_atomic(stack),
+    }
+}
+
+fn pop_get(stack: &mut Stack) -> Result<TxnCall, StackFault>
+    ensures { PopsUnlessFull (λ call. call) result (get_call stack.old) stack.new }
+{
+    let key = stack.pop_bytes()?;
+    Ok(TxnCall::Get {
+        key,
+        snapshot: false,
+    })
+}
+
+fn pop_set(stack: &mut Stack) -> Result<TxnCall, StackFault>
+    ensures { PopsUnlessFull (λ call. call) result (set_call stack.old) stack.new }
+{
+    let key = stack.pop_bytes()?;
+    let value = stack.pop_bytes()?;
+    Ok(TxnCall::Set { key, value })
+}
+
+fn pop_clear(stack: &mut Stack) -> Result<TxnCall, StackFault>
+    ensures { PopsUnlessFull (λ call. call) result (clear_call stack.old) stack.new }
+{
+    let key = stack.pop_bytes()?;
+    Ok(TxnCall::Clear { key })
+}
+
+fn pop_clear_range(stack: &mut Stack) -> Result<TxnCall, StackFault>
+    ensures { PopsUnlessFull (λ call. call) result (clear_range_call stack.old) stack.new }
+{
+    let begin = stack.pop_bytes()?;
+    let end = stack.pop_bytes()?;
+    Ok(TxnCall::ClearRange {
+        range: KeyRange { begin, end },
+    })
+}
+
+fn pop_clear_range_starts_with(stack: &mut Stack, alloc: Global) -> Result<TxnCall, StackFault>
+    ensures { PopsUnlessFull (λ call. call) result (clear_range_starts_with_call stack.old) stack.new }
+{
+    let begin = stack.pop_bytes()?;
+    let end = prefix_end(alloc, &begin)?;
+    Ok(TxnCall::ClearRange {
+        range: KeyRange { begin, end },
+    })
+}
+
+// The end of the range of the keys that begin with a prefix: the least key above them, or FF where there is none.
+fn prefix_end(alloc: Global, prefix: &Bytes) -> Result<Key, AllocError>
+    ensures { IfOk result (λ end. end ≡ prefix_end prefix.now) }
+{
+    match prefix.strinc()? {
+        Some(end) => Ok(end),
+        None => Bytes::from_slice(alloc, &[0xFF]),
+    }
+}
+
+fn pop_atomic(stack: &mut Stack) -> Result<TxnCall, StackFault>
+    ensures { PopsUnlessFull (λ call. call) result (atomic_call stack.old) stack.new }
+{
+    let name = pop_atomic_name(stack)?;
+    let key = stack.pop_bytes()?;
+    let operand = stack.pop_bytes()?;
+    Ok(TxnCall::Atomic { name, key, operand })
+}
+
+// Pops the name of an atomic operation; a versionstamped one is refused.
+fn pop_atomic_name(stack: &mut Stack) -> Result<Bytes, StackFault>
+    ensures { Pops (λ name. name) result (operand_by atomic_name stack.old) stack.new }
+{
+    let name = stack.pop_bytes()?;
+    if is_versionstamped(from_name(name.as_slice())) {
+        return Err(StackFault::Operand);
+    }
+    Ok(name)
+}
+
+// Whether an operation fills in a versionstamp.
+fn is_versionstamped(op: Option<AtomicOp>) -> bool
+    ensures { result ≡ option_map_or is_versionstamped op false }
+{
+    matches!(
+        op,
+        Some(AtomicOp::SetVersionstampedKey | AtomicOp::SetVersionstampedValue)
+    )
+}
+
+/// The request that an operation makes on the transaction of a name, by what it pops.
+pub fn pop_request(
+    stack: &mut Stack,
+    operation: TransactionOperation,
+    name: Bytes,
+) -> Result<Request, StackFault>
+    ensures { PopsUnlessFull (λ request. request) result (request_of operation name stack.old) stack.new }
+{
+    match operation {
+        TransactionOperation::NewTransaction => Ok(Request::New { name }),
+        TransactionOperation::OnError => pop_on_error(stack, name),
+        TransactionOperation::Reset => Ok(on(name, TxnCall::Reset)),
+        TransactionOperation::Cancel => Ok(on(name, TxnCall::Cancel)),
+        TransactionOperation::Commit => Ok(on(name, TxnCall::Commit)),
+    }
+}
+
+fn on(name: Bytes, call: TxnCall) -> Request
+    ensures { result ≡ Request.On name call }
+{
+    Request::On { name, call }
+}
+
+fn pop_on_error(stack: &mut Stack, name: Bytes) -> Result<Request, StackFault>
+    ensures { PopsUnlessFull (λ request. request) result (request_of TransactionOperation.OnError name stack.old) stack.new }
+{
+    let code = Code(stack.pop_code()?);
+    Ok(on(name, TxnCall::OnError { code }))
+}
+
+/// What the reply to a call of two forms is used for.
+pub fn awaits_in(operation: DatabaseOperation, scope: Scope) -> Awaits
+    ensures { result ≡ awaits_in operation scope }
+{
+    match (operation, scope) {
+        (DatabaseOperation::Get, _) => Awaits::Value,
+        (_, Scope::Transaction) => Awaits::Nothing,
+        (_, Scope::Database) => Awaits::NotPresent,
+    }
+}
+
+/// What the reply to an operation on the current transaction is used for.
+pub fn awaits_of(operation: TransactionOperation) -> Awaits
+    ensures { result ≡ awaits_of operation }
+{
+    match operation {
+        TransactionOperation::OnError | TransactionOperation::Commit => Awaits::NotPresent,
+        TransactionOperation::NewTransaction
+        | TransactionOperation::Reset
+        | TransactionOperation::Cancel => Awaits::Nothing,
+    }
+}
