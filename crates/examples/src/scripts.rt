@@ -9,7 +9,7 @@ pub struct Script {
 }
 
 /// All of them.
-pub const SCRIPTS: [Script; 15] = [
+pub const SCRIPTS: [Script; 17] = [
     Script {
         input: "first.kv",
         prefix: "p",
@@ -49,13 +49,13 @@ pub const SCRIPTS: [Script; 15] = [
     Script {
         input: "set_after_commit.kv",
         prefix: "p",
-        status: 3,
+        status: 0,
         dump: "set_after_commit.dump",
     },
     Script {
         input: "key_outside.kv",
         prefix: "p",
-        status: 3,
+        status: 0,
         dump: "key_outside.dump",
     },
     Script {
@@ -99,5 +99,17 @@ pub const SCRIPTS: [Script; 15] = [
         prefix: "p",
         status: 3,
         dump: "count_past_the_stack.dump",
+    },
+    Script {
+        input: "named_transactions.kv",
+        prefix: "p",
+        status: 0,
+        dump: "named_transactions.dump",
+    },
+    Script {
+        input: "errors.kv",
+        prefix: "p",
+        status: 0,
+        dump: "errors.dump",
     },
 ];
