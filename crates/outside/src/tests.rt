@@ -1,4 +1,7 @@
+ghost use Rattle.std.specs.Prelude.{◌≡◌, ℕ, ◌+◌, IfOk};
+
 use super::*;
+use std::alloc::{AllocError, Global};
 use std::io;
 use std::io::{ErrorKind, Read, Write};
 use std::test::Fail;
@@ -124,4 +127,43 @@ fn their_errors_and_empty_writes_are_failures(rt: HostRuntime) {
     let mut sink = WriteSink::new(buf.as_mut_slice());
     assert_eq!(rt; sink.write(b"abcdef"), Put::Took(4));
     assert_eq!(rt; sink.write(b"ef"), Put::Failed);
+}
+
+#[test]
+fn a_list_gives_its_words_and_then_zeros(rt: HostRuntime) -> Result<(), Fail> {
+    let mut words = ListWords::new(rt.alloc(), &[7, 0x89ab_cdef, u32::MAX])?;
+    assert_eq!(rt; words.next(), 7);
+    assert_eq!(rt; words.next(), 0x89ab_cdef);
+    assert_eq!(rt; words.next(), u32::MAX);
+    assert_eq!(rt; words.next(), 0);
+    assert_eq!(rt; words.next(), 0);
+    let mut none = ListWords::new(rt.alloc(), &[])?;
+    assert_eq!(rt; none.next(), 0);
+    Ok(())
+}
+
+// The sum of the next two words, whatever gives them.
+fn sum_of_two<W: Words>(words: &mut W) -> u64
+    ensures sum { result ≡ W.words words.old 0 + W.words words.old 1 }
+    ensures rest { (i : ℕ) → W.words words.new i ≡ W.words words.old (i + 2) }
+{
+    let first = words.next();
+    let second = words.next();
+    u64::from(first) + u64::from(second)
+}
+
+// At a list of three words it is proved which words come through the bound: two, and then the third and a 0.
+fn sums_of_three(alloc: Global) -> Result<(u64, u64), AllocError>
+    ensures { IfOk result (λ sums. sums ≡ (12, u32.MAX)) }
+{
+    let mut words = ListWords::new(alloc, &[5, 7, u32::MAX])?;
+    let front = sum_of_two(&mut words);
+    let back = sum_of_two(&mut words);
+    Ok((front, back))
+}
+
+#[test]
+fn words_are_taken_through_the_bound(rt: HostRuntime) -> Result<(), Fail> {
+    assert_eq!(rt; sums_of_three(rt.alloc())?, (12, u64::from(u32::MAX)));
+    Ok(())
 }
