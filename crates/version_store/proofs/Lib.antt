@@ -1,8 +1,10 @@
 pub mod Adds
 pub mod Answered
 pub mod Installed
+pub mod Loads
 pub mod Present
 pub mod Puts
 pub mod Rising
 pub mod Spans
+pub mod Stays
 pub mod Walks

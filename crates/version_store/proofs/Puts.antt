@@ -1,6 +1,5 @@
 -- A node is put before the chain of one key: what becomes of the heads and of the databases.
-use Rattle.std.proofs.Common.{◌≡◌, ◌≢◌, ℕ, zero, suc, ◌+◌, ◌<◌, Bool, true, false, cond, List, ◌∷◌, Option, Some, None, IsSome, slice_index_or, refl, sym, ap, subst, ◌∙◌, arith, lt-ltb, le-ltb}
-use Rattle.std.proofs.lemmas.Option.{none-some}
+use Rattle.std.proofs.Common.{◌≡◌, ◌≢◌, ℕ, suc, ◌+◌, ◌<◌, Bool, true, false, cond, List, ◌∷◌, Option, Some, None, IsSome, slice_index_or, refl, sym, ap, subst, ◌∙◌, arith, lt-ltb, le-ltb}
 use Rattle.std.proofs.lemmas.Map.Lookups.{exact_bytes}
 use Rattle.std.proofs.lemmas.Map.Views.{tells_apart}
 use Rattle.std.specs.BTreeMap.{is_at}
@@ -12,12 +11,12 @@ use Rattle.std.specs.Map.{keys_of}
 use Rattle.std.specs.Option.{IfSome, option_and_then}
 use Rattle.database_rules.specs.Databases.{Database}
 use Rattle.key_bytes.specs.Keys.{key_cmp}
-use Rattle.version_store.specs.declared.chains.Node.{Node}
 use Rattle.version_store.specs.declared.chains.Head.{Head}
 use Rattle.version_store.specs.Changed.{changed_by}
 use Rattle.version_store.specs.Chains.{Slots, before_older, spelled, chain_of, head_of, database_of, IsThere, IsUpTo, IsWhole, IsSoundHead, Sound, KeepsKeys}
 use Rattle.version_store.specs.Versions.{holding}
 use Rattle.version_store.proofs.Spans.{get-database_of}
+use Rattle.version_store.proofs.Stays.{Stays, stays, IsSoundHead-stays}
 
 -- a node came to a vacant place, before the chain of a key, which is then of this node and those before
 pub record Puts (slots slots' : Slots) (old new : List (List ℕ × Head)) (version place : ℕ) (key : List ℕ) (value : Option (List ℕ)) (head : Head) : Type 0 where
@@ -29,24 +28,9 @@ pub record Puts (slots slots' : Slots) (old new : List (List ℕ × Head)) (vers
   pub rising : IsStrictlySortedBy key_cmp (keys_of new)
 
 module _ (slots slots' : Slots) (old new : List (List ℕ × Head)) (version place : ℕ) (key : List ℕ) (value : Option (List ℕ)) (head : Head) (puts : Puts slots slots' old new version place key value head) where
-  abbrev Keeps : ℕ → ℕ → Type 0
-  Keeps n at = IsWhole n slots' at × (spelled n slots' at ≡ spelled n slots at)
-
   -- chains that are there stay, and spell the same
-  keeps : (n at : ℕ) → IsWhole n slots at → Keeps n at
-  unfolding IsWhole spelled
-  keeps zero at whole = (tt, refl)
-  keeps (suc n) at whole = by (slice_index_or slots at None) refl whole (keeps n)
-    where
-      by : (o : Option Node) → slice_index_or slots at None ≡ o → IsThere o (IsWhole n slots) → ((at : ℕ) → IsWhole n slots at → Keeps n at) → Keeps (suc n) at
-      by None is there rest = absurd there
-      by (Some node) is there rest =
-          let apart : at ≢ place = λ same. none-some node (sym puts.vacant ∙ ap (λ p. slice_index_or slots p None) (sym same) ∙ is) in
-          let stays : slice_index_or slots' at None ≡ Some node = puts.others at apart ∙ is in
-          let later = rest node.older there in (
-            subst (λ o. IsThere o (IsWhole n slots')) (sym stays) later.0,
-            ap (λ o. before_older o (spelled n slots')) stays ∙ ap (λ chain. (node.version, node.value) ∷ chain) later.1 ∙ sym (ap (λ o. before_older o (spelled n slots)) is),
-          )
+  keeps : (n at : ℕ) → IsWhole n slots at → Stays slots slots' place puts.vacant puts.others n at
+  keeps = stays slots slots' place puts.vacant puts.others
 
   abbrev placed : Head
   placed = record { newest = place; len = head.len + 1 }
@@ -72,11 +56,7 @@ module _ (slots slots' : Slots) (old new : List (List ℕ × Head)) (version pla
   }
 
   IsSoundHead-kept : (nodes : ℕ) (other : Head) → IsSoundHead slots nodes version other → IsSoundHead slots' (nodes + 1) version other
-  IsSoundHead-kept nodes other sound = record {
-    whole = (keeps other.len other.newest sound.whole).0;
-    short = omega (arith, sound.short);
-    versions = subst (IsUpTo version) (sym (keeps other.len other.newest sound.whole).1) sound.versions;
-  }
+  IsSoundHead-kept nodes = IsSoundHead-stays slots slots' place puts.vacant puts.others nodes version
 
   head_sound : (nodes : ℕ) → Sound slots nodes version old → IsSoundHead slots nodes version head
   head_sound nodes sound = subst (λ o. IfSome o (IsSoundHead slots nodes version)) puts.was (sound.heads_sound key)

@@ -61,7 +61,7 @@ module _ (slots : Slots) where
   pub entries-database_of : (version : ℕ) (heads : List (List ℕ × Head)) → IsStrictlySortedBy key_cmp (keys_of heads) → entries (database_of version slots heads) ≡ present_of version slots heads
   entries-database_of version heads rising = entries-database_at version (chains_of slots heads) (rising_of heads rising)
 
-  held : (version : ℕ) (o : Option Head) → option_and_then (holding version) (option_map (chain_of slots) o) ≡ option_and_then (λ head. holding version (chain_of slots head)) o
+  pub held : (version : ℕ) (o : Option Head) → option_and_then (holding version) (option_map (chain_of slots) o) ≡ option_and_then (λ head. holding version (chain_of slots head)) o
   held version None = refl
   held version (Some head) = refl
 

@@ -1,3 +1,4 @@
 pub mod Changed
 pub mod Versions
 pub mod Chains
+pub mod Loading

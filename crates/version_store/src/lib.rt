@@ -10,6 +10,7 @@
 mod chains;
 mod changes;
 mod fault;
+mod loading;
 mod store;
 
 pub use changes::{Change, Changes};

@@ -7,6 +7,7 @@ ghost use Rattle.std.specs.Map.Iter.{deref_pair};
 ghost use Rattle.std.specs.Option.{option_map};
 ghost use Rattle.key_bytes.specs.Keys.{key_le, key_lt};
 ghost use Rattle.key_map.specs.Ends.{first, last};
+ghost use Rattle.database_rules.specs.Databases.{loaded, do_all};
 ghost use Rattle.version_store.specs.Versions.{at, last_of, oldest_of, IsReadable, IsFaultAt, IsReadyFor};
 ghost use Rattle.version_store.specs.Changed.{changed};
 
@@ -15,6 +16,7 @@ use crate::chains::{
 };
 use crate::changes::Changes;
 use crate::fault::VersionFault;
+use crate::loading::load_heads;
 use key_bytes::{Bytes, Key, Pairs};
 use slab::Slab;
 use std::alloc::{AllocError, Global};
@@ -61,6 +63,26 @@ impl Store {
             nodes: Slab::new(alloc),
             last: 0,
         }
+    }
+
+    /// The store whose first version has these pairs: of two values of one key the later stays. It moves the keys and
+    /// values, and copies none.
+    #[tactic(auto, unfolding(crate::specs::Versions::last_of, crate::specs::Versions::oldest_of, crate::specs::Versions::at))]
+    pub fn load(alloc: Global, pairs: Pairs) -> Result<Store, AllocError>
+        ensures last { IfOk result (λ store. last_of store ≡ 1) }
+        ensures oldest { IfOk result (λ store. oldest_of store ≡ 0) }
+        ensures empty { IfOk result (λ store. at store 0 ≡ finite.empty) }
+        ensures first { IfOk result (λ store. at store 1
+            ≡ do_all (loaded pairs).operations finite.empty) }
+    {
+        let mut nodes = Slab::with_capacity(alloc, pairs.len())?;
+        let tree = load_heads(alloc, &mut nodes, pairs)?;
+        Ok(Store {
+            alloc,
+            tree,
+            nodes,
+            last: 1,
+        })
     }
 
     /// The last version. It takes no memory.

@@ -3,7 +3,7 @@ ghost use Rattle.version_store.specs.Changed.{changed};
 ghost use Rattle.version_store.specs.Versions.{at, last_of};
 
 use super::*;
-use key_bytes::{Bytes, Key};
+use key_bytes::{Bytes, Key, Pair, Pairs};
 use std::alloc::{AllocError, Global};
 use std::test::Fail;
 
@@ -85,6 +85,38 @@ fn answers_at_each_version(rt: HostRuntime) -> Result<(), Fail> {
         Err(VersionFault::Future { last: 2 })
     );
     assert!(rt; refuses(&store, &key, 3));
+    Ok(())
+}
+
+// Pairs in this order.
+fn pairs_of(alloc: Global, all: &[(&'static [u8], &'static [u8])]) -> Result<Pairs, AllocError> {
+    let mut pairs = Pairs::new(alloc);
+    for (key, value) in all {
+        pairs.push(Pair {
+            key: Bytes::from_slice(alloc, key)?,
+            value: Bytes::from_slice(alloc, value)?,
+        })?;
+    }
+    Ok(pairs)
+}
+
+const LOADED: [(&[u8], &[u8]); 4] = [(b"c", b"1"), (b"a", b"2"), (b"c", b"3"), (b"b", b"")];
+
+const LEFT: [(&[u8], &[u8]); 3] = [(b"a", b"2"), (b"b", b""), (b"c", b"3")];
+
+#[test]
+fn loads_the_later_of_two_values(rt: HostRuntime) -> Result<(), Fail> {
+    let alloc = rt.alloc();
+    let store = Store::load(alloc, pairs_of(alloc, &LOADED)?)?;
+    assert_eq!(rt; store.last(), 1);
+    for (key, value) in LEFT {
+        let key = key_of(alloc, key)?;
+        assert_eq!(rt; store.get_at(&key, 0), Ok(None));
+        assert_eq!(rt; store.get_at(&key, 1), Ok(Some(value)));
+    }
+    assert!(rt; store.next_at(&key_of(alloc, b"")?, 0)?.is_none());
+    assert!(rt; is_beside(alloc, &store, (b"b", 1, b"b", b"a"))?);
+    assert_eq!(rt; store.pairs()?.len(), 3);
     Ok(())
 }
 

@@ -1,0 +1,18 @@
+-- What a load makes of pairs: each value is the whole chain of its key.
+use Rattle.std.specs.Prelude.{ℕ, List, [], ◌∷◌, Some, map}
+use Rattle.std.specs.List.{All}
+use Rattle.version_store.specs.declared.chains.Head.{Head}
+use Rattle.version_store.specs.Chains.{Slots, IsSoundHead}
+use Rattle.version_store.specs.Versions.{Chain}
+
+-- the chain of a key that was given one value, at version 1
+abbrev pub first_chain : List ℕ → Chain
+first_chain value = (1, Some value) ∷ []
+
+-- each key with its chain
+abbrev pub first_chains : List (List ℕ × List ℕ) → List (List ℕ × Chain)
+first_chains pairs = map (λ pair. (pair.0, first_chain pair.1)) pairs
+
+-- each head is sound in a store of version 1 with so many nodes
+abbrev pub AreSoundHeads : Slots → ℕ → List (List ℕ × Head) → Type 0
+AreSoundHeads slots nodes heads = All (λ e. IsSoundHead slots nodes 1 e.1) heads
