@@ -1,5 +1,5 @@
 -- How many commits a call makes, and how many lives it draws.
-use Rattle.std.proofs.Common.{◌≡◌, ℕ, ◌≤◌, ◌⊎◌, inl, inr, Bool, true, false, List, [], ◌∷◌, length, Option, Some, None, refl, sym, ap, subst, ◌∙◌, arith}
+use Rattle.std.proofs.Common.{◌≡◌, ℕ, ◌≤◌, ◌⊎◌, inl, inr, Bool, true, false, List, [], length, Option, Some, None, refl, sym, ap, subst, ◌∙◌, arith}
 use Rattle.fdb_calls.specs.declared.Code.{Code}
 use Rattle.fdb_calls.specs.declared.TxnCall.{TxnCall}
 use Rattle.fdb_calls.specs.declared.TxnCall.TheVariants as call
@@ -9,7 +9,7 @@ use Rattle.database_rules.specs.declared.Phase.TheVariants as phase
 use Rattle.database_rules.specs.Atomics.{atomic_named}
 use Rattle.database_rules.specs.Databases.{Operation, History, Commit, Set, Clear, ClearRange}
 use Rattle.database_rules.specs.Transactions.{Transaction, fresh, get_code, set_code, clear_code, clear_range_code, atomic_code, commit_code, is_read_only, is_cancelled, is_retryable, with_version}
-use Rattle.machine_rules.specs.Worlds.{Called, called, get_by, write_by, atomic_by, commit_by, commit_allowed, commit_refused, on_error_by, error_handled}
+use Rattle.fdb_calls.specs.Calling.{Called, called, get_by, write_by, atomic_by, commit_by, commit_allowed, commit_refused, on_error_by, error_handled}
 
 -- it makes no commit, and draws one life at most
 record IsQuiet (called : Called) : Type 0 where

@@ -1,18 +1,18 @@
 -- A call on a transaction of its own, which is then committed.
-use Rattle.std.proofs.Common.{◌≡◌, ℕ, ◌+◌, ◌-◌, ◌^◌, ◌<◌, ◌≤◌, Bool, true, false, cond, List, [], ◌∷◌, ◌++◌, refl, sym, ap, subst, ◌∙◌, add-zero, arith}
+use Rattle.std.proofs.Common.{◌≡◌, ℕ, ◌+◌, ◌-◌, ◌^◌, ◌<◌, ◌≤◌, true, false, cond, [], ◌++◌, sym, ap, subst, ◌∙◌, add-zero, arith}
 use Rattle.std.proofs.lemmas.List.{append-nil}
 use Rattle.fdb_calls.specs.declared.Reply.{Reply}
 use Rattle.fdb_calls.specs.declared.TxnCall.{TxnCall}
 use Rattle.fdb_calls.specs.declared.TxnCall.TheVariants as call
 use Rattle.fdb_calls.specs.declared.Request.TheVariants as request
-use Rattle.database_rules.specs.Databases.{History, Commit, last}
+use Rattle.database_rules.specs.Databases.{History}
 use Rattle.database_rules.specs.Transactions.{Transaction, fresh, with_version}
-use Rattle.machine_rules.specs.Worlds.{World, Called, called, fresh_at_last, is_fault, database_by, step}
+use Rattle.fdb_calls.specs.Calling.{Called, called}
+use Rattle.machine_rules.specs.Worlds.{World, fresh_at_last, is_fault, step}
 use Rattle.version_store.specs.Versions.{last_of}
 use Rattle.txn_core.specs.Stands as txn
 use Rattle.client_core.specs.Stands.{Kept, StandsFor}
 use Rattle.client_core.specs.Sound.{Took, TookApart, IsSound}
-use Rattle.client_core.proofs.Named.{stands_same}
 use Rattle.client_core.proofs.Calls.{first_commits, commit_lives, few_lives}
 
 -- one life more was drawn
@@ -34,7 +34,7 @@ CallsApart begun core its_call reply left after = (transaction : Transaction) (w
 
 -- a fresh transaction at the last version of each history
 abbrev pub IsAtLast : Transaction → Kept → Type 0
-IsAtLast begun core = (history : History) → txn.Keeps core.store history → begun ≡ with_version history (fresh core.next_life)
+IsAtLast begun core = (history : History) → txn.Keeps core.store history → txn.StandsFor begun (with_version history (fresh core.next_life))
 
 pub record FirstTook (reply : Reply) (left : Transaction) (after : Kept) (world : World) (its_call : TxnCall) : Type 0 where
   pub reply_is : reply ≡ (first_called world its_call).reply
@@ -44,8 +44,8 @@ pub record FirstTook (reply : Reply) (left : Transaction) (after : Kept) (world 
 pub first_took : (core after : Kept) (world : World) (its_call : TxnCall) (begun left : Transaction) (reply : Reply) → IsAtLast begun core
     → CallsApart begun (drawn core) its_call reply left after → StandsFor core world → FirstTook reply left after world its_call
 first_took core after world its_call begun left reply fresh_one calls stands =
-    let begun_is : begun ≡ fresh_at_last world = fresh_one world.history stands.keeps ∙ ap (λ n. with_version world.history (fresh n)) stands.next_life in
-    let told = calls (fresh_at_last world) (record world { next_life = world.next_life + 1 }) (subst (λ t. txn.StandsFor begun t) begun_is (stands_same begun))
+    let begun_stands = subst (λ n. txn.StandsFor begun (with_version world.history (fresh n))) stands.next_life (fresh_one world.history stands.keeps) in
+    let told = calls (fresh_at_last world) (record world { next_life = world.next_life + 1 }) begun_stands
     (record { keeps = stands.keeps; transactions = stands.transactions; next_life = ap (λ n. n + 1) stands.next_life }) in
     let none : (first_called world its_call).commits ≡ [] = first_commits world.history (world.next_life + 1) world.next_life its_call in
     record {

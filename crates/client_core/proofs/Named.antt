@@ -10,10 +10,10 @@ use Rattle.fdb_calls.specs.declared.TxnCall.{TxnCall}
 use Rattle.key_bytes.specs.Keys.{key_cmp}
 use Rattle.database_rules.specs.Databases.{History}
 use Rattle.database_rules.specs.Transactions.{Transaction, fresh}
-use Rattle.machine_rules.specs.Worlds.{World, Called, Transactions, transaction_of, called, call_named, with_new, with_named, stepped}
-use Rattle.version_store.specs.Versions.{Versions}
+use Rattle.fdb_calls.specs.Calling.{called}
+use Rattle.machine_rules.specs.Worlds.{World, Transactions, transaction_of, call_named, with_new, with_named}
 use Rattle.txn_core.specs.Stands as txn
-use Rattle.txn_core.specs.declared.txn.Answer.{Answer}
+use Rattle.txn_core.specs.declared.answer.Answer.{Answer}
 use Rattle.client_core.specs.Stands.{Kept, StandsFor, AreAlike}
 use Rattle.client_core.specs.Sound.{Took}
 
@@ -23,9 +23,6 @@ same_key name = (eq_by_cmp_equiv nat_list_cmp_total).refl name
 -- each name has transactions that are alike
 abbrev pub AllAlike : Transactions → Transactions → Type 0
 AllAlike kept transactions = (name : List ℕ) → AreAlike (finite.get kept name) (finite.get transactions name)
-
-pub stands_same : (transaction : Transaction) → txn.StandsFor transaction transaction
-stands_same transaction = record { edits = λ database. refl; writes = refl; life = refl; version = refl; size = refl; phase = refl }
 
 pub there_inserted : (transactions : Transactions) (name : List ℕ) (transaction : Transaction) → IsSome (finite.get (finite.insert transactions name transaction) name)
 there_inserted transactions name transaction =
@@ -43,13 +40,13 @@ alike_inserted m w name kept transaction stands alike = λ q.
     (subst (λ y. AreAlike (cond (eq_by_cmp key_cmp q name) (Some kept) (finite.get m q)) y) (sym (finite.get-insert nat_list_cmp_total w name transaction q)) both)
 
 -- a transaction of a new life under a name
-pub new_stands : (core : Kept) (world : World) (name : List ℕ) (after : Kept) → StandsFor core world → after.store ≡ core.store
-    → after.transactions ≡ finite.insert core.transactions name (fresh core.next_life) → after.next_life ≡ core.next_life + 1 → StandsFor after (with_new world name)
-new_stands core world name after stands store transactions next_life = record {
+pub new_stands : (core : Kept) (world : World) (name : List ℕ) (kept : Transaction) (after : Kept) → StandsFor core world → txn.StandsFor kept (fresh core.next_life)
+    → after.store ≡ core.store → after.transactions ≡ finite.insert core.transactions name kept → after.next_life ≡ core.next_life + 1 → StandsFor after (with_new world name)
+new_stands core world name kept after stands fresh_one store transactions next_life = record {
   keeps = subst (λ s. txn.Keeps s world.history) (sym store) stands.keeps;
   transactions = subst (λ m. AllAlike m (finite.insert world.transactions name (fresh world.next_life))) (sym transactions)
-      (alike_inserted core.transactions world.transactions name (fresh core.next_life) (fresh world.next_life)
-      (subst (λ n. txn.StandsFor (fresh core.next_life) (fresh n)) stands.next_life (stands_same (fresh core.next_life))) stands.transactions);
+      (alike_inserted core.transactions world.transactions name kept (fresh world.next_life)
+      (subst (λ n. txn.StandsFor kept (fresh n)) stands.next_life fresh_one) stands.transactions);
   next_life = next_life ∙ ap (λ n. n + 1) stands.next_life;
 }
 

@@ -1,18 +1,18 @@
 -- What a step leaves: few commits and lives, and what the core answers by it.
-use Rattle.std.proofs.Common.{◌≡◌, ℕ, ◌+◌, ◌*◌, ◌^◌, ◌<◌, ◌≤◌, Bool, true, false, cond, List, [], ◌∷◌, ◌++◌, length, refl, sym, subst, length-append, arith}
+use Rattle.std.proofs.Common.{◌≡◌, ℕ, ◌+◌, ◌*◌, ◌^◌, ◌<◌, ◌≤◌, Bool, true, false, cond, List, [], ◌++◌, length, refl, sym, subst, ◌∙◌, length-append, arith}
 use Rattle.std.specs.Prelude.{is_some}
 use Rattle.std.specs.FinMap as finite
 use Rattle.fdb_calls.specs.declared.Reply.{Reply}
 use Rattle.fdb_calls.specs.declared.Reply.TheVariants as reply
 use Rattle.fdb_calls.specs.declared.Request.{Request}
 use Rattle.fdb_calls.specs.declared.Request.TheVariants as request
-use Rattle.fdb_calls.specs.declared.TxnCall.{TxnCall}
 use Rattle.fdb_calls.specs.declared.TxnCall.TheVariants as call
 use Rattle.database_rules.specs.Databases.{Commit, last}
-use Rattle.machine_rules.specs.Worlds.{World, Called, called, step, with_new, with_named, transaction_of, call_named, fresh_at_last, is_fault, Stepped}
+use Rattle.fdb_calls.specs.Calling.{called}
+use Rattle.machine_rules.specs.Worlds.{World, HasWords, step, with_new, transaction_of, call_named, fresh_at_last, is_fault, Stepped}
 use Rattle.client_core.specs.Stands.{Kept, StandsFor, Answers}
 use Rattle.client_core.specs.Sound.{IsSound, Took}
-use Rattle.client_core.proofs.Calls.{few_commits, few_lives, commit_commits, first_commits}
+use Rattle.client_core.proofs.Calls.{few_commits, few_lives, commit_commits}
 use Rattle.client_core.proofs.Databases.{first_called}
 
 -- a step makes one commit at most, and draws two lives at most
@@ -56,12 +56,23 @@ step_few world (request.Database its_call) =
       lives = omega (arith, drawn);
     }
 
+-- no step uses a random word yet
+step_words : (world : World) (given : Request) → (step world given).world.words ≡ world.words
+unfolding step
+step_words world (request.New name) = refl
+step_words world (request.On name its_call) =
+    elim (is_some (finite.get world.transactions name)) as (λ b. (cond b world (with_new world name)).words ≡ world.words) [ true ↦ refl | false ↦ refl ]
+step_words world (request.Database its_call) = refl
+
+pub words_kept : (world : World) (given : Request) (words : ℕ → ℕ) → HasWords world words → HasWords (step world given).world words
+words_kept world given words has place = has place ∙ (λ i. sym (step_words world given) i place)
+
 -- the reply and what a core stands for, as the contract says it
-pub took_answers : (its_reply : Reply) (core : Kept) (stepped : Stepped) → Took its_reply core stepped → Answers its_reply core stepped
-took_answers reply.Done core stepped took = (sym took.reply_is, took.stands)
-took_answers (reply.Value value) core stepped took = (sym took.reply_is, took.stands)
-took_answers (reply.Fault code) core stepped took = (sym took.reply_is, took.stands)
-took_answers reply.NoMemory core stepped took = tt
+pub took_answers : (its_reply : Reply) (core : Kept) (words : ℕ → ℕ) (stepped : Stepped) → Took its_reply core stepped → HasWords stepped.world words → Answers its_reply core words stepped
+took_answers reply.Done core words stepped took has = (sym took.reply_is, took.stands, has)
+took_answers (reply.Value value) core words stepped took has = (sym took.reply_is, took.stands, has)
+took_answers (reply.Fault code) core words stepped took has = (sym took.reply_is, took.stands, has)
+took_answers reply.NoMemory core words stepped took has = tt
 
 -- how many requests were taken does not matter for what a core stands for
 pub stands_counted : (core : Kept) (applied : ℕ) (world : World) → StandsFor core world → StandsFor (record core { applied = applied }) world

@@ -2,4 +2,3 @@ pub mod Stands
 pub mod Sound
 pub mod Contents
 pub mod Reading
-pub mod Loading

@@ -3,7 +3,8 @@ use Rattle.std.specs.Prelude.{◌≡◌, ℕ, ◌+◌, ◌≤◌, ◌++◌}
 use Rattle.fdb_calls.specs.declared.Reply.{Reply}
 use Rattle.database_rules.specs.Databases.{last}
 use Rattle.database_rules.specs.Transactions.{Transaction}
-use Rattle.machine_rules.specs.Worlds.{World, Called, Stepped}
+use Rattle.fdb_calls.specs.Calling.{Called}
+use Rattle.machine_rules.specs.Worlds.{World, Stepped}
 use Rattle.txn_core.specs.Stands as txn
 use Rattle.client_core.specs.Stands.{Kept, StandsFor}
 

@@ -5,7 +5,7 @@ use Rattle.fdb_calls.specs.declared.Code.{Code}
 use Rattle.fdb_calls.specs.declared.Reply.{Reply}
 use Rattle.fdb_calls.specs.declared.Reply.TheVariants as reply
 use Rattle.database_rules.specs.Transactions.{Transaction}
-use Rattle.machine_rules.specs.Worlds.{World, Transactions, Stepped}
+use Rattle.machine_rules.specs.Worlds.{World, Transactions, Stepped, HasWords}
 use Rattle.version_store.specs.Versions.{Versions}
 use Rattle.txn_core.specs.Stands as txn
 
@@ -31,12 +31,13 @@ pub record StandsFor (core : Kept) (world : World) : Type 0 where
   pub transactions : (name : List ℕ) → AreAlike (finite.get core.transactions name) (finite.get world.transactions name)
   pub next_life : core.next_life ≡ world.next_life
 
--- the reply is that of a step and the core stands for its world; or memory ran out, and nothing is said of the core
-abbrev pub Answers : Reply → Kept → Stepped → Type 0
-Answers reply.Done core stepped = (stepped.reply ≡ reply.Done) × StandsFor core stepped.world
-Answers (reply.Value value) core stepped = (stepped.reply ≡ reply.Value value) × StandsFor core stepped.world
-Answers (reply.Fault code) core stepped = (stepped.reply ≡ reply.Fault code) × StandsFor core stepped.world
-Answers reply.NoMemory core stepped = ⊤
+-- the reply is that of a step, the core stands for its world, and the words still to come are that world's; or memory ran
+-- out, and nothing is said of the core and of the words
+abbrev pub Answers : Reply → Kept → (ℕ → ℕ) → Stepped → Type 0
+Answers reply.Done core words stepped = (stepped.reply ≡ reply.Done) × StandsFor core stepped.world × HasWords stepped.world words
+Answers (reply.Value value) core words stepped = (stepped.reply ≡ reply.Value value) × StandsFor core stepped.world × HasWords stepped.world words
+Answers (reply.Fault code) core words stepped = (stepped.reply ≡ reply.Fault code) × StandsFor core stepped.world × HasWords stepped.world words
+Answers reply.NoMemory core words stepped = ⊤
 
 abbrev pub number_of : Code → ℕ
 number_of code = code.0

@@ -1,18 +1,18 @@
 //! The core.
 
-ghost use Rattle.std.specs.Prelude.{◌≡◌, ◌+◌, ◌<◌, ◌^◌, IfOk};
+ghost use Rattle.std.specs.Prelude.{◌≡◌, ℕ, ◌+◌, ◌<◌, ◌^◌, IfOk};
 ghost use Rattle.std.specs.FinMap as finite;
 ghost use Rattle.std.specs.List.{filter};
 ghost use Rattle.key_bytes.specs.Keys.{within};
-ghost use Rattle.machine_rules.specs.Worlds.{World, begun, step};
+ghost use Rattle.machine_rules.specs.Worlds.{World, HasWords, begun, step};
 ghost use Rattle.version_store.specs.Versions.{at, last_of};
 
 use crate::contents::Contents;
-use crate::loading::first_changes;
 use crate::reading::pairs_between;
 use fdb_calls::{Reply, Request};
 use key_bytes::{Key, Pairs};
 use key_map::KeyMap;
+use outside::Words;
 use std::alloc::{AllocError, Global};
 use std::marker::Model;
 use version_store::Store;
@@ -50,13 +50,10 @@ impl Core {
 
     /// The core with these pairs as its first commit; of two values of one key the later stays.
     pub fn load(alloc: Global, pairs: Pairs) -> Result<Core, AllocError>
-        ensures begun { IfOk result (λ core. StandsFor core (begun pairs)) }
+        ensures begun { IfOk result (λ core. (words : ℕ → ℕ) → StandsFor core (begun pairs words)) }
         ensures applied { IfOk result (λ core. core.applied ≡ 0) }
     {
-        let changes = first_changes(alloc, pairs)?;
-        let mut store = Store::new(alloc);
-        store.reserve(&changes)?;
-        store.install(changes);
+        let store = Store::load(alloc, pairs)?;
         Ok(Core {
             contents: Contents {
                 alloc,
@@ -99,11 +96,13 @@ impl Core {
         pairs_between(self.contents.alloc, &self.contents.store, begin, end)
     }
 
-    /// Takes a request of a machine: its step in the world, and the reply that is fixed there. NoMemory comes for
-    /// want of memory alone, nothing is said of the core then, and each further request is answered so too.
-    pub fn apply(&mut self, _machine: u16, request: &Request) -> Reply
+    /// Takes a request of a machine: its step in the world, and the reply that is fixed there. The random words are those
+    /// of the world; no request uses one yet. NoMemory comes for want of memory alone, nothing is said of the core then,
+    /// and each further request is answered so too.
+    pub fn apply<W: Words>(&mut self, _machine: u16, request: &Request, _words: &mut W) -> Reply
         requires { self.old.applied < 2 ^ 62 }
-        ensures step { (world : World) → StandsFor self.old world → Answers result self.new (step world request.now) }
+        ensures step { (world : World) → StandsFor self.old world → HasWords world (W.words _words.old)
+            → Answers result self.new (W.words _words.new) (step world request.now) }
         ensures applied { self.new.applied ≡ self.old.applied + 1 }
     {
         self.contents.applied += 1;

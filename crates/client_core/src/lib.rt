@@ -9,7 +9,6 @@
 
 mod contents;
 mod core_state;
-mod loading;
 mod reading;
 #[cfg(test)]
 mod tests;

@@ -2,6 +2,7 @@ use super::*;
 use database_rules::Code;
 use fdb_calls::{Reply, Request, TxnCall};
 use key_bytes::{Bytes, KeyRange, Pair, Pairs};
+use outside::Words;
 use std::alloc::{AllocError, Global};
 use std::test::Fail;
 
@@ -29,12 +30,24 @@ fn tell(reply: &Reply) -> Told<'_> {
     }
 }
 
+// Random words that are all 0.
+#[derive(Drop)]
+struct Zeros;
+
+impl Words for Zeros {
+    ghost words = { λ words place. 0 };
+
+    fn next(&mut self) -> u32 {
+        0
+    }
+}
+
 // A core takes a request; a test asks fewer than a thousand times.
 fn apply(core: &mut Core, request: &Request) -> Reply {
     if core.applied() >= 1_000 {
         return Reply::NoMemory;
     }
-    core.apply(0, request)
+    core.apply(0, request, &mut Zeros)
 }
 
 // A call, as a test writes it.

@@ -1,3 +1,4 @@
 pub mod Atomics
 pub mod Databases
+pub mod States
 pub mod Transactions

@@ -1,15 +1,10 @@
 -- A transaction, the checks of its calls in their order, and what each call leaves (API reference, "Transaction").
 use Rattle.std.specs.Prelude.{ℕ, ◌+◌, ◌*◌, Bool, true, false, not, ◌&&◌, ◌||◌, ◌==◌, if◌then◌else◌, List, [], ◌∷◌, ◌++◌, length, min, nat_lt, Option, Some, None, unwrap_or, is_none}
 use Rattle.std.specs.List.{list_any}
-use Rattle.std.specs.FinMap as finite
 use Rattle.key_bytes.specs.declared.range.KeyRange.{KeyRange}
 use Rattle.key_bytes.specs.Keys.{key_lt, top}
-use Rattle.database_rules.specs.declared.Code.{Code}
 use Rattle.database_rules.specs.declared.Phase.{Phase}
 use Rattle.database_rules.specs.declared.Phase.TheVariants as phase
-use Rattle.database_rules.specs.declared.Tried.{Tried}
-use Rattle.database_rules.specs.declared.Tried.TheVariants as tried
-use Rattle.database_rules.specs.declared.AtomicOp.{AtomicOp}
 use Rattle.database_rules.specs.Atomics.{atomic_named}
 use Rattle.database_rules.specs.Databases.{Database, Operation, Set, Clear, ClearRange, Atomic, History, do_all, at, last}
 

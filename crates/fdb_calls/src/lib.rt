@@ -1,11 +1,17 @@
-//! The requests that a machine asks of the database, and the replies that it gets.
+//! The requests that a machine asks of the database, the replies that it gets, and the calls of a transaction.
 //!
-//! A request is taken whole: it acts in one step, and its reply is fixed there. These are types alone; what a
-//! request does is stated in `machine_rules`, by these very types.
+//! A request is taken whole: it acts in one step, and its reply is fixed there. `specs/Calling.antt` says what each call on
+//! a transaction answers and leaves, by these very types; what a request does is stated above it in `machine_rules`.
+//! `Tr` has the calls of a transaction by their names, for layers that work over any transaction that answers so.
 #![tactic(auto)]
 
+mod fault;
+mod tr;
+
 pub use database_rules::Code;
+pub use fault::TrFault;
 use key_bytes::{Bytes, Key, KeyRange};
+pub use tr::Tr;
 
 /// A call on a transaction (API reference, "Transaction").
 #[derive(Debug, Drop)]

@@ -1,5 +1,5 @@
 -- What an instruction that makes a request pops, and the request that it makes (bindingApiTester.md).
-use Rattle.std.specs.Prelude.{ℕ, Bool, not, List, [], ◌∷◌, Option, Some, None, Ok, Err, unwrap_or, option_and_then, if◌then◌else◌}
+use Rattle.std.specs.Prelude.{ℕ, Bool, List, Option, Some, None, Ok, unwrap_or, option_and_then, if◌then◌else◌}
 use Rattle.std.specs.Option.{option_map_or}
 use Rattle.key_bytes.specs.Keys.{top}
 use Rattle.key_bytes.specs.Successors.{strinc}

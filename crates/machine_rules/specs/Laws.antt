@@ -2,20 +2,11 @@
 use Rattle.std.specs.Prelude.{◌≡◌, ℕ, zero, suc, ◌+◌, ◌-◌, ◌<◌, Bool, true, false, List, [], ◌∷◌, ◌++◌, length, Option, Some, None, option_and_then, slice_get, cond, refl}
 use Rattle.std.proofs.Common.{sym, ap, ◌∙◌, add-one, arith}
 use Rattle.std.proofs.lemmas.Option.{slice_get_within}
-use Rattle.fdb_calls.specs.declared.Code.{Code}
 use Rattle.fdb_calls.specs.declared.Request.{Request}
 use Rattle.fdb_calls.specs.declared.Reply.{Reply}
-use Rattle.fdb_calls.specs.declared.Reply.TheVariants as reply
-use Rattle.machine_rules.specs.declared.Awaits.{Awaits}
-use Rattle.machine_rules.specs.declared.Awaits.TheVariants as awaits
 use Rattle.machine_rules.specs.declared.State.{State}
 use Rattle.machine_rules.specs.declared.State.TheVariants as state
-use Rattle.machine_rules.specs.declared.Instruction.{Instruction}
-use Rattle.machine_rules.specs.declared.Instruction.TheVariants as instruction
-use Rattle.machine_rules.specs.Operands.{Refusal, Missing, Unfit, Popped}
-use Rattle.machine_rules.specs.StackOperations.{Operated, operated}
-use Rattle.machine_rules.specs.Instructions.{instruction_of}
-use Rattle.machine_rules.specs.Machines.{Machine, Progress, Act, Does, Uses, Stops, Asks, Use, Goes, Pushes, Faults, silent, acted, next_act, advance_by, advance, resumed, resumed_by, use_of, used, answered}
+use Rattle.machine_rules.specs.Machines.{Machine, Progress, Act, Does, Uses, Stops, Asks, Use, Goes, Pushes, Faults, silent, acted, next_act, advance_by, advance, resumed, resumed_by, use_of, used}
 use Rattle.machine_rules.specs.Runs.{Run, is_running, rested, at_rest, take_place, run_from}
 
 -- ---- one step of a machine

@@ -1,5 +1,5 @@
 -- A run over an order of requests, and its dump.
-use Rattle.std.specs.Prelude.{◌≡◌, ℕ, zero, suc, ◌+◌, ◌-◌, Bool, true, false, if◌then◌else◌, List, [], ◌∷◌, ◌++◌, length, map, filter, flat_map, reverse, Option, Some, None, option_and_then, option_map, slice_get, slice_set, IsTrue, codes}
+use Rattle.std.specs.Prelude.{◌≡◌, ℕ, zero, suc, ◌+◌, ◌-◌, Bool, true, false, if◌then◌else◌, List, [], ◌∷◌, ◌++◌, length, map, filter, flat_map, reverse, Option, Some, option_and_then, option_map, slice_get, slice_set, IsTrue, codes}
 use Rattle.std.specs.List.{enumerate_from, list_all}
 use Rattle.std.specs.FinMap as finite
 use Rattle.key_bytes.specs.Keys.{within}
@@ -7,7 +7,6 @@ use Rattle.database_rules.specs.Databases.{Database, at, last}
 use Rattle.fdb_tuple.specs.Tuples.{Bytes, End, Single}
 use Rattle.fdb_tuple.specs.Listed.{before}
 use Rattle.fdb_tuple.specs.Spelling.{spelling}
-use Rattle.fdb_calls.specs.declared.Request.{Request}
 use Rattle.line_rules.specs.Printing.{machine_line, item_line, error_line, order_line, pair_line}
 use Rattle.machine_rules.specs.declared.End.TheVariants as end
 use Rattle.machine_rules.specs.declared.State.{State}
@@ -66,9 +65,15 @@ pub record Run : Type 0 where
   pub world : World
   pub machines : List Progress
 
+-- the random words of a run; no request uses one yet
+abbrev pub words_of_run : ℕ → ℕ
+words_of_run place = 0
+
 -- the run before any request was taken: machine 0 was started under the prefix
 abbrev pub start : List (List ℕ × List ℕ) → List ℕ → Run
-start pairs prefix = record { world = begun pairs; machines = at_rest (started (begun pairs) 0 prefix) ∷ [] }
+start pairs prefix =
+    let world = begun pairs words_of_run in
+    record { world = world; machines = at_rest (started world 0 prefix) ∷ [] }
 
 -- a machine's request was taken: its machine has the reply, and stands at its next request or its end
 abbrev pub replied : Run → ℕ → Machine → Stepped → Run

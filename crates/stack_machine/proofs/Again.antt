@@ -1,10 +1,7 @@
 -- A step answers Again only where an instruction was finished.
-use Rattle.std.proofs.Common.{◌≡◌, ℕ, ◌+◌, Bool, true, false, List, Option, Some, None, Result, Ok, Err, refl, sym, ap, ◌∙◌}
-use Rattle.std.specs.Prelude.{slice_get, IfOk, ⊤}
+use Rattle.std.proofs.Common.{◌≡◌, ◌+◌, Bool, true, false, Option, Some, None, Result, Ok, Err, refl, sym, ap, ◌∙◌}
+use Rattle.std.specs.Prelude.{slice_get, IfOk}
 use Rattle.fdb_calls.specs.declared.Reply.{Reply}
-use Rattle.fdb_calls.specs.declared.Reply.TheVariants as reply
-use Rattle.machine_rules.specs.declared.Awaits.{Awaits}
-use Rattle.machine_rules.specs.declared.Awaits.TheVariants as awaits
 use Rattle.machine_rules.specs.declared.State.{State}
 use Rattle.machine_rules.specs.declared.State.TheVariants as state
 use Rattle.machine_rules.specs.Machines.{Machine, Progress, Act, Does, Uses, Stops, Asks, Use, Goes, Pushes, Faults, silent, acted, next_act, use_of, used, advance_by, advance, resumed, resumed_by}

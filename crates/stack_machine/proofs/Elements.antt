@@ -1,5 +1,5 @@
 -- The elements of a tuple are elements.
-use Rattle.std.proofs.Common.{ℕ, ◌+◌, ◌≤◌, arith}
+use Rattle.std.proofs.Common.{◌≤◌, arith}
 use Rattle.fdb_tuple.specs.Tuples.{Scalar, Null, Bytes, Text, Int, Boolean, Uuid, Stamp, Elements, End, Single, Nested, depth_of}
 use Rattle.fdb_tuple.specs.Listed.{IsElement, element_of, elements_of}
 use Rattle.stack_machine.specs.Pushes.{AreElements}

@@ -1,5 +1,5 @@
 -- What an instruction pushes.
-use Rattle.std.specs.Prelude.{List, Option, Some, None, ⊤}
+use Rattle.std.specs.Prelude.{List, Option, Some, ⊤}
 use Rattle.std.specs.List.{AllByRecursion}
 use Rattle.fdb_tuple.specs.declared.tuple.Elem.{Elem}
 use Rattle.fdb_tuple.specs.Listed.{IsElement}

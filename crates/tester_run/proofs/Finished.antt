@@ -10,9 +10,9 @@ use Rattle.machine_rules.specs.declared.State.TheVariants as state
 use Rattle.std.specs.FinMap as finite
 use Rattle.version_store.specs.Versions.{at, last_of}
 use Rattle.database_rules.specs.Databases.{Database, last}
-use Rattle.machine_rules.specs.Worlds.{World, begun}
+use Rattle.machine_rules.specs.Worlds.{World, HasWords, begun}
 use Rattle.machine_rules.specs.Machines.{Machine, Progress, silent}
-use Rattle.machine_rules.specs.Runs.{started, instructions_in, newest, run_from, is_running, has_stopped, has_ended, status_of, end_line, stack_lines, error_lines, dump}
+use Rattle.machine_rules.specs.Runs.{words_of_run, started, instructions_in, newest, run_from, is_running, has_stopped, has_ended, status_of, end_line, stack_lines, error_lines, dump}
 use Rattle.machine_rules.specs.Laws.{at_rest_still}
 use Rattle.line_rules.specs.Printing.{order_line}
 use Rattle.tester_run.specs.Driving.{Leads, run_of}
@@ -32,13 +32,17 @@ abbrev pub first_machine : Database → List ℕ → Machine
 first_machine database prefix = record { number = 0; prefix = prefix; instructions = instructions_in database prefix; next = 0; name = prefix; stack = []; errors = []; state = state.Running }
 
 -- before any request the empty order leads to the start
-pub begins : (pairs : List (List ℕ × List ℕ)) (prefix : List ℕ) (core : Kept) (machine : Machine) → StandsFor core (begun pairs) → machine ≡ first_machine (kept_map core) prefix → Leads pairs prefix core machine []
+pub begins : (pairs : List (List ℕ × List ℕ)) (prefix : List ℕ) (core : Kept) (words : ℕ → ℕ) (machine : Machine) → StandsFor core (begun pairs words_of_run)
+    → HasWords (begun pairs words_of_run) words → machine ≡ first_machine (kept_map core) prefix → Leads pairs prefix core words machine []
 unfolding run_from started
-begins pairs prefix core machine stands is = record {
-  world = begun pairs;
-  stands = stands;
-  runs = ap (λ (m : Machine). Some (run_of (begun pairs) m)) (sym (is ∙ ap (λ (d : Database). first_machine d prefix) (kept_newest core (begun pairs) stands)));
-}
+begins pairs prefix core words machine stands has_words is =
+    let world : World = begun pairs words_of_run in
+    record {
+      world = world;
+      stands = stands;
+      has_words = has_words;
+      runs = ap (λ (m : Machine). Some (run_of world m)) (sym (is ∙ ap (λ (d : Database). first_machine d prefix) (kept_newest core world stands)));
+    }
 
 stopped_rests : (state : State) → has_stopped state ≡ true → is_running state ≡ false
 stopped_rests state.Running e = absurd cc
@@ -66,9 +70,9 @@ status_alone : (world : World) (machine : Machine) → status_of (record { world
 status_alone world machine = ap (λ b. cond b 0 3) (and_true (has_ended machine.state))
 
 -- where the order leads to a machine that has stopped, what was rendered is what the run leaves
-pub finishes : (pairs : List (List ℕ × List ℕ)) (prefix : List ℕ) (core : Kept) (machine : Machine) (rendered : Rendered) → Leads pairs prefix core machine rendered.order → has_stopped machine.state ≡ true
+pub finishes : (pairs : List (List ℕ × List ℕ)) (prefix : List ℕ) (core : Kept) (words : ℕ → ℕ) (machine : Machine) (rendered : Rendered) → Leads pairs prefix core words machine rendered.order → has_stopped machine.state ≡ true
     → rendered.dump ≡ machine_dump machine rendered.order (finite.entries (kept_map core)) → rendered.status ≡ cond (has_ended machine.state) 0 3 → Renders pairs prefix rendered
-finishes pairs prefix core machine rendered leads stopped dump_is status_is = record {
+finishes pairs prefix core words machine rendered leads stopped dump_is status_is = record {
   run = record { world = leads.world; machines = silent machine ∷ [] };
   runs = record {
     runs = leads.runs ∙ ap (λ (p : Progress). Some (record { world = leads.world; machines = p ∷ [] })) (at_rest_still machine (stopped_rests machine.state stopped));

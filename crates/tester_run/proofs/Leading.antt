@@ -12,7 +12,7 @@ use Rattle.stack_machine.specs.declared.machine.Step.TheVariants as step
 use Rattle.machine_rules.specs.declared.End.{End}
 use Rattle.machine_rules.specs.declared.State.{State}
 use Rattle.machine_rules.specs.declared.State.TheVariants as state
-use Rattle.machine_rules.specs.Worlds.{World, Stepped, step as world_step}
+use Rattle.machine_rules.specs.Worlds.{Stepped, HasWords, step as world_step}
 use Rattle.machine_rules.specs.Machines.{Machine, Progress, silent, advance, resumed}
 use Rattle.machine_rules.specs.Runs.{Run, start, at_rest, take_place, replied, run_from, is_running, has_stopped}
 use Rattle.machine_rules.specs.Laws.{is_awaiting, advance_finishes, advance_asks, advance_quiet, advance_still, advance_asks_inside, resumed_goes, at_rest_again, at_rest_stops, at_rest_asks, run_from-append}
@@ -48,11 +48,12 @@ stopped_state None (state.Stopped its_end) end e = (refl, refl, refl)
 
 -- ---- leading
 
-same_stand : (pairs : List (List ℕ × List ℕ)) (prefix : List ℕ) (core : Kept) (machine after : Machine) (order : List ℕ)
-    → at_rest machine ≡ at_rest after → Leads pairs prefix core machine order → Leads pairs prefix core after order
-same_stand pairs prefix core machine after order same leads = record {
+same_stand : (pairs : List (List ℕ × List ℕ)) (prefix : List ℕ) (core : Kept) (words : ℕ → ℕ) (machine after : Machine) (order : List ℕ)
+    → at_rest machine ≡ at_rest after → Leads pairs prefix core words machine order → Leads pairs prefix core words after order
+same_stand pairs prefix core words machine after order same leads = record {
   world = leads.world;
   stands = leads.stands;
+  has_words = leads.has_words;
   runs = leads.runs ∙ ap (λ (p : Progress). Some (record { world = leads.world; machines = p ∷ [] })) same;
 }
 
@@ -145,16 +146,17 @@ turn_asks old new answer request moves silent_before e =
     (record { was_running = was; asks = asks; machine = moves.machine }, ap (λ (m : Machine). is_awaiting m.state) moves.machine ∙ advance_asks old.machine request asks)
 
 -- a machine that stands as before leads as before
-pub quiet_goes_on : (core : Kept) (before after : Machine) (order : List ℕ) → Quiet before after → GoesOn core before order core after order
-quiet_goes_on core before after order quiet pairs prefix leads = same_stand pairs prefix core before after order quiet.same leads
+pub quiet_goes_on : (core : Kept) (words : ℕ → ℕ) (before after : Machine) (order : List ℕ) → Quiet before after → GoesOn core words before order core words after order
+quiet_goes_on core words before after order quiet pairs prefix leads = same_stand pairs prefix core words before after order quiet.same leads
 
 -- ---- a reply
 
-stands_after : (given : Reply) (core : Kept) (stepped : Stepped) → given ≢ reply.NoMemory → Answers given core stepped → (stepped.reply ≡ given) × StandsFor core stepped.world
-stands_after reply.Done core stepped is answers = answers
-stands_after (reply.Value value) core stepped is answers = answers
-stands_after (reply.Fault code) core stepped is answers = answers
-stands_after reply.NoMemory core stepped is answers = absurd (is refl)
+stands_after : (given : Reply) (core : Kept) (words : ℕ → ℕ) (stepped : Stepped) → given ≢ reply.NoMemory → Answers given core words stepped
+    → (stepped.reply ≡ given) × StandsFor core stepped.world × HasWords stepped.world words
+stands_after reply.Done core words stepped is answers = answers
+stands_after (reply.Value value) core words stepped is answers = answers
+stands_after (reply.Fault code) core words stepped is answers = answers
+stands_after reply.NoMemory core words stepped is answers = absurd (is refl)
 
 one_place : (run : Run) (progress : Progress) (request : Request) → progress.asks ≡ Some request
     → take_place 0 (record { world = run.world; machines = progress ∷ [] }) ≡ Some (replied (record { world = run.world; machines = progress ∷ [] }) 0 progress.machine (world_step run.world request))
@@ -171,20 +173,21 @@ one_more run = by (take_place 0 run)
     by (Some next) = refl
 
 -- a request that is taken is one more place of the order
-pub taken_goes_on : (core core_after : Kept) (asking after : Machine) (order order_after : List ℕ) (request : Request)
-    → Takes core asking order request core_after after order_after
-    → GoesOnFromAsking core asking order request core_after after order_after
-taken_goes_on core core_after asking after order order_after request takes before comes pairs prefix leads =
+pub taken_goes_on : (core core_after : Kept) (words words_after : ℕ → ℕ) (asking after : Machine) (order order_after : List ℕ) (request : Request)
+    → Takes core words asking order request core_after words_after after order_after
+    → GoesOnFromAsking core words asking order request core_after words_after after order_after
+taken_goes_on core core_after words words_after asking after order order_after request takes before comes pairs prefix leads =
     let progress : Progress = record { machine = (advance before).machine; asks = Some request } in
     let run : Run = record { world = leads.world; machines = progress ∷ [] } in
     let asked : at_rest before ≡ progress = at_rest_asks before request comes.was_running comes.asks in
     let stepped = world_step leads.world request in
-    let answered = stands_after takes.given core_after stepped takes.is_given (takes.answers leads.world leads.stands) in
+    let answered = stands_after takes.given core_after words_after stepped takes.is_given (takes.answers leads.world leads.stands leads.has_words) in
     let machine_is : resumed (advance before).machine stepped.reply ≡ after =
     ap (resumed (advance before).machine) answered.0 ∙ ap (λ (m : Machine). resumed m takes.given) (sym comes.machine) ∙ sym takes.machine_is in
     record {
       world = stepped.world;
       stands = answered.1;
+      has_words = answered.2;
       runs = ap (λ o. run_from o (start pairs prefix)) takes.order_is
           ∙ run_from-append order (0 ∷ []) (start pairs prefix)
           ∙ ap (option_and_then (run_from (0 ∷ []))) leads.runs

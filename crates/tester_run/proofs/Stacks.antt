@@ -1,5 +1,5 @@
 -- The lines of a stack, one item after the other.
-use Rattle.std.proofs.Common.{ℕ, List, [], ◌∷◌, drop}
+use Rattle.std.proofs.Common.{ℕ, List, drop}
 use Rattle.std.specs.List.{flat_map, enumerate_from}
 use Rattle.fdb_tuple.specs.Tuples.{End}
 use Rattle.fdb_tuple.specs.Listed.{before}

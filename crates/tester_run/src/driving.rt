@@ -11,6 +11,7 @@ ghost use Rattle.tester_run.specs.Driving.{GoesOn, GoesOnFromAsking, IsNearerTha
 use client_core::Core;
 use dump_text::Order;
 use fdb_calls::{Reply, Request};
+use outside::Words;
 use stack_machine::{Machine, Step};
 use std::alloc::AllocError;
 
@@ -26,26 +27,36 @@ enum Motion {
 
 /// Runs a machine until it has stopped. Each request that it asks is taken, and is one more place of the
 /// order. It is refused for want of memory alone, and nothing is said of the three then.
-pub fn drive(core: &mut Core, machine: &mut Machine, order: &mut Order) -> Result<(), AllocError>
+pub fn drive<W: Words>(
+    core: &mut Core,
+    words: &mut W,
+    machine: &mut Machine,
+    order: &mut Order,
+) -> Result<(), AllocError>
     requires ready { machine.old.is_out_of_memory ≡ false }
     requires silent { is_awaiting machine.old.machine.state ≡ false }
     requires counted { core.old.applied ≡ length order.old }
-    ensures goes_on { OnOk result (GoesOn core.old machine.old.machine order.old core.new machine.new.machine order.new) }
+    ensures goes_on { OnOk result (GoesOn core.old (W.words words.old) machine.old.machine order.old core.new (W.words words.new) machine.new.machine order.new) }
     ensures stopped { OnOk result (has_stopped machine.new.machine.state ≡ true) }
 {
     loop {
-        if let Motion::Stopped = turn(core, machine, order)? {
+        if let Motion::Stopped = turn(core, words, machine, order)? {
             return Ok(());
         }
     }
 }
 
 // One instruction of the machine, with the request that it asks.
-fn turn(core: &mut Core, machine: &mut Machine, order: &mut Order) -> Result<Motion, AllocError>
+fn turn<W: Words>(
+    core: &mut Core,
+    words: &mut W,
+    machine: &mut Machine,
+    order: &mut Order,
+) -> Result<Motion, AllocError>
     requires ready { machine.old.is_out_of_memory ≡ false }
     requires silent { is_awaiting machine.old.machine.state ≡ false }
     requires counted { core.old.applied ≡ length order.old }
-    ensures goes_on { OnOk result (GoesOn core.old machine.old.machine order.old core.new machine.new.machine order.new) }
+    ensures goes_on { OnOk result (GoesOn core.old (W.words words.old) machine.old.machine order.old core.new (W.words words.new) machine.new.machine order.new) }
     ensures ready { OnOk result (machine.new.is_out_of_memory ≡ false) }
     ensures silent { OnOk result (is_awaiting machine.new.machine.state ≡ false) }
     ensures counted { OnOk result (core.new.applied ≡ length order.new) }
@@ -55,7 +66,7 @@ fn turn(core: &mut Core, machine: &mut Machine, order: &mut Order) -> Result<Mot
     match machine.step(None)? {
         Step::Again => Ok(Motion::GoesOn),
         Step::Ask(request) => {
-            answer(core, machine, order, &request)?;
+            answer(core, words, machine, order, &request)?;
             Ok(Motion::GoesOn)
         }
         Step::Stopped(_) => Ok(Motion::Stopped),
@@ -63,8 +74,9 @@ fn turn(core: &mut Core, machine: &mut Machine, order: &mut Order) -> Result<Mot
 }
 
 // Gives the machine the reply to what it asks.
-fn answer(
+fn answer<W: Words>(
     core: &mut Core,
+    words: &mut W,
     machine: &mut Machine,
     order: &mut Order,
     request: &Request,
@@ -72,18 +84,19 @@ fn answer(
     requires ready { machine.old.is_out_of_memory ≡ false }
     requires awaits { is_awaiting machine.old.machine.state ≡ true }
     requires counted { core.old.applied ≡ length order.old }
-    ensures goes_on { OnOk result (GoesOnFromAsking core.old machine.old.machine order.old request.now core.new machine.new.machine order.new) }
+    ensures goes_on { OnOk result (GoesOnFromAsking core.old (W.words words.old) machine.old.machine order.old request.now core.new (W.words words.new) machine.new.machine order.new) }
     ensures ready { OnOk result (machine.new.is_out_of_memory ≡ false) }
     ensures silent { OnOk result (is_awaiting machine.new.machine.state ≡ false) }
     ensures counted { OnOk result (core.new.applied ≡ length order.new) }
     ensures nearer { OnOk result (IsNearerThanAsking machine.old.machine request.now machine.new.machine) }
 {
-    take(core, machine, order, request)
+    take(core, words, machine, order, request)
 }
 
 // Has the core take the request that the machine asks: one more place of the order.
-fn take(
+fn take<W: Words>(
     core: &mut Core,
+    words: &mut W,
     machine: &mut Machine,
     order: &mut Order,
     request: &Request,
@@ -91,13 +104,13 @@ fn take(
     requires ready { machine.old.is_out_of_memory ≡ false }
     requires awaits { is_awaiting machine.old.machine.state ≡ true }
     requires counted { core.old.applied ≡ length order.old }
-    ensures taken { OnOk result (Takes core.old machine.old.machine order.old request.now core.new machine.new.machine order.new) }
+    ensures taken { OnOk result (Takes core.old (W.words words.old) machine.old.machine order.old request.now core.new (W.words words.new) machine.new.machine order.new) }
     ensures ready { OnOk result (machine.new.is_out_of_memory ≡ false) }
     ensures counted { OnOk result (core.new.applied ≡ length order.new) }
 {
     order.is_short();
     order.push(MACHINE)?;
-    let reply = core.apply(MACHINE, request);
+    let reply = core.apply(MACHINE, request, words);
     hand(machine, &reply)
 }
 

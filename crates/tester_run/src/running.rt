@@ -12,6 +12,7 @@ use client_core::Core;
 use dump_text::Order;
 use fdb_tuple::{Elem, pack_element};
 use key_bytes::{Bytes, Key, Pairs};
+use outside::ListWords;
 use stack_machine::{End, Machine, State};
 use std::alloc::{AllocError, Global};
 
@@ -36,7 +37,8 @@ pub fn run(alloc: Global, prefix: &[u8], pairs: Pairs) -> Result<Rendered, Alloc
     let mut core = Core::load(alloc, pairs)?;
     let mut machine = start(alloc, &core, prefix)?;
     let mut order = Order::new(alloc);
-    drive(&mut core, &mut machine, &mut order)?;
+    let mut words = ListWords::new(alloc, &[])?;
+    drive(&mut core, &mut words, &mut machine, &mut order)?;
     let pairs = core.dump_pairs()?;
     let dump = render(alloc, &machine, &order, &pairs)?;
     let status = status_of(&machine);

@@ -1,5 +1,5 @@
 -- A call does alike to a transaction and to each that it stands for.
-use Rattle.std.proofs.Common.{◌≡◌, ℕ, zero, suc, ◌+◌, ◌≤◌, Bool, true, false, cond, List, [], ◌∷◌, ◌++◌, length, take, Option, Some, None, nat_lt, refl, sym, ap, subst, ◌∙◌, append-nil, length-append, le-ltb, arith}
+use Rattle.std.proofs.Common.{◌≡◌, ℕ, zero, suc, ◌+◌, ◌≤◌, Bool, true, false, cond, List, [], ◌∷◌, ◌++◌, length, take, Option, Some, None, Result, Ok, Err, nat_lt, refl, sym, ap, subst, ◌∙◌, append-nil, length-append, le-ltb, arith}
 use Rattle.std.specs.Prelude.{unwrap_or, if◌then◌else◌, not, ◌&&◌}
 use Rattle.std.specs.FinMap as finite
 use Rattle.database_rules.specs.declared.Code.{Code}
@@ -7,26 +7,22 @@ use Rattle.database_rules.specs.declared.Phase.{Phase}
 use Rattle.database_rules.specs.declared.Phase.TheVariants as phase
 use Rattle.database_rules.specs.declared.AtomicOp.{AtomicOp}
 use Rattle.database_rules.specs.Atomics.{atomic_named}
-use Rattle.database_rules.specs.Databases.{Database, Operation, Set, Clear, ClearRange, Atomic, Commit, History, do_one, do_all, after_commits, at, last}
-use Rattle.database_rules.specs.Transactions.{Transaction, fresh, first_failing, after_phase, key_checks, get_code, set_code, clear_code, clear_range_code, atomic_code, commit_code, is_read_only, is_cancelled, is_tried, is_retryable, grown, bytes_of, size_limit, transaction_too_large, version_in, view, with_version, with_operation, with_phase, cancelled}
-use Rattle.fdb_calls.specs.declared.TxnCall.{TxnCall}
-use Rattle.fdb_calls.specs.declared.TxnCall.TheVariants as call
+use Rattle.database_rules.specs.Databases.{Database, Operation, Set, Clear, ClearRange, Atomic, Commit, History, do_all, after_commits, at, last}
+use Rattle.database_rules.specs.Transactions.{Transaction, fresh, first_failing, after_phase, get_code, set_code, clear_code, clear_range_code, atomic_code, commit_code, is_read_only, is_cancelled, is_tried, is_retryable, grown, bytes_of, size_limit, transaction_too_large, version_in, view, with_version, with_operation, with_phase, cancelled}
+use Rattle.fdb_calls.specs.declared.fault.TrFault.{TrFault}
+use Rattle.fdb_calls.specs.declared.fault.TrFault.TheVariants as fault
 use Rattle.fdb_calls.specs.declared.Reply.{Reply}
 use Rattle.fdb_calls.specs.declared.Reply.TheVariants as reply
-use Rattle.machine_rules.specs.Worlds.{Called, called, answers, refuses, get_by, write_by, atomic_by, committed, commit_allowed, commit_refused, commit_by, reset, error_handled, on_error_by}
+use Rattle.fdb_calls.specs.Answers.{Answered}
+use Rattle.fdb_calls.specs.Calling.{Called, answers, get_by, write_by, atomic_by, commit_allowed, commit_refused, commit_by, reset, error_handled, on_error_by, get_called, set_called, clear_called, clear_range_called, atomic_called, named_atomic_called, commit_called, on_error_called}
 use Rattle.version_store.specs.Versions.{Versions}
-use Rattle.txn_core.specs.declared.txn.Answer.{Answer}
-use Rattle.txn_core.specs.Stands.{SameEdits, StandsFor, Keeps, Answers, Leaves, Does}
+use Rattle.txn_core.specs.declared.answer.Answer.{Answer}
+use Rattle.txn_core.specs.Answering.{Tells}
+use Rattle.txn_core.specs.StandLaws.{stands_itself}
+use Rattle.txn_core.specs.Stands.{StandsFor, Keeps, Answers, Does}
+use Rattle.txn_core.proofs.States.{SameMaps, same_maps, same_more}
 
 -- ---- edits
-
-pub do_all-append : (first second : List Operation) (database : Database) → do_all (first ++ second) database ≡ do_all second (do_all first database)
-do_all-append [] second database = refl
-do_all-append (operation ∷ first) second database = do_all-append first second (do_one operation database)
-
-same_more : (kept operations more : List Operation) → SameEdits kept operations → SameEdits (kept ++ more) (operations ++ more)
-same_more kept operations more same database =
-    do_all-append kept more database ∙ ap (do_all more) (same database) ∙ sym (do_all-append operations more database)
 
 one_more : (operations : List Operation) (operation : Operation) → nat_lt (length (operations ++ operation ∷ [])) 1 ≡ false
 one_more operations operation = le-ltb (length (operations ++ operation ∷ [])) 1 (omega (arith, length-append operations (operation ∷ [])))
@@ -38,7 +34,7 @@ pub SameCommits : List Commit → List Commit → Type 0
 SameCommits [] [] = Unit {0}
 SameCommits [] (other ∷ others) = ⊥
 SameCommits (commit ∷ commits) [] = ⊥
-SameCommits (commit ∷ commits) (other ∷ others) = SameEdits commit.operations other.operations × SameCommits commits others
+SameCommits (commit ∷ commits) (other ∷ others) = SameMaps commit.operations other.operations × SameCommits commits others
 
 same_length : (commits others : List Commit) → SameCommits commits others → length commits ≡ length others
 unfolding SameCommits
@@ -89,42 +85,32 @@ answers_alike answer kept store history made other does alike = record {
   keeps = keeps_alike store history made other alike does.keeps;
 }
 
--- a call that makes no commit leaves the history
-pub does_of : (answer : Answer) (kept : Transaction) (store : Versions) (history : History) (made : Called) → Leaves answer kept made → Keeps store history → Does answer kept store history made
-does_of answer kept store history made leaves keeps = record {
-  reply = leaves.reply;
-  lives = leaves.lives;
-  transaction = leaves.transaction;
-  keeps = subst (λ h. Keeps store h) (sym (ap (λ commits. history ++ commits) leaves.no_commit ∙ append-nil history)) keeps;
-}
-
 answers_of : (kept transaction : Transaction) (given : Reply) → StandsFor kept transaction → Alike (answers kept given) (answers transaction given)
 unfolding SameCommits
 answers_of kept transaction given stands = record { reply = refl; lives = refl; stands = stands; commits = tt }
-
-stands_itself : (transaction : Transaction) → StandsFor transaction transaction
-stands_itself transaction = record { edits = λ database. refl; writes = refl; life = refl; version = refl; size = refl; phase = refl }
 
 -- the version that a read has
 version_alike : (history : History) (kept transaction : Transaction) → StandsFor kept transaction → version_in history kept ≡ version_in history transaction
 version_alike history kept transaction stands = ap (λ v. unwrap_or v (last history)) stands.version
 
-versioned : (history : History) (kept transaction : Transaction) → StandsFor kept transaction → StandsFor (with_version history kept) (with_version history transaction)
+pub versioned : (history : History) (kept transaction : Transaction) → StandsFor kept transaction → StandsFor (with_version history kept) (with_version history transaction)
 versioned history kept transaction stands = record {
   edits = stands.edits;
   writes = stands.writes;
   life = stands.life;
   version = ap (λ v. Some v) (version_alike history kept transaction stands);
+  reads = stands.reads;
   size = stands.size;
   phase = stands.phase;
 }
 
-phased : (now : Phase) (kept transaction : Transaction) → StandsFor kept transaction → StandsFor (with_phase kept now) (with_phase transaction now)
+pub phased : (now : Phase) (kept transaction : Transaction) → StandsFor kept transaction → StandsFor (with_phase kept now) (with_phase transaction now)
 phased now kept transaction stands = record {
   edits = stands.edits;
   writes = stands.writes;
   life = stands.life;
   version = stands.version;
+  reads = stands.reads;
   size = stands.size;
   phase = refl;
 }
@@ -135,6 +121,7 @@ written operation kept transaction stands = record {
   writes = one_more kept.operations operation ∙ sym (one_more transaction.operations operation);
   life = stands.life;
   version = stands.version;
+  reads = stands.reads;
   size = ap (λ n. grown n (bytes_of operation)) stands.size;
   phase = stands.phase;
 }
@@ -143,7 +130,7 @@ written operation kept transaction stands = record {
 view_alike : (history : History) (kept transaction : Transaction) → StandsFor kept transaction → view history kept ≡ view history transaction
 view_alike history kept transaction stands =
     ap (λ v. do_all kept.operations (at history v)) (version_alike history kept transaction stands)
-    ∙ stands.edits (at history (version_in history transaction))
+    ∙ same_maps kept.operations transaction.operations stands.edits (at history (version_in history transaction))
 
 get_alike : (code : Option ℕ) (history : History) (kept transaction : Transaction) (key : List ℕ) → StandsFor kept transaction → Alike (get_by code history kept key) (get_by code history transaction key)
 unfolding SameCommits
@@ -175,7 +162,7 @@ allowed_alike false history kept transaction stands = record {
   reply = refl;
   lives = refl;
   stands = phased _ _ _ (versioned history kept transaction stands);
-  commits = (stands.edits, tt);
+  commits = (same_maps kept.operations transaction.operations stands.edits, tt);
 }
 
 commit_alike : (code : Option ℕ) (history : History) (kept transaction : Transaction) → StandsFor kept transaction → Alike (commit_by code history kept) (commit_by code history transaction)
@@ -188,7 +175,7 @@ reset_alike : (life : ℕ) → Alike (reset life) (reset life)
 unfolding SameCommits
 reset_alike life = record { reply = refl; lives = refl; stands = stands_itself (fresh life); commits = tt }
 
-commit_code_alike : (kept transaction : Transaction) → StandsFor kept transaction → commit_code kept ≡ commit_code transaction
+pub commit_code_alike : (kept transaction : Transaction) → StandsFor kept transaction → commit_code kept ≡ commit_code transaction
 unfolding commit_code
 commit_code_alike kept transaction stands =
     λ i. first_failing (after_phase (stands.phase i) ((not (stands.writes i) && nat_lt size_limit (stands.size i), transaction_too_large) ∷ []))
@@ -202,41 +189,103 @@ on_error_alike : (is_cancelled : Bool) (life : ℕ) (kept transaction : Transact
 on_error_alike true life kept transaction code stands = answers_of kept transaction _ stands
 on_error_alike false life kept transaction code stands = handled_alike (is_retryable code.0) life kept transaction code stands
 
-cancel_alike : (kept transaction : Transaction) → StandsFor kept transaction → StandsFor (cancelled kept) (cancelled transaction)
+pub cancel_alike : (kept transaction : Transaction) → StandsFor kept transaction → StandsFor (cancelled kept) (cancelled transaction)
 cancel_alike kept transaction stands =
     let P : Bool → Bool → Type 0 = λ a b. StandsFor (if a then kept else with_phase kept phase.Cancelled) (if b then transaction else with_phase transaction phase.Cancelled) in
     subst (P (is_tried kept.phase)) (ap is_tried stands.phase) (elim (is_tried kept.phase) as (λ b. P b b) [ true ↦ stands | false ↦ phased phase.Cancelled kept transaction stands ])
 
--- a call does alike to both
-pub called_alike : (history : History) (life : ℕ) (kept transaction : Transaction) (given : TxnCall) → StandsFor kept transaction → Alike (called history life kept given) (called history life transaction given)
-unfolding called get_code set_code clear_code clear_range_code atomic_code commit_code
-called_alike history life kept transaction (call.Get key snapshot) stands =
-    subst (λ now. Alike (get_by (get_code kept key) history kept key) (get_by (get_code (with_phase transaction now) key) history transaction key)) stands.phase (get_alike (get_code kept key) history kept transaction key stands)
-called_alike history life kept transaction (call.Set key value) stands =
-    subst (λ now. Alike (write_by (set_code kept key value) kept (Set key value)) (write_by (set_code (with_phase transaction now) key value) transaction (Set key value))) stands.phase (write_alike (set_code kept key value) kept transaction (Set key value) stands)
-called_alike history life kept transaction (call.Clear key) stands =
-    subst (λ now. Alike (write_by (clear_code kept key) kept (Clear key)) (write_by (clear_code (with_phase transaction now) key) transaction (Clear key))) stands.phase (write_alike (clear_code kept key) kept transaction (Clear key) stands)
-called_alike history life kept transaction (call.ClearRange range) stands =
-    subst (λ now. Alike (write_by (clear_range_code kept range.begin range.end) kept (ClearRange range.begin range.end)) (write_by (clear_range_code (with_phase transaction now) range.begin range.end) transaction (ClearRange range.begin range.end))) stands.phase
-    (write_alike (clear_range_code kept range.begin range.end) kept transaction (ClearRange range.begin range.end) stands)
-called_alike history life kept transaction (call.Atomic name key operand) stands =
-    subst (λ now. Alike (atomic_by (atomic_code kept name key operand) (atomic_named name) kept key operand) (atomic_by (atomic_code (with_phase transaction now) name key operand) (atomic_named name) transaction key operand)) stands.phase
+-- ---- each call
+
+pub get_called_alike : (history : History) (kept transaction : Transaction) (key : List ℕ) → StandsFor kept transaction → Alike (get_called history kept key) (get_called history transaction key)
+unfolding get_code
+get_called_alike history kept transaction key stands =
+    subst (λ now. Alike (get_called history kept key) (get_by (get_code (with_phase transaction now) key) history transaction key)) stands.phase (get_alike (get_code kept key) history kept transaction key stands)
+
+pub set_called_alike : (kept transaction : Transaction) (key value : List ℕ) → StandsFor kept transaction → Alike (set_called kept key value) (set_called transaction key value)
+unfolding set_code
+set_called_alike kept transaction key value stands =
+    subst (λ now. Alike (set_called kept key value) (write_by (set_code (with_phase transaction now) key value) transaction (Set key value))) stands.phase (write_alike (set_code kept key value) kept transaction (Set key value) stands)
+
+pub clear_called_alike : (kept transaction : Transaction) (key : List ℕ) → StandsFor kept transaction → Alike (clear_called kept key) (clear_called transaction key)
+unfolding clear_code
+clear_called_alike kept transaction key stands =
+    subst (λ now. Alike (clear_called kept key) (write_by (clear_code (with_phase transaction now) key) transaction (Clear key))) stands.phase (write_alike (clear_code kept key) kept transaction (Clear key) stands)
+
+pub clear_range_called_alike : (kept transaction : Transaction) (begin end : List ℕ) → StandsFor kept transaction → Alike (clear_range_called kept begin end) (clear_range_called transaction begin end)
+unfolding clear_range_code
+clear_range_called_alike kept transaction begin end stands =
+    subst (λ now. Alike (clear_range_called kept begin end) (write_by (clear_range_code (with_phase transaction now) begin end) transaction (ClearRange begin end))) stands.phase
+    (write_alike (clear_range_code kept begin end) kept transaction (ClearRange begin end) stands)
+
+pub atomic_called_alike : (kept transaction : Transaction) (op : AtomicOp) (key operand : List ℕ) → StandsFor kept transaction → Alike (atomic_called kept op key operand) (atomic_called transaction op key operand)
+unfolding set_code
+atomic_called_alike kept transaction op key operand stands =
+    subst (λ now. Alike (atomic_called kept op key operand) (write_by (set_code (with_phase transaction now) key operand) transaction (Atomic op key operand))) stands.phase
+    (write_alike (set_code kept key operand) kept transaction (Atomic op key operand) stands)
+
+pub named_atomic_called_alike : (kept transaction : Transaction) (name key operand : List ℕ) → StandsFor kept transaction → Alike (named_atomic_called kept name key operand) (named_atomic_called transaction name key operand)
+unfolding atomic_code
+named_atomic_called_alike kept transaction name key operand stands =
+    subst (λ now. Alike (named_atomic_called kept name key operand) (atomic_by (atomic_code (with_phase transaction now) name key operand) (atomic_named name) transaction key operand)) stands.phase
     (atomic_alike (atomic_code kept name key operand) (atomic_named name) kept transaction key operand stands)
-called_alike history life kept transaction call.Commit stands =
-    subst (λ code. Alike (commit_by (commit_code kept) history kept) (commit_by code history transaction)) (commit_code_alike kept transaction stands) (commit_alike (commit_code kept) history kept transaction stands)
-called_alike history life kept transaction (call.OnError code) stands =
-    subst (λ now. Alike (on_error_by (is_cancelled kept.phase) life kept code) (on_error_by (is_cancelled now) life transaction code)) stands.phase (on_error_alike (is_cancelled kept.phase) life kept transaction code stands)
-called_alike history life kept transaction call.Reset stands = reset_alike life
-called_alike history life kept transaction call.Cancel stands = answers_of _ _ _ (cancel_alike kept transaction stands)
 
--- what was done for the transaction of the code is done for each that it stands for
-pub answered : (answer : Answer) (new : Transaction) (store : Versions) (life : ℕ) (kept : Transaction) (given : TxnCall) (history : History) (made : Called) → called history life kept given ≡ made
-    → Does answer new store history made → (transaction : Transaction) → StandsFor kept transaction → Answers answer new store history (called history life transaction given)
-answered answer new store life kept given history made is does transaction stands =
-    answers_alike answer new store history made (called history life transaction given) does (subst (λ m. Alike m (called history life transaction given)) is (called_alike history life kept transaction given stands))
+pub commit_called_alike : (history : History) (kept transaction : Transaction) → StandsFor kept transaction → Alike (commit_called history kept) (commit_called history transaction)
+commit_called_alike history kept transaction stands =
+    subst (λ code. Alike (commit_called history kept) (commit_by code history transaction)) (commit_code_alike kept transaction stands) (commit_alike (commit_code kept) history kept transaction stands)
 
--- the same of a call that makes no commit
-pub answered_in_place : (answer : Answer) (new : Transaction) (store : Versions) (life : ℕ) (kept : Transaction) (given : TxnCall) (history : History) (made : Called) → called history life kept given ≡ made
-    → Leaves answer new made → (transaction : Transaction) → StandsFor kept transaction → Keeps store history → Answers answer new store history (called history life transaction given)
-answered_in_place answer new store life kept given history made is leaves transaction stands keeps =
-    answered answer new store life kept given history made is (does_of answer new store history made leaves keeps) transaction stands
+pub on_error_called_alike : (life : ℕ) (kept transaction : Transaction) (code : Code) → StandsFor kept transaction → Alike (on_error_called life kept code) (on_error_called life transaction code)
+on_error_called_alike life kept transaction code stands =
+    subst (λ now. Alike (on_error_called life kept code) (on_error_by (is_cancelled now) life transaction code)) stands.phase (on_error_alike (is_cancelled kept.phase) life kept transaction code stands)
+
+-- ---- answers
+
+-- a call that was answered exactly for the transaction of the code is answered for each that it stands for
+pub answered_alike : {A : Type 0} (replied : A → Reply) (result : Result A TrFault) (new kept transaction : Transaction) (store : Versions) (history : History) (made other : Called)
+    → Alike made other → StandsFor kept transaction → Keeps store history → Answered replied result (λ t. new ≡ t) kept made → Answered replied result (λ t. StandsFor new t × Keeps store history) transaction other
+answered_alike replied (Ok value) new kept transaction store history made other alike stands keeps told =
+    (told.0 ∙ alike.reply, (subst (λ t. StandsFor t other.transaction) (sym told.1) alike.stands, keeps))
+answered_alike replied (Err (fault.Code code)) new kept transaction store history made other alike stands keeps told =
+    (told.0 ∙ alike.reply, (subst (λ t. StandsFor t other.transaction) (sym told.1) alike.stands, keeps))
+answered_alike replied (Err fault.NoMemory) new kept transaction store history made other alike stands keeps told =
+    (subst (λ t. StandsFor t transaction) (sym told) stands, keeps)
+
+-- the call makes no commit, and draws no life
+pub record IsInPlace (called : Called) : Type 0 where
+  pub commits : called.commits ≡ []
+  pub lives : called.lives ≡ 0
+
+pub get_in_place : (history : History) (transaction : Transaction) (key : List ℕ) → IsInPlace (get_called history transaction key)
+get_in_place history transaction key = by (get_code transaction key)
+  where
+    by : (code : Option ℕ) → IsInPlace (get_by code history transaction key)
+    by (Some code) = record { commits = refl; lives = refl }
+    by None = record { commits = refl; lives = refl }
+
+pub write_in_place : (code : Option ℕ) (transaction : Transaction) (operation : Operation) → IsInPlace (write_by code transaction operation)
+write_in_place (Some code) transaction operation = record { commits = refl; lives = refl }
+write_in_place None transaction operation = record { commits = refl; lives = refl }
+
+pub atomic_in_place : (transaction : Transaction) (name key operand : List ℕ) → IsInPlace (named_atomic_called transaction name key operand)
+atomic_in_place transaction name key operand = by (atomic_code transaction name key operand) (atomic_named name)
+  where
+    by : (code : Option ℕ) (op : Option AtomicOp) → IsInPlace (atomic_by code op transaction key operand)
+    by code None = record { commits = refl; lives = refl }
+    by code (Some op) = write_in_place code transaction (Atomic op key operand)
+
+in_place_does : (answer : Answer) (new : Transaction) (store : Versions) (history : History) (made : Called) → IsInPlace made → Keeps store history
+    → answer.reply ≡ made.reply → answer.drew_life ≡ false → new ≡ made.transaction → Does answer new store history made
+in_place_does answer new store history made place keeps replied lives left = record {
+  reply = replied;
+  lives = ap (λ b. cond b 1 0) lives ∙ sym place.lives;
+  transaction = left;
+  keeps = subst (λ h. Keeps store h) (sym (ap (λ commits. history ++ commits) place.commits ∙ append-nil history)) keeps;
+}
+
+-- the answer that tells of an exact result is one of each transaction for which the one of the code stands
+pub answers_told : {A : Type 0} (replied : A → Reply) (result : Result A TrFault) (answer : Answer) (new kept : Transaction) (store : Versions) (history : History) (made other : Called)
+    → IsInPlace made → Alike made other → Keeps store history → Answered replied result (λ t. new ≡ t) kept made → Tells replied result answer → Answers answer new store history other
+answers_told replied (Ok value) answer new kept store history made other place alike keeps told tells =
+    answers_alike answer new store history made other (in_place_does answer new store history made place keeps (tells.0 ∙ told.0) tells.1 told.1) alike
+answers_told replied (Err (fault.Code code)) answer new kept store history made other place alike keeps told tells =
+    answers_alike answer new store history made other (in_place_does answer new store history made place keeps (tells.0 ∙ told.0) tells.1 told.1) alike
+answers_told replied (Err fault.NoMemory) answer new kept store history made other place alike keeps told tells = absurd tells

@@ -5,3 +5,6 @@ pub mod Firsts
 pub mod Orders
 pub mod Stored
 pub mod Touched
+pub mod States
+pub mod Judging
+pub mod Modified

@@ -1,19 +1,18 @@
 -- What a store has, for a history that it keeps.
-use Rattle.std.proofs.Common.{◌≡◌, ℕ, ◌+◌, ◌≤◌, ◌<◌, ◌⊎◌, inl, inr, List, [], ◌∷◌, ◌++◌, Option, None, false, cond, length, length-append, min, take, refl, sym, ap, subst, ◌∙◌, arith}
+use Rattle.std.proofs.Common.{◌≡◌, ℕ, ◌+◌, ◌≤◌, ◌<◌, ◌⊎◌, inl, inr, List, [], ◌∷◌, ◌++◌, Option, None, length-append, min, refl, sym, ap, ◌∙◌, arith}
 use Rattle.std.specs.FinMap as finite
 use Rattle.std.proofs.lemmas.Bool.{cases_lt}
 use Rattle.std.proofs.lemmas.List.{take_min, take_all, take-append-le}
 use Rattle.database_rules.specs.Databases.{Database, Commit, History, do_all, after_commits, at, last}
-use Rattle.fdb_calls.specs.declared.Reply.TheVariants as reply
-use Rattle.machine_rules.specs.Worlds.{get_by}
 use Rattle.version_store.specs.declared.fault.VersionFault.{VersionFault}
 use Rattle.version_store.specs.declared.fault.VersionFault.TheVariants.{TooOld, Future}
 use Rattle.version_store.specs.Versions.{Versions, last_of, oldest_of, IsFaultAt}
 use Rattle.version_store.specs.Versions as versions
-use Rattle.database_rules.specs.Transactions.{Transaction, version_in, view, with_version}
+use Rattle.database_rules.specs.Transactions.{Transaction, get_code, version_in, view, with_version}
+use Rattle.fdb_calls.specs.declared.Reply.TheVariants as reply
+use Rattle.fdb_calls.specs.Calling.{get_by, get_called}
 use Rattle.txn_core.specs.KeyByKey.{at_keys}
-use Rattle.txn_core.specs.declared.txn.Answer.{Answer}
-use Rattle.txn_core.specs.Stands.{Keeps, Leaves}
+use Rattle.txn_core.specs.Stands.{Keeps}
 use Rattle.txn_core.proofs.KeyByKey.{get-do_all}
 
 -- each version up to the last can be read
@@ -40,16 +39,6 @@ seen_is_view store history kept version key value keeps taken value_is =
     value_is
     ∙ ap (λ m. at_keys kept.operations key (finite.get m key)) (keeps_at store history version keeps ∙ ap (at history) taken)
     ∙ sym (get-do_all kept.operations (at history (version_in history kept)) key)
-
--- a read that is not refused answers what the transaction sees, and takes the version
-pub read_leaves : (answer : Answer) (kept new : Transaction) (history : History) (key : List ℕ) (code : Option ℕ) (value : Option (List ℕ)) → None ≡ code
-    → answer.reply ≡ reply.Value value → answer.drew_life ≡ false → value ≡ finite.get (view history kept) key → new ≡ with_version history kept → Leaves answer new (get_by code history kept key)
-read_leaves answer kept new history key code value accepted replied lives seen taken = subst (λ code. Leaves answer new (get_by code history kept key)) accepted (record {
-  reply = replied ∙ ap reply.Value seen;
-  lives = ap (λ b. cond b 1 0) lives;
-  transaction = taken;
-  no_commit = refl;
-})
 
 -- a store that reads as before keeps what it kept
 pub keeps_same : (old new : Versions) (history : History) → Keeps old history → last_of new ≡ last_of old → ((version : ℕ) → versions.at new version ≡ versions.at old version) → Keeps new history
@@ -89,3 +78,8 @@ keeps_next old new history commit keeps next before after = record {
         ∙ sym (at_next history commit) ∙ ap (at (history ++ commit ∷ [])) (sym is)
     by version (inr earlier) le =
         before version (omega (arith, keeps.last_is)) ∙ keeps.at_is version earlier ∙ sym (at_earlier history commit version earlier)
+
+-- a read that is not refused answers what the transaction sees, and takes the version
+pub read_called : (history : History) (kept : Transaction) (key : List ℕ) → None ≡ get_code kept key
+    → ((get_called history kept key).reply ≡ reply.Value (finite.get (view history kept) key)) × ((get_called history kept key).transaction ≡ with_version history kept)
+read_called history kept key accepted = (ap (λ code. (get_by code history kept key).reply) (sym accepted), ap (λ code. (get_by code history kept key).transaction) (sym accepted))

@@ -12,7 +12,7 @@ use Rattle.std.specs.declared.cmp.Ordering.TheVariants.{Less, Equal, Greater}
 use Rattle.database_rules.specs.declared.AtomicOp.{AtomicOp}
 use Rattle.database_rules.specs.Atomics.{atom, is_versionstamped}
 use Rattle.database_rules.specs.Databases.{Database, Atomic}
-use Rattle.key_bytes.specs.Keys.{key_cmp, key_lt, key_le, after, within}
+use Rattle.key_bytes.specs.Keys.{key_cmp, key_lt, after, within}
 use Rattle.key_bytes.specs.SuccessorLaws.{irreflexive}
 use Rattle.txn_core.specs.KeyByKey.{at_key}
 use Rattle.txn_core.specs.Touched.{Touched, stands_at, IsNextInside, HasNoneInside}
@@ -31,6 +31,10 @@ pub stands_at-touch : (touched : Touched) (database : Database) (key : List ℕ)
 stands_at-touch touched database key value q =
     ap (λ o. unwrap_or o (finite.get database q)) (get-touch touched key value q)
     ∙ elim (bytes_eq q key) as (λ b. unwrap_or (cond b (Some value) (finite.get touched q)) (finite.get database q) ≡ cond b value (stands_at touched database q)) [ true ↦ refl | false ↦ refl ]
+
+-- other keys are touched as before
+pub get-others : (touched : Touched) (key : List ℕ) (value : Option (List ℕ)) (q : List ℕ) → bytes_eq q key ≡ false → finite.get (finite.insert touched key value) q ≡ finite.get touched q
+get-others touched key value q other = get-touch touched key value q ∙ ap (λ b. cond b (Some value) (finite.get touched q)) other
 
 -- an atomic operation is done on what stands at its key
 pub stands_at-atomic : (op : AtomicOp) (touched : Touched) (database : Database) (key operand : List ℕ) (value : Option (List ℕ)) → value ≡ atom op (stands_at touched database key) operand
@@ -54,6 +58,7 @@ pub record IsCleared (database : Database) (before touched : Touched) (begin end
   pub outside : (q : List ℕ) → within begin end q ≡ false → stands_at touched database q ≡ stands_at before database q
   pub done : (q : List ℕ) → within begin end q ≡ true → key_lt q from ≡ true → stands_at touched database q ≡ None
   pub left : (q : List ℕ) → within begin end q ≡ true → key_lt q from ≡ false → finite.get touched q ≡ None
+  pub others : (q : List ℕ) → within begin end q ≡ false → finite.get touched q ≡ finite.get before q
 
 low_of : (begin end q : List ℕ) → within begin end q ≡ true → key_lt q begin ≡ false
 low_of begin end q h = by (key_lt q begin) h
@@ -75,6 +80,7 @@ cleared_first database touched begin end = record {
   outside = λ q out. ap (λ o. unwrap_or o (finite.get database q)) (kept q ∙ ap (λ b. cond (not b) (finite.get touched q) None) out);
   done = λ q inside below. absurd (true≢false (sym below ∙ low_of begin end q inside));
   left = λ q inside above. kept q ∙ ap (λ b. cond (not b) (finite.get touched q) None) inside;
+  others = λ q out. kept q ∙ ap (λ b. cond (not b) (finite.get touched q) None) out;
 }
   where
     kept : (q : List ℕ) → finite.get (finite.retain_keys touched (λ k. not (within begin end k))) q ≡ cond (not (within begin end q)) (finite.get touched q) None
@@ -108,6 +114,12 @@ module _ (database : Database) (before touched : Touched) (begin end from key : 
   outside_more q out = stands_at-touch touched database key None q ∙ elim (bytes_eq q key) as (λ b. bytes_eq q key ≡ b → cond b None (stands_at touched database q) ≡ stands_at before database q) [
     | true ↦ λ same. absurd (true≢false (sym key_inside ∙ ap (within begin end) (sym (same_text q key (sym same))) ∙ out))
     | false ↦ λ other. cleared.outside q out
+  ] refl
+
+  others_more : (q : List ℕ) → within begin end q ≡ false → finite.get after_key q ≡ finite.get before q
+  others_more q out = get-touch touched key None q ∙ elim (bytes_eq q key) as (λ b. bytes_eq q key ≡ b → cond b (Some None) (finite.get touched q) ≡ finite.get before q) [
+    | true ↦ λ same. absurd (true≢false (sym key_inside ∙ ap (within begin end) (sym (same_text q key (sym same))) ∙ out))
+    | false ↦ λ other. cleared.others q out
   ] refl
 
   passed : (q : List ℕ) → within begin end q ≡ true → bytes_eq q key ≡ false → key_lt key q ≡ false → stands_at touched database q ≡ None
@@ -151,7 +163,7 @@ module _ (database : Database) (before touched : Touched) (begin end from key : 
 
   -- the key is touched, and has no value
   pub cleared_more : IsCleared database before after_key begin end (after key)
-  cleared_more = record { begins = after_begins; outside = outside_more; done = done_more; left = left_more }
+  cleared_more = record { begins = after_begins; outside = outside_more; done = done_more; left = left_more; others = others_more }
 
 -- the whole range is cleared, once no key of it is left in the map
 pub cleared_all : (database : Database) (before touched : Touched) (begin end from : List ℕ) → IsCleared database before touched begin end from → HasNoneInside database from end

@@ -1,15 +1,9 @@
 -- What operations make of the value of one key.
-use Rattle.std.specs.Prelude.{ℕ, Bool, if◌then◌else◌, List, [], ◌∷◌, Option, Some, None, bytes_eq}
-use Rattle.key_bytes.specs.Keys.{within}
-use Rattle.database_rules.specs.Atomics.{atom}
+use Rattle.std.specs.Prelude.{ℕ, Bool, true, not, ◌&&◌, if◌then◌else◌, List, [], ◌∷◌, Option, Some, None}
+use Rattle.std.specs.List.{list_any}
+use Rattle.database_rules.specs.Atomics.{atom, is_versionstamped}
 use Rattle.database_rules.specs.Databases.{Operation, Set, Clear, ClearRange, Atomic}
-
--- an operation may change the value of this key
-abbrev pub touches : Operation → List ℕ → Bool
-touches (Set key value) asked = bytes_eq asked key
-touches (Clear key) asked = bytes_eq asked key
-touches (ClearRange begin end) asked = within begin end asked
-touches (Atomic op key operand) asked = bytes_eq asked key
+use Rattle.database_rules.specs.States.{touches}
 
 -- what it makes of the value of a key that it touches
 abbrev pub made_of : Operation → Option (List ℕ) → Option (List ℕ)
@@ -25,3 +19,18 @@ at_key operation asked old = if touches operation asked then made_of operation o
 abbrev pub at_keys : List Operation → List ℕ → Option (List ℕ) → Option (List ℕ)
 at_keys [] asked old = old
 at_keys (operation ∷ operations) asked old = at_keys operations asked (at_key operation asked old)
+
+-- it has no versionstamp, which would leave the key as it is
+abbrev pub is_plain : Operation → Bool
+is_plain (Set key value) = true
+is_plain (Clear key) = true
+is_plain (ClearRange begin end) = true
+is_plain (Atomic op key operand) = not (is_versionstamped op)
+
+-- it changes the state of the key
+abbrev pub modifies : List ℕ → Operation → Bool
+modifies asked operation = touches operation asked && is_plain operation
+
+-- some operation changes the state of the key
+abbrev pub is_modified_by : List Operation → List ℕ → Bool
+is_modified_by operations asked = list_any (modifies asked) operations

@@ -1,25 +1,30 @@
 -- What a transaction of the code, and a store, stand for.
-use Rattle.std.specs.Prelude.{◌≡◌, ℕ, ◌≤◌, Bool, List, [], ◌++◌, if◌then◌else◌}
+use Rattle.std.specs.Prelude.{◌≡◌, ℕ, ◌≤◌, List, ◌++◌, length, if◌then◌else◌}
 use Rattle.database_rules.specs.declared.Code.{Code}
-use Rattle.fdb_calls.specs.declared.Reply.{Reply}
-use Rattle.database_rules.specs.Databases.{Database, Operation, History, do_all, at, last}
+use Rattle.database_rules.specs.Databases.{Operation, History, at, last}
+use Rattle.database_rules.specs.States.{covers, state_under, all_filled, unreadable}
 use Rattle.database_rules.specs.Transactions.{Transaction, is_read_only}
-use Rattle.machine_rules.specs.Worlds.{Called}
+use Rattle.fdb_calls.specs.Calling.{Called}
 use Rattle.version_store.specs.Versions.{Versions, last_of}
 use Rattle.version_store.specs.Versions as versions
-use Rattle.txn_core.specs.declared.txn.Answer.{Answer}
+use Rattle.txn_core.specs.declared.answer.Answer.{Answer}
 
--- two lists of operations lead from each map to the same map
-abbrev pub SameEdits : List Operation → List Operation → Type 0
-SameEdits kept operations = (database : Database) → do_all kept database ≡ do_all operations database
+-- Two lists of operations agree: the same keys are unreadable under both, and each key has the same state under both,
+-- those with a versionstamp left out, and with any one versionstamp filled in.
+pub record SameEdits (kept operations : List Operation) : Type 0 where
+  pub unreadable_same : (key : List ℕ) → covers (unreadable kept) key ≡ covers (unreadable operations) key
+  pub state_same : (key : List ℕ) → state_under kept key ≡ state_under operations key
+  pub filled_same : (stamp key : List ℕ) → length stamp ≡ 10 → state_under (all_filled stamp kept) key ≡ state_under (all_filled stamp operations) key
 
--- A transaction of the code stands for each one that its edits and its fields agree with: the edits act alike on every
--- map, it had an operation in this life exactly where the other had one, and all else is the same.
+-- A transaction of the code stands for each one that its edits and its fields agree with: the edits agree, it had an
+-- operation in this life exactly where the other had one, and its other fields are the same; ranges are read by which
+-- keys they have.
 pub record StandsFor (kept transaction : Transaction) : Type 0 where
   pub edits : SameEdits kept.operations transaction.operations
   pub writes : is_read_only kept ≡ is_read_only transaction
   pub life : kept.life ≡ transaction.life
   pub version : kept.version ≡ transaction.version
+  pub reads : (key : List ℕ) → covers kept.read_ranges key ≡ covers transaction.read_ranges key
   pub size : kept.size ≡ transaction.size
   pub phase : kept.phase ≡ transaction.phase
 
@@ -38,14 +43,7 @@ pub record Answers (answer : Answer) (kept : Transaction) (store : Versions) (hi
 abbrev pub number_of : Code → ℕ
 number_of code = code.0
 
--- a call was answered and left the transaction as is said, and made no commit
-pub record Leaves (answer : Answer) (kept : Transaction) (called : Called) : Type 0 where
-  pub reply : answer.reply ≡ called.reply
-  pub lives : (if answer.drew_life then 1 else 0) ≡ called.lives
-  pub transaction : kept ≡ called.transaction
-  pub no_commit : called.commits ≡ []
-
--- a call was answered and left the transaction as is said, and the store stands for the history that it left
+-- a commit was answered and left the transaction as is said, and the store stands for the history that it left
 pub record Does (answer : Answer) (kept : Transaction) (store : Versions) (history : History) (called : Called) : Type 0 where
   pub reply : answer.reply ≡ called.reply
   pub lives : (if answer.drew_life then 1 else 0) ≡ called.lives

@@ -7,7 +7,7 @@ ghost use Rattle.txn_core.specs.Stands.{number_of};
 
 use crate::txn::Txn;
 use database_rules::{AtomicOp, Code, Phase};
-use key_bytes::{Bytes, Key, KeyRange, is_below};
+use key_bytes::{KeyRange, is_below};
 
 pub(crate) const TRANSACTION_CANCELLED: u16 = 1025;
 
@@ -46,10 +46,10 @@ fn phase_code(phase: Phase) -> Option<Code>
 }
 
 // The code of a key and a value that can't be written.
-fn key_code(key: &Key, value: &Bytes) -> Option<Code>
+fn key_code(key: &[u8], value: &[u8]) -> Option<Code>
     ensures { option_map number_of result ≡ rules.first_failing (rules.key_checks key.now value.now) }
 {
-    if !is_below(key.as_slice(), &[0xff]) {
+    if !is_below(key, &[0xff]) {
         Some(Code(KEY_OUTSIDE_LEGAL_RANGE))
     } else if KEY_LIMIT < key.len() {
         Some(Code(KEY_TOO_LARGE))
@@ -63,12 +63,12 @@ fn key_code(key: &Key, value: &Bytes) -> Option<Code>
 impl Txn {
     /// The code of the first check of a read of `key` that fails. It takes no memory.
     #[tactic(auto, unfolding(database_rules::specs::Transactions::get_code))]
-    pub(crate) fn get_code(&self, key: &Key) -> Option<Code>
+    pub(crate) fn get_code(&self, key: &[u8]) -> Option<Code>
         ensures { option_map number_of result ≡ rules.get_code self.now key.now }
     {
         if let Some(code) = phase_code(self.phase) {
             Some(code)
-        } else if !is_below(key.as_slice(), &[0xff]) {
+        } else if !is_below(key, &[0xff]) {
             Some(Code(KEY_OUTSIDE_LEGAL_RANGE))
         } else {
             None
@@ -77,7 +77,7 @@ impl Txn {
 
     /// The code of the first check of a set that fails. It takes no memory.
     #[tactic(auto, unfolding(database_rules::specs::Transactions::set_code))]
-    pub(crate) fn set_code(&self, key: &Key, value: &Bytes) -> Option<Code>
+    pub(crate) fn set_code(&self, key: &[u8], value: &[u8]) -> Option<Code>
         ensures { option_map number_of result ≡ rules.set_code self.now key.now value.now }
     {
         if let Some(code) = phase_code(self.phase) {
@@ -89,12 +89,12 @@ impl Txn {
 
     /// The code of the first check of a clear that fails. It takes no memory.
     #[tactic(auto, unfolding(database_rules::specs::Transactions::clear_code))]
-    pub(crate) fn clear_code(&self, key: &Key) -> Option<Code>
+    pub(crate) fn clear_code(&self, key: &[u8]) -> Option<Code>
         ensures { option_map number_of result ≡ rules.clear_code self.now key.now }
     {
         if let Some(code) = phase_code(self.phase) {
             Some(code)
-        } else if !is_below(key.as_slice(), &[0xff]) {
+        } else if !is_below(key, &[0xff]) {
             Some(Code(KEY_OUTSIDE_LEGAL_RANGE))
         } else {
             None
@@ -123,9 +123,9 @@ impl Txn {
     #[tactic(auto, unfolding(database_rules::specs::Transactions::atomic_code))]
     pub(crate) fn atomic_op(
         &self,
-        name: &Bytes,
-        key: &Key,
-        operand: &Bytes,
+        name: &[u8],
+        key: &[u8],
+        operand: &[u8],
     ) -> Result<AtomicOp, Code>
         ensures op { IfOk result (λ op. atomic_named name.now ≡ Some op) }
         ensures ok { OnOk result (rules.atomic_code self.now name.now key.now operand.now ≡ None) }
@@ -134,7 +134,7 @@ impl Txn {
         if let Some(code) = phase_code(self.phase) {
             return Err(code);
         }
-        let op = atomic_ops::from_name(name.as_slice()).ok_or(Code(INVALID_MUTATION_TYPE))?;
+        let op = atomic_ops::from_name(name).ok_or(Code(INVALID_MUTATION_TYPE))?;
         match key_code(key, operand) {
             Some(code) => Err(code),
             None => Ok(op),

@@ -4,7 +4,7 @@ ghost use Rattle.std.specs.Prelude.{◌≡◌};
 ghost use Rattle.database_rules.specs.Atomics.{is_versionstamped};
 ghost use Rattle.database_rules.specs.Transactions as rules;
 ghost use Rattle.txn_core.specs.Edits.{operation_of};
-ghost use Rattle.txn_core.specs.KeyByKey.{touches};
+ghost use Rattle.database_rules.specs.States.{touches};
 
 use database_rules::AtomicOp;
 use key_bytes::{Bytes, Key, KeyRange};

@@ -2,14 +2,13 @@
 
 ghost use Rattle.std.specs.Prelude.{◌≡◌};
 ghost use Rattle.database_rules.specs.Transactions as rules;
-ghost use Rattle.machine_rules.specs.Worlds as worlds;
-ghost use Rattle.fdb_calls.specs.declared.Reply.TheVariants as reply;
-ghost use Rattle.txn_core.specs.Stands.{Leaves};
+ghost use Rattle.fdb_calls.specs.Calling.{on_error_called};
+ghost use Rattle.txn_core.specs.Judging.{Handled};
+ghost use Rattle.txn_core.specs.Stands.{StandsFor};
 
 use crate::codes::TRANSACTION_CANCELLED;
-use crate::txn::{Answer, Txn};
+use crate::txn::Txn;
 use database_rules::{Code, Phase};
-use fdb_calls::Reply;
 
 // Whether a transaction may be tried again after an error of this code.
 fn is_retryable(code: Code) -> bool
@@ -19,40 +18,37 @@ fn is_retryable(code: Code) -> bool
 }
 
 impl Txn {
-    /// Begins anew, with a life of this number. It takes no memory.
-    pub(crate) fn reset(&mut self, life: u64) -> Answer
-        ensures { Leaves result self.new (worlds.reset life) }
+    /// Begins anew, with a life of this number (`fdb_transaction_reset`). It takes no memory.
+    pub fn reset(&mut self, life: u64)
+        ensures { StandsFor self.new (rules.fresh life) }
     {
-        let alloc = *self.edits.allocator();
+        let alloc = self.allocator();
         *self = Txn::new(alloc, life);
-        Answer {
-            reply: Reply::Done,
-            drew_life: true,
-        }
     }
 
-    /// Lets each further call of this life fail, where none was tried to commit. It takes no memory.
-    pub(crate) fn cancel(&mut self) -> Answer
-        ensures { Leaves result self.new (worlds.answers (rules.cancelled self.old) reply.Done) }
+    /// Lets each further call of this life fail (`fdb_transaction_cancel`). A life that a commit was tried in stays as it
+    /// is. It takes no memory.
+    pub fn cancel(&mut self)
+        ensures { (t : rules.Transaction) → StandsFor self.old t → StandsFor self.new (rules.cancelled t) }
     {
         if !matches!(self.phase, Phase::Tried(_)) {
             self.phase = Phase::Cancelled;
         }
-        Answer::done()
     }
 
-    /// Begins anew after an error that may be retried, with a life of this number; another error is answered, and
-    /// cancels. It takes no memory.
-    pub(crate) fn on_error(&mut self, code: Code, life: u64) -> Answer
-        ensures { Leaves result self.new (worlds.on_error_by (rules.is_cancelled self.old.phase) life self.old code) }
+    /// Begins anew after an error that may be retried, with a life of this number (`fdb_transaction_on_error`). Another
+    /// error is answered with its own code, and cancels; a cancelled life answers 1025. It takes no memory.
+    pub fn on_error(&mut self, code: Code, life: u64) -> Result<(), Code>
+        ensures { (t : rules.Transaction) → StandsFor self.old t → Handled result self.new (on_error_called life t code) }
     {
         if self.phase == Phase::Cancelled {
-            return Answer::refused(Code(TRANSACTION_CANCELLED));
+            return Err(Code(TRANSACTION_CANCELLED));
         }
         if is_retryable(code) {
-            return self.reset(life);
+            self.reset(life);
+            return Ok(());
         }
         self.phase = Phase::Cancelled;
-        Answer::refused(code)
+        Err(code)
     }
 }

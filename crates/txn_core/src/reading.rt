@@ -1,21 +1,23 @@
 //! Reads: the value of a key at the transaction's version, after its own writes.
 
-ghost use Rattle.std.specs.Prelude.{◌≡◌, IfOk, OnErr, map, min, option_copied};
+ghost use Rattle.std.specs.Prelude.{◌≡◌, IfOk, map, min, option_copied};
 ghost use Rattle.std.specs.FinMap as finite;
 ghost use Rattle.database_rules.specs.Atomics.{atom};
 ghost use Rattle.database_rules.specs.Databases.{History};
 ghost use Rattle.database_rules.specs.Transactions as rules;
-ghost use Rattle.machine_rules.specs.Worlds.{get_by};
+ghost use Rattle.fdb_calls.specs.declared.Reply.TheVariants as reply;
+ghost use Rattle.fdb_calls.specs.Answers.{Answered};
+ghost use Rattle.fdb_calls.specs.Calling.{get_called};
 ghost use Rattle.version_store.specs.Versions.{at, last_of};
 ghost use Rattle.txn_core.specs.Edits.{operation_of, operations_of};
 ghost use Rattle.txn_core.specs.KeyByKey.{at_key, at_keys};
 ghost use Rattle.txn_core.specs.Seen.{seen_value};
-ghost use Rattle.txn_core.specs.Stands.{Keeps, Leaves};
+ghost use Rattle.txn_core.specs.Stands.{Keeps};
 
 use crate::edit::{Edit, is_versionstamped};
-use crate::txn::{Answer, Txn};
+use crate::txn::Txn;
 use database_rules::AtomicOp;
-use fdb_calls::Reply;
+use fdb_calls::TrFault;
 use key_bytes::{Bytes, Key};
 use std::alloc::{AllocError, Global};
 use version_store::Store;
@@ -116,7 +118,7 @@ impl Txn {
         ensures { IfOk result (λ value. value
             ≡ at_keys self.now.operations key.now (finite.get (at store.now (min version (last_of store.now))) key.now)) }
     {
-        let alloc = *self.edits.allocator();
+        let alloc = self.allocator();
         let mut seen = Seen::of(stored(store, version, key));
         for edit in self.edits.as_slice() {
             seen = seen.after(alloc, edit, key)?;
@@ -124,20 +126,19 @@ impl Txn {
         seen.into_value(alloc)
     }
 
-    /// A read. A refused one changes nothing, and another takes the version; after want of memory the transaction is
-    /// unchanged.
-    pub(crate) fn get(&mut self, store: &Store, key: &Key) -> Result<Answer, AllocError>
-        ensures ok { IfOk result (λ answer. (history : History) → Keeps store.now history
-            → Leaves answer self.new (get_by (rules.get_code self.old key.now) history self.old key.now)) }
-        ensures err { OnErr result (self.new ≡ self.old) }
+    /// The value of a key that the transaction sees. A refused read changes nothing, and another takes the version; after
+    /// want of memory the transaction is unchanged.
+    pub(crate) fn get(&mut self, store: &Store, key: &Key) -> Result<Option<Bytes>, TrFault>
+        ensures { (history : History) → Keeps store.now history
+            → Answered reply.Value result (λ t. self.new ≡ t) self.old (get_called history self.old key.now) }
     {
-        if let Some(code) = self.get_code(key) {
-            return Ok(Answer::refused(code));
+        if let Some(code) = self.get_code(key.as_slice()) {
+            return Err(TrFault::Code(code));
         }
         let version = self.read_version(store);
         let value = self.value(store, version, key)?;
         self.version = Some(version);
-        Ok(Answer::new(Reply::Value(value)))
+        Ok(value)
     }
 
     // The version of its reads: the one that was taken, or else the last one.

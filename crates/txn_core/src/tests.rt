@@ -1,5 +1,6 @@
 use super::*;
-use fdb_calls::{Code, Reply, TxnCall};
+use database_rules::{AtomicOp, Tried};
+use fdb_calls::{Code, Reply, Tr, TrFault, TxnCall};
 use key_bytes::{Bytes, KeyRange};
 use std::alloc::{AllocError, Global};
 use std::test::Fail;
@@ -163,5 +164,73 @@ fn a_cancelled_transaction_takes_no_call_but_a_reset(rt: HostRuntime) -> Result<
     assert_eq!(rt; session.clear(b"a")?, 1025);
     assert!(rt; session.answer(&TxnCall::Reset)?.drew_life);
     assert_eq!(rt; session.clear(b"a")?, 0);
+    Ok(())
+}
+
+// Some calls by their names, over any transaction.
+fn write_and_read<T: Tr>(tr: &mut T, alloc: Global) -> Result<Option<Bytes>, TrFault> {
+    tr.set(b"k", b"\x01\x00")?;
+    tr.atomic(AtomicOp::Add, b"k", b"\xff\x00")?;
+    tr.set(b"l", b"3")?;
+    tr.clear(b"l")?;
+    let begin = Bytes::from_slice(alloc, b"l")?;
+    let end = Bytes::from_slice(alloc, b"n")?;
+    tr.clear_range(&KeyRange { begin, end })?;
+    tr.get(b"k", false)
+}
+
+#[test]
+fn a_layer_works_over_a_transaction_on_a_store(rt: HostRuntime) -> Result<(), Fail> {
+    let (store, mut txn) = (Store::new(rt.alloc()), Txn::new(rt.alloc(), 0));
+    let mut on = TxnOn {
+        txn: &mut txn,
+        store: &store,
+    };
+    let read = write_and_read(&mut on, rt.alloc())?;
+    let value = read.as_ref().map(|value| value.as_slice());
+    assert_eq!(rt; value, Some(b"\x00\x01".as_slice()));
+    Ok(())
+}
+
+#[test]
+fn a_commit_is_judged_by_its_parts(rt: HostRuntime) -> Result<(), Fail> {
+    let (store, mut txn) = (Store::new(rt.alloc()), Txn::new(rt.alloc(), 0));
+    let mut on = TxnOn {
+        txn: &mut txn,
+        store: &store,
+    };
+    assert_eq!(rt; on.judge(), Ok(Verdict::ReadOnly));
+    on.set(b"k", b"v")?;
+    on.clear(b"l")?;
+    assert_eq!(rt; on.judge(), Ok(Verdict::Commits));
+    assert_eq!(rt; on.changes(&[0; 10])?.len(), 2);
+    Ok(())
+}
+
+#[test]
+fn what_was_tried_takes_no_call(rt: HostRuntime) -> Result<(), Fail> {
+    let (store, mut txn) = (Store::new(rt.alloc()), Txn::new(rt.alloc(), 0));
+    let mut on = TxnOn {
+        txn: &mut txn,
+        store: &store,
+    };
+    on.tried(Tried::ReadOnly);
+    assert_eq!(rt; on.set(b"k", b"v"), Err(TrFault::Code(Code(2017))));
+    Ok(())
+}
+
+#[test]
+fn a_life_ends_by_reset_cancel_and_errors(rt: HostRuntime) -> Result<(), Fail> {
+    let (store, mut txn) = (Store::new(rt.alloc()), Txn::new(rt.alloc(), 0));
+    assert_eq!(rt; txn.on_error(Code(2004), 1), Err(Code(2004)));
+    assert_eq!(rt; txn.on_error(Code(1020), 1), Err(Code(1025)));
+    txn.reset(1);
+    assert_eq!(rt; txn.on_error(Code(1020), 2), Ok(()));
+    txn.cancel();
+    let mut on = TxnOn {
+        txn: &mut txn,
+        store: &store,
+    };
+    assert_eq!(rt; on.judge(), Err(TrFault::Code(Code(1025))));
     Ok(())
 }

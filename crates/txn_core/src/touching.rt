@@ -1,6 +1,7 @@
 //! What the writes of a transaction change: the keys that they touch, each with what it has after them.
 
-ghost use Rattle.std.specs.Prelude.{◌≡◌, ℕ, List, if◌then◌else◌, None, IfOk, OnOk, MatchOption, option_copied, bytes_eq};
+ghost use Rattle.std.specs.Prelude.{◌≡◌, ℕ, true, false, List, if◌then◌else◌, None, IfOk, OnOk, MatchOption, option_copied, bytes_eq};
+ghost use Rattle.std.specs.List.{All};
 ghost use Rattle.std.specs.FinMap as finite;
 ghost use Rattle.std.specs.Option.{option_map};
 ghost use Rattle.key_bytes.specs.Keys.{within};
@@ -10,7 +11,7 @@ ghost use Rattle.database_rules.specs.Databases.{Database, do_all};
 ghost use Rattle.version_store.specs.Changed.{changed};
 ghost use Rattle.version_store.specs.Versions.{at, last_of};
 ghost use Rattle.txn_core.specs.Edits.{operation_of};
-ghost use Rattle.txn_core.specs.KeyByKey.{at_key, at_keys};
+ghost use Rattle.txn_core.specs.KeyByKey.{at_key, at_keys, modifies, is_modified_by};
 ghost use Rattle.txn_core.specs.Touched.{stands_at, entries_from, IsNextInside, HasNoneInside};
 
 use crate::edit::{Edit, is_versionstamped};
@@ -65,8 +66,9 @@ fn put(
     key: &Key,
     value: Option<Bytes>,
 ) -> Result<(), AllocError>
-    ensures { OnOk result ((database : Database) (q : List ℕ) → stands_at touched.new database q
+    ensures stands { OnOk result ((database : Database) (q : List ℕ) → stands_at touched.new database q
         ≡ (if bytes_eq q key.now then value else stands_at touched.old database q)) }
+    ensures others { OnOk result ((q : List ℕ) → bytes_eq q key.now ≡ false → finite.get touched.new q ≡ finite.get touched.old q) }
 {
     touched.insert(key.copy()?, value)?;
     Ok(())
@@ -78,8 +80,10 @@ fn touch_range(
     range: &KeyRange,
     store: &Store,
 ) -> Result<(), AllocError>
-    ensures { OnOk result ((q : List ℕ) → stands_at touched.new (at store.now (last_of store.now)) q
+    ensures stands { OnOk result ((q : List ℕ) → stands_at touched.new (at store.now (last_of store.now)) q
         ≡ (if within range.now.begin range.now.end q then None else stands_at touched.old (at store.now (last_of store.now)) q)) }
+    ensures others { OnOk result ((q : List ℕ) → within range.now.begin range.now.end q ≡ false
+        → finite.get touched.new q ≡ finite.get touched.old q) }
 {
     touched.clear_range(&range.begin, &range.end);
     let mut from = range.begin.copy()?;
@@ -99,8 +103,10 @@ fn touch_atomic(
     operand: &Bytes,
     store: &Store,
 ) -> Result<(), AllocError>
-    ensures { OnOk result ((q : List ℕ) → stands_at touched.new (at store.now (last_of store.now)) q
+    ensures stands { OnOk result ((q : List ℕ) → stands_at touched.new (at store.now (last_of store.now)) q
         ≡ at_key (operation.Atomic op key.now operand.now) q (stands_at touched.old (at store.now (last_of store.now)) q)) }
+    ensures others { OnOk result ((q : List ℕ) → modifies q (operation.Atomic op key.now operand.now) ≡ false
+        → finite.get touched.new q ≡ finite.get touched.old q) }
 {
     if is_versionstamped(op) {
         return Ok(());
@@ -116,8 +122,10 @@ fn touch(
     edit: &Edit,
     store: &Store,
 ) -> Result<(), AllocError>
-    ensures { OnOk result ((q : List ℕ) → stands_at touched.new (at store.now (last_of store.now)) q
+    ensures stands { OnOk result ((q : List ℕ) → stands_at touched.new (at store.now (last_of store.now)) q
         ≡ at_key (operation_of edit.now) q (stands_at touched.old (at store.now (last_of store.now)) q)) }
+    ensures others { OnOk result ((q : List ℕ) → modifies q (operation_of edit.now) ≡ false
+        → finite.get touched.new q ≡ finite.get touched.old q) }
 {
     match edit {
         Edit::Set { key, value } => put(touched, key, Some(value.copy()?)),
@@ -141,10 +149,12 @@ fn changes_of(alloc: Global, touched: KeyMap<Option<Bytes>>) -> Result<Changes, 
 impl Txn {
     // The keys that the writes touch, over the map at the last version.
     fn touched(&self, store: &Store) -> Result<KeyMap<Option<Bytes>>, AllocError>
-        ensures { IfOk result (λ touched. (q : List ℕ) → stands_at touched (at store.now (last_of store.now)) q
+        ensures stands { IfOk result (λ touched. (q : List ℕ) → stands_at touched (at store.now (last_of store.now)) q
             ≡ at_keys self.now.operations q (finite.get (at store.now (last_of store.now)) q)) }
+        ensures only { IfOk result (λ touched. (q : List ℕ) → is_modified_by self.now.operations q ≡ false
+            → finite.get touched q ≡ None) }
     {
-        let alloc = *self.edits.allocator();
+        let alloc = self.allocator();
         let mut touched = KeyMap::new(alloc);
         for edit in self.edits.as_slice() {
             touch(alloc, &mut touched, edit, store)?;
@@ -152,11 +162,12 @@ impl Txn {
         Ok(touched)
     }
 
-    /// What leads from the map at the last version to that map after the writes.
+    /// What leads from the map at the last version to that map after the writes. It names only keys that a write touches.
     pub(crate) fn changes(&self, store: &Store) -> Result<Changes, AllocError>
-        ensures { IfOk result (λ changes. changed changes (at store.now (last_of store.now))
+        ensures only { IfOk result (λ changes. All (λ change. is_modified_by self.now.operations change.0 ≡ true) changes) }
+        ensures leads { IfOk result (λ changes. changed changes (at store.now (last_of store.now))
             ≡ do_all self.now.operations (at store.now (last_of store.now))) }
     {
-        changes_of(*self.edits.allocator(), self.touched(store)?)
+        changes_of(self.allocator(), self.touched(store)?)
     }
 }

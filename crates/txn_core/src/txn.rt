@@ -1,52 +1,18 @@
 //! A transaction.
 
-ghost use Rattle.std.specs.Prelude.{◌≡◌, false, ◌^◌, ◌<◌, IfOk};
+ghost use Rattle.std.specs.Prelude.{◌≡◌, ◌^◌, ◌<◌, IfOk};
 ghost use Rattle.database_rules.specs.Databases.{History};
 ghost use Rattle.database_rules.specs.Transactions as rules;
-ghost use Rattle.fdb_calls.specs.declared.Reply.TheVariants as reply;
-ghost use Rattle.machine_rules.specs.Worlds.{called};
-ghost use Rattle.version_store.specs.Versions.{last_of};
+ghost use Rattle.fdb_calls.specs.Calling.{called, on_error_called, cancel_called, reset};
+ghost use Rattle.version_store.specs.Versions.{Versions, last_of};
 
+use crate::answer::Answer;
 use crate::edit::Edit;
 use database_rules::{Code, Phase};
-use fdb_calls::{Reply, TxnCall};
+use fdb_calls::TxnCall;
 use std::alloc::{AllocError, Global};
 use std::marker::Model;
 use version_store::Store;
-
-/// What a call was answered, and whether it began a new life, whose number was handed in.
-#[derive(Debug, Drop)]
-pub struct Answer {
-    pub reply: Reply,
-    pub drew_life: bool,
-}
-
-impl Answer {
-    // What a call in the same life was answered.
-    pub(crate) fn new(reply: Reply) -> Answer
-        ensures reply { result.reply ≡ reply }
-        ensures life { result.drew_life ≡ false }
-    {
-        Answer {
-            reply,
-            drew_life: false,
-        }
-    }
-
-    pub(crate) fn done() -> Answer
-        ensures reply { result.reply ≡ reply.Done }
-        ensures life { result.drew_life ≡ false }
-    {
-        Answer::new(Reply::Done)
-    }
-
-    pub(crate) fn refused(code: Code) -> Answer
-        ensures reply { result.reply ≡ reply.Fault code }
-        ensures life { result.drew_life ≡ false }
-    {
-        Answer::new(Reply::Fault(code))
-    }
-}
 
 /// A transaction. Contracts see the transaction of the definitions that has its very edits.
 #[derive(Debug, Drop)]
@@ -82,7 +48,7 @@ impl Txn {
 
     /// A life of this number, before its first call. It takes no memory, and keeps the allocator.
     pub fn new(alloc: Global, life: u64) -> Txn
-        ensures { result ≡ rules.fresh life }
+        ensures { StandsFor result (rules.fresh life) }
     {
         Txn {
             life,
@@ -95,13 +61,19 @@ impl Txn {
 
     /// A transaction of a new life at the last version of a store, for a call of its own. It takes no memory.
     pub fn at_last(alloc: Global, life: u64, store: &Store) -> Txn
-        ensures { (history : History) → Keeps store.now history → result ≡ rules.with_version history (rules.fresh life) }
+        ensures { (history : History) → Keeps store.now history
+            → StandsFor result (rules.with_version history (rules.fresh life)) }
     {
         let version = Some(store.last());
         Txn {
             version,
             ..Txn::new(alloc, life)
         }
+    }
+
+    // The allocator that it keeps.
+    pub(crate) fn allocator(&self) -> Global {
+        *self.edits.allocator()
     }
 
     /// One call, over a store; `life` is the number of the life that a call draws which begins anew. A commit adds one
@@ -117,15 +89,46 @@ impl Txn {
             → Answers answer self.new store.new history (called history life t call.now)) }
     {
         match call {
-            TxnCall::Get { key, .. } => self.get(store, key),
-            TxnCall::Set { key, value } => self.set(key, value),
-            TxnCall::Clear { key } => self.clear(key),
-            TxnCall::ClearRange { range } => self.clear_range(range),
-            TxnCall::Atomic { name, key, operand } => self.atomic(name, key, operand),
+            TxnCall::Get { key, .. } => Answer::of_read(self.get(store, key)),
+            TxnCall::Set { key, value } => {
+                Answer::of_write(self.set(key.as_slice(), value.as_slice()))
+            }
+            TxnCall::Clear { key } => Answer::of_write(self.clear(key.as_slice())),
+            TxnCall::ClearRange { range } => Answer::of_write(self.clear_range(range)),
+            TxnCall::Atomic { name, key, operand } => Answer::of_write(self.named_atomic(
+                name.as_slice(),
+                key.as_slice(),
+                operand.as_slice(),
+            )),
             TxnCall::Commit => self.commit(store),
-            TxnCall::OnError { code } => Ok(self.on_error(*code, life)),
-            TxnCall::Reset => Ok(self.reset(life)),
-            TxnCall::Cancel => Ok(self.cancel()),
+            TxnCall::OnError { code } => Ok(self.answer_error(*code, life)),
+            TxnCall::Reset => Ok(self.answer_reset(life)),
+            TxnCall::Cancel => Ok(self.answer_cancel()),
         }
+    }
+
+    fn answer_error(&mut self, code: Code, life: u64) -> Answer
+        ensures { (t : rules.Transaction) (store : Versions) (history : History) → StandsFor self.old t → Keeps store history
+            → Answers result self.new store history (on_error_called life t code) }
+    {
+        match self.on_error(code, life) {
+            Ok(()) => Answer::begun_anew(),
+            Err(code) => Answer::refused(code),
+        }
+    }
+
+    fn answer_reset(&mut self, life: u64) -> Answer
+        ensures { (store : Versions) (history : History) → Keeps store history → Answers result self.new store history (reset life) }
+    {
+        self.reset(life);
+        Answer::begun_anew()
+    }
+
+    fn answer_cancel(&mut self) -> Answer
+        ensures { (t : rules.Transaction) (store : Versions) (history : History) → StandsFor self.old t → Keeps store history
+            → Answers result self.new store history (cancel_called t) }
+    {
+        self.cancel();
+        Answer::done()
     }
 }

@@ -1,18 +1,19 @@
 //! Writes: each is refused by its code, or kept.
 
-ghost use Rattle.std.specs.Prelude.{◌≡◌, ◌≤◌, IfOk, OnOk, OnErr};
-ghost use Rattle.database_rules.specs.Atomics.{atomic_named};
+ghost use Rattle.std.specs.Prelude.{◌≡◌, ◌≤◌, OnOk, OnErr};
 ghost use Rattle.database_rules.specs.Databases as operation;
 ghost use Rattle.database_rules.specs.Transactions as rules;
-ghost use Rattle.machine_rules.specs.Worlds.{write_by, atomic_by};
+ghost use Rattle.fdb_calls.specs.declared.Reply.TheVariants as reply;
+ghost use Rattle.fdb_calls.specs.Answers.{Answered};
+ghost use Rattle.fdb_calls.specs.Calling.{set_called, clear_called, clear_range_called, atomic_called, named_atomic_called};
 ghost use Rattle.txn_core.specs.Edits.{operation_of};
-ghost use Rattle.txn_core.specs.Stands.{Leaves};
 
 use crate::codes::SIZE_LIMIT;
 use crate::edit::Edit;
-use crate::txn::{Answer, Txn};
-use fdb_calls::Reply;
-use key_bytes::{Bytes, Key, KeyRange};
+use crate::txn::Txn;
+use database_rules::AtomicOp;
+use fdb_calls::TrFault;
+use key_bytes::{Bytes, KeyRange};
 use std::alloc::AllocError;
 
 // The size after some bytes more, counted no further than one past its limit.
@@ -22,6 +23,7 @@ fn grown(size: u64, bytes: u64) -> u64
     size.saturating_add(bytes).min(SIZE_LIMIT + 1)
 }
 
+// Each write is exact: a refused one changes nothing, and after want of memory the transaction is unchanged too.
 impl Txn {
     // Keeps a write that no check refuses. After a refusal the transaction is unchanged.
     fn add(&mut self, edit: Edit) -> Result<(), AllocError>
@@ -34,70 +36,83 @@ impl Txn {
         Ok(())
     }
 
-    /// A set. A refused one changes nothing; after want of memory the transaction is unchanged too.
-    pub(crate) fn set(&mut self, key: &Key, value: &Bytes) -> Result<Answer, AllocError>
-        ensures ok { IfOk result (λ answer. Leaves answer self.new
-            (write_by (rules.set_code self.old key.now value.now) self.old (operation.Set key.now value.now))) }
+    // Keeps an atomic operation that no check refuses. After a refusal the transaction is unchanged.
+    fn add_atomic(&mut self, op: AtomicOp, key: &[u8], operand: &[u8]) -> Result<(), AllocError>
+        ensures ok { OnOk result (self.new ≡ rules.with_operation self.old (operation.Atomic op key.now operand.now)) }
         ensures err { OnErr result (self.new ≡ self.old) }
+    {
+        let alloc = self.allocator();
+        let key = Bytes::from_slice(alloc, key)?;
+        let operand = Bytes::from_slice(alloc, operand)?;
+        self.add(Edit::Atomic { op, key, operand })
+    }
+
+    /// A set.
+    pub(crate) fn set(&mut self, key: &[u8], value: &[u8]) -> Result<(), TrFault>
+        ensures { Answered (λ _. reply.Done) result (λ t. self.new ≡ t) self.old (set_called self.old key.now value.now) }
     {
         if let Some(code) = self.set_code(key, value) {
-            return Ok(Answer::refused(code));
+            return Err(TrFault::Code(code));
         }
-        let (key, value) = (key.copy()?, value.copy()?);
+        let alloc = self.allocator();
+        let key = Bytes::from_slice(alloc, key)?;
+        let value = Bytes::from_slice(alloc, value)?;
         self.add(Edit::Set { key, value })?;
-        Ok(Answer::done())
+        Ok(())
     }
 
-    /// A clear of one key. A refused one changes nothing; after want of memory the transaction is unchanged too.
-    pub(crate) fn clear(&mut self, key: &Key) -> Result<Answer, AllocError>
-        ensures ok { IfOk result (λ answer. Leaves answer self.new
-            (write_by (rules.clear_code self.old key.now) self.old (operation.Clear key.now))) }
-        ensures err { OnErr result (self.new ≡ self.old) }
+    /// A clear of one key.
+    pub(crate) fn clear(&mut self, key: &[u8]) -> Result<(), TrFault>
+        ensures { Answered (λ _. reply.Done) result (λ t. self.new ≡ t) self.old (clear_called self.old key.now) }
     {
         if let Some(code) = self.clear_code(key) {
-            return Ok(Answer::refused(code));
+            return Err(TrFault::Code(code));
         }
-        let key = key.copy()?;
+        let key = Bytes::from_slice(self.allocator(), key)?;
         self.add(Edit::Clear { key })?;
-        Ok(Answer::done())
+        Ok(())
     }
 
-    /// A clear of a range. A refused one changes nothing; after want of memory the transaction is unchanged too.
-    pub(crate) fn clear_range(&mut self, range: &KeyRange) -> Result<Answer, AllocError>
-        ensures ok { IfOk result (λ answer. Leaves answer self.new
-            (write_by (rules.clear_range_code self.old range.now.begin range.now.end) self.old
-            (operation.ClearRange range.now.begin range.now.end))) }
-        ensures err { OnErr result (self.new ≡ self.old) }
+    /// A clear of a range.
+    pub(crate) fn clear_range(&mut self, range: &KeyRange) -> Result<(), TrFault>
+        ensures { Answered (λ _. reply.Done) result (λ t. self.new ≡ t) self.old
+            (clear_range_called self.old range.now.begin range.now.end) }
     {
         if let Some(code) = self.clear_range_code(range) {
-            return Ok(Answer::refused(code));
+            return Err(TrFault::Code(code));
         }
         let range = KeyRange {
             begin: range.begin.copy()?,
             end: range.end.copy()?,
         };
         self.add(Edit::ClearRange { range })?;
-        Ok(Answer::done())
+        Ok(())
     }
 
-    /// An atomic operation by its name. A refused one changes nothing; after want of memory the transaction is unchanged
-    /// too.
-    pub(crate) fn atomic(
-        &mut self,
-        name: &Bytes,
-        key: &Key,
-        operand: &Bytes,
-    ) -> Result<Answer, AllocError>
-        ensures ok { IfOk result (λ answer. Leaves answer self.new
-            (atomic_by (rules.atomic_code self.old name.now key.now operand.now) (atomic_named name.now) self.old key.now operand.now)) }
-        ensures err { OnErr result (self.new ≡ self.old) }
+    /// An atomic operation.
+    pub(crate) fn atomic(&mut self, op: AtomicOp, key: &[u8], operand: &[u8]) -> Result<(), TrFault>
+        ensures { Answered (λ _. reply.Done) result (λ t. self.new ≡ t) self.old (atomic_called self.old op key.now operand.now) }
     {
-        let op = match self.atomic_op(name, key, operand) {
-            Ok(op) => op,
-            Err(code) => return Ok(Answer::refused(code)),
-        };
-        let (key, operand) = (key.copy()?, operand.copy()?);
-        self.add(Edit::Atomic { op, key, operand })?;
-        Ok(Answer::done())
+        if let Some(code) = self.set_code(key, operand) {
+            return Err(TrFault::Code(code));
+        }
+        self.add_atomic(op, key, operand)?;
+        Ok(())
+    }
+
+    /// An atomic operation by its name.
+    pub(crate) fn named_atomic(
+        &mut self,
+        name: &[u8],
+        key: &[u8],
+        operand: &[u8],
+    ) -> Result<(), TrFault>
+        ensures { Answered (λ _. reply.Done) result (λ t. self.new ≡ t) self.old
+            (named_atomic_called self.old name.now key.now operand.now) }
+    {
+        match self.atomic_op(name, key, operand) {
+            Ok(op) => Ok(self.add_atomic(op, key, operand)?),
+            Err(code) => Err(TrFault::Code(code)),
+        }
     }
 }

@@ -1,5 +1,4 @@
-use Rattle.std.proofs.Common.{◌≤◌, min, arith}
-use Rattle.version_store.specs.Versions.{last_of}
+use Rattle.std.proofs.Common.{arith}
 use Rattle.txn_core.proofs.Stored.{no_fault}
 use Rattle.txn_core.proofs.reading.stored.Goals as goal
 

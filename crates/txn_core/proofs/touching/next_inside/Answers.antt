@@ -1,8 +1,6 @@
-use Rattle.std.proofs.Common.{false, subst, sym, ap, ◌∙◌}
-use Rattle.std.specs.Option.{MatchOption}
+use Rattle.std.proofs.Common.{sym, ◌∙◌}
 use Rattle.key_bytes.specs.Keys.{key_lt}
 use Rattle.version_store.specs.Versions.{at, last_of}
-use Rattle.txn_core.specs.Touched.{IsNextInside, HasNoneInside}
 use Rattle.txn_core.proofs.Firsts.{next_key_inside, no_key_inside, no_key_inside_past}
 use Rattle.txn_core.proofs.touching.next_inside.Goals as goal
 

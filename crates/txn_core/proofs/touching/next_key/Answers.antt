@@ -1,4 +1,4 @@
-use Rattle.std.proofs.Common.{◌≤◌, arith}
+use Rattle.std.proofs.Common.{arith}
 use Rattle.txn_core.proofs.Stored.{no_fault}
 use Rattle.txn_core.proofs.touching.next_key.Goals as goal
 

@@ -1,14 +1,13 @@
 use Rattle.std.proofs.Common.{◌≡◌, refl, ◌∙◌}
 use Rattle.std.specs.FinMap as finite
-use Rattle.database_rules.specs.Transactions.{fresh}
 use Rattle.client_core.proofs.Named.{there_inserted, new_stands}
 use Rattle.client_core.proofs.contents.Contents.make_new.Goals as goal
 
 pub returns-clause-stands : goal.returns-clause-stands
 returns-clause-stands c = λ world stands.
-    let inserted : c.insert.new.self ≡ finite.insert c.args.self.now.transactions c.args.name.now (fresh c.args.self.now.next_life) =
-    c.in_ok-insert.ensures.ok ∙ (λ i. finite.insert c.args.self.now.transactions (c.in_ok-copy.ensures i) (c.new-transaction.ensures i)) in
-    record { reply_is = refl; stands = new_stands _ world c.args.name.now _ stands refl inserted refl }
+    let inserted : c.insert.new.self ≡ finite.insert c.args.self.now.transactions c.args.name.now c.new-transaction.result =
+    c.in_ok-insert.ensures.ok ∙ (λ i. finite.insert c.args.self.now.transactions (c.in_ok-copy.ensures i) c.new-transaction.result) in
+    record { reply_is = refl; stands = new_stands _ world c.args.name.now c.new-transaction.result _ stands c.new-transaction.ensures refl inserted refl }
 
 pub returns-clause-there : goal.returns-clause-there
 returns-clause-there c =

@@ -1,0 +1,13 @@
+-- How the answer of a call is made of its result.
+use Rattle.std.specs.Prelude.{◌≡◌, false, Result, Ok, Err}
+use Rattle.fdb_calls.specs.declared.fault.TrFault.{TrFault}
+use Rattle.fdb_calls.specs.declared.fault.TrFault.TheVariants as fault
+use Rattle.fdb_calls.specs.declared.Reply.{Reply}
+use Rattle.fdb_calls.specs.declared.Reply.TheVariants as reply
+use Rattle.txn_core.specs.declared.answer.Answer.{Answer}
+
+-- no life was drawn, and the reply is this of a value, or the fault; want of memory has no answer
+abbrev pub Tells : {A : Type 0} → (A → Reply) → Result A TrFault → Answer → Type 0
+Tells replied (Ok value) answer = (answer.reply ≡ replied value) × (answer.drew_life ≡ false)
+Tells replied (Err (fault.Code code)) answer = (answer.reply ≡ reply.Fault code) × (answer.drew_life ≡ false)
+Tells replied (Err fault.NoMemory) answer = ⊥

@@ -1,0 +1,77 @@
+//! What a call was answered.
+
+ghost use Rattle.std.specs.Prelude.{◌≡◌, true, false, IfOk};
+ghost use Rattle.fdb_calls.specs.declared.Reply.TheVariants as reply;
+ghost use Rattle.txn_core.specs.Answering.{Tells};
+
+use database_rules::Code;
+use fdb_calls::{Reply, TrFault};
+use key_bytes::Bytes;
+use std::alloc::AllocError;
+
+/// What a call was answered, and whether it began a new life, whose number was handed in.
+#[derive(Debug, Drop)]
+pub struct Answer {
+    pub reply: Reply,
+    pub drew_life: bool,
+}
+
+impl Answer {
+    // What a call in the same life was answered.
+    fn new(reply: Reply) -> Answer
+        ensures reply { result.reply ≡ reply }
+        ensures life { result.drew_life ≡ false }
+    {
+        Answer {
+            reply,
+            drew_life: false,
+        }
+    }
+
+    pub(crate) fn done() -> Answer
+        ensures reply { result.reply ≡ reply.Done }
+        ensures life { result.drew_life ≡ false }
+    {
+        Answer::new(Reply::Done)
+    }
+
+    pub(crate) fn refused(code: Code) -> Answer
+        ensures reply { result.reply ≡ reply.Fault code }
+        ensures life { result.drew_life ≡ false }
+    {
+        Answer::new(Reply::Fault(code))
+    }
+
+    // What a call was answered that began a new life.
+    pub(crate) fn begun_anew() -> Answer
+        ensures reply { result.reply ≡ reply.Done }
+        ensures life { result.drew_life ≡ true }
+    {
+        Answer {
+            reply: Reply::Done,
+            drew_life: true,
+        }
+    }
+
+    // What a read was answered; want of memory is no answer.
+    pub(crate) fn of_read(read: Result<Option<Bytes>, TrFault>) -> Result<Answer, AllocError>
+        ensures { IfOk result (Tells reply.Value read) }
+    {
+        match read {
+            Ok(value) => Ok(Answer::new(Reply::Value(value))),
+            Err(TrFault::Code(code)) => Ok(Answer::refused(code)),
+            Err(TrFault::NoMemory) => Err(AllocError),
+        }
+    }
+
+    // What a write was answered; want of memory is no answer.
+    pub(crate) fn of_write(written: Result<(), TrFault>) -> Result<Answer, AllocError>
+        ensures { IfOk result (Tells (λ _. reply.Done) written) }
+    {
+        match written {
+            Ok(()) => Ok(Answer::done()),
+            Err(TrFault::Code(code)) => Ok(Answer::refused(code)),
+            Err(TrFault::NoMemory) => Err(AllocError),
+        }
+    }
+}
