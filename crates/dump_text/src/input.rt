@@ -64,8 +64,8 @@ fn is_too_many(place: Place, line: &InputLine<'_>) -> bool
     end > INPUT_LIMIT || place.pairs >= PAIRS_LIMIT && line.is_pair()
 }
 
-#[tactic(auto, unfolding(line_rules::specs::Reading::read_line))]
 /// The pair of the line at a place, or its first fault.
+#[tactic(auto, unfolding(line_rules::specs::Reading::read_line))]
 fn read_line(alloc: Global, place: Place, line: &InputLine<'_>) -> Result<Pair, LineFault>
     requires { place.bytes + size_of (line_is line.now) < 2 ^ 64 }
     ensures { Gives entry_of result (read_line (place_is line.now.number place) (line_is line.now)) }

@@ -34,10 +34,7 @@ impl InputLine<'_> {
     pub fn is_pair(&self) -> bool
         ensures { result ≡ is_pair self.now.bytes.now }
     {
-        match self.bytes {
-            [b'K', ..] => true,
-            _ => false,
-        }
+        matches!(self.bytes, [b'K', ..])
     }
 
     /// That the byte at this place fits no rule. It takes no memory.
@@ -62,8 +59,8 @@ fn is_below_top(key: &[u8]) -> bool
     }
 }
 
-#[tactic(auto, unfolding(line_rules::specs::Reading::pair_at))]
 /// The pair that a line spells, or its first fault.
+#[tactic(auto, unfolding(line_rules::specs::Reading::pair_at))]
 pub fn read_pair(alloc: Global, line: &InputLine<'_>) -> Result<Pair, LineFault>
     requires { length line.now.bytes.now ≤ line_limit }
     ensures { Gives entry_of result

@@ -1,11 +1,12 @@
 //! The printable form of bytes.
 
-ghost use Rattle.std.specs.Prelude.{◌≡◌, ◌<◌, ◌++◌, false, take, length, OnOk, OnErr};
-ghost use Rattle.line_rules.specs.Printing.{is_plain, printed, printable, hexadecimal_digit};
+ghost use Rattle.std.specs.Prelude.{◌≡◌, ◌<◌, ◌++◌, false, Some, take, length, OnOk, OnErr};
+ghost use Rattle.line_rules.specs.Printing.{is_plain, in_digits, printed, printable, printable_but, hexadecimal_digit};
 ghost use Rattle.dump_text.specs.Growing.{Grew};
 
 use crate::plain::split_plain;
 use key_bytes::Bytes;
+use memchr::memchr;
 use std::alloc::AllocError;
 
 /// The digit of a number below 16. It takes no memory.
@@ -17,6 +18,17 @@ fn hexadecimal_digit(n: u8) -> u8
     if n < 10 { b'0' + n } else { b'a' - 10 + n }
 }
 
+/// Adds a byte's spelling by its two digits. After a refusal `to` is unchanged.
+#[inline(always)]
+fn add_digits(to: &mut Bytes, byte: u8) -> Result<(), AllocError>
+    ensures ok { OnOk result (to.new ≡ to.old ++ in_digits byte) }
+    ensures err { OnErr result (to.new ≡ to.old) }
+{
+    let high = hexadecimal_digit(byte / 16);
+    let low = hexadecimal_digit(byte % 16);
+    to.extend(&[b'\\', b'x', high, low])
+}
+
 /// Adds the spelling of a byte that isn't plain. After a refusal `to` is unchanged.
 fn add_escape(to: &mut Bytes, byte: u8) -> Result<(), AllocError>
     requires { is_plain byte ≡ false }
@@ -26,9 +38,7 @@ fn add_escape(to: &mut Bytes, byte: u8) -> Result<(), AllocError>
     if byte == b'\\' {
         return to.extend(b"\\\\");
     }
-    let high = hexadecimal_digit(byte / 16);
-    let low = hexadecimal_digit(byte % 16);
-    to.extend(&[b'\\', b'x', high, low])
+    add_digits(to, byte)
 }
 
 /// Adds bytes at the end, often none. After a refusal `to` is unchanged.
@@ -75,12 +85,39 @@ pub fn or_cut_back(
     written
 }
 
-/// Adds the printable form of `bytes` at the end. After a refusal `to` is as before.
-pub fn write_printable(to: &mut Bytes, bytes: &[u8]) -> Result<(), AllocError>
-    ensures ok { OnOk result (to.new ≡ to.old ++ printable bytes.now) }
+/// Adds the printable form of `bytes` in which one byte more is spelled by its digits. After a refusal a part of
+/// it stands behind what `to` held.
+fn add_printable_but(to: &mut Bytes, bytes: &[u8], escaped: u8) -> Result<(), AllocError>
+    ensures ok { OnOk result (to.new ≡ to.old ++ printable_but (Some escaped) bytes.now) }
+    ensures err { OnErr result (Grew to.old to.new) }
+{
+    let mut left = bytes;
+    while let Some(n) = memchr(escaped, left) {
+        add_printable(to, &left[..n])?;
+        add_digits(to, escaped)?;
+        left = &left[n + 1..];
+    }
+    add_printable(to, left)
+}
+
+#[tactic(auto, unfolding(line_rules::specs::Printing::printable_but, line_rules::specs::Printing::printable))]
+fn add_chosen(to: &mut Bytes, bytes: &[u8], escaped: Option<u8>) -> Result<(), AllocError>
+    ensures ok { OnOk result (to.new ≡ to.old ++ printable_but escaped bytes.now) }
+    ensures err { OnErr result (Grew to.old to.new) }
+{
+    match escaped {
+        Some(escaped) => add_printable_but(to, bytes, escaped),
+        None => add_printable(to, bytes),
+    }
+}
+
+/// Adds the printable form of `bytes` at the end, in which the byte `escaped`, where one is given, is spelled by its
+/// digits too. After a refusal `to` is as before.
+pub fn write_printable(to: &mut Bytes, bytes: &[u8], escaped: Option<u8>) -> Result<(), AllocError>
+    ensures ok { OnOk result (to.new ≡ to.old ++ printable_but escaped bytes.now) }
     ensures err { OnErr result (to.new ≡ to.old) }
 {
     let len = to.len();
-    let written = add_printable(to, bytes);
+    let written = add_chosen(to, bytes, escaped);
     or_cut_back(to, len, written)
 }

@@ -189,8 +189,9 @@ fn words(rt: HostRuntime) -> Result<(), Fail> {
     assert_eq!(rt; EndWord::WaitBound.word(), b"wait-bound".as_slice());
     assert_eq!(rt; EndWord::MachineLimit.word(), b"machine-limit".as_slice());
     let mut to = Bytes::new(rt.alloc());
-    write_printable(&mut to, b"a\\\n")?;
-    assert_eq!(rt; to.as_slice(), b"a\\\\\\x0a".as_slice());
+    write_printable(&mut to, b"a\\\n", None)?;
+    write_printable(&mut to, b"a'\\'", Some(b'\''))?;
+    assert_eq!(rt; to.as_slice(), b"a\\\\\\x0aa\\x27\\\\\\x27".as_slice());
     Ok(())
 }
 

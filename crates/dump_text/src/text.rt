@@ -129,6 +129,7 @@ pub fn read_text(alloc: Global, bytes: &[u8]) -> Result<Text<'_>, AllocError>
     ensures within { IfOk result (λ text. length text.left.now + passed text.stop ≤ length bytes.now) }
 {
     let (run, mut left) = split_plain(bytes);
+    // The room is measured first, so that memory is taken once.
     let mut text = Vec::with_capacity(alloc, run.len() + text_len(left))?;
     text.extend_from_slice(run)?;
     loop {

@@ -28,7 +28,7 @@ impl<V, C> Half<V, C> {
     ghost use Rattle.future_cell.specs.Plays.{setter_in, waiter_in, value_out, ran_in, Saw, Missed, Fetched, Laid, Held, HasBack};
     ghost use Rattle.future_cell.specs.Halves.{cell_of, place_of};
 
-    // Puts the value out. Whether a callback was parked: slot 1 is then in hand.
+    /// Puts the value out. Whether a callback was parked: slot 1 is then in hand.
     pub fn publish(&mut self, value: V) -> bool
         requires { place_of self.old ≡ (Sets Unset, []) }
         ensures cell { cell_of self.new ≡ cell_of self.old }
@@ -40,7 +40,7 @@ impl<V, C> Half<V, C> {
         shared.swap::<Publish>(&mut self.seat, 0, SET) == PARKED
     }
 
-    // Takes the parked callback.
+    /// Takes the parked callback.
     pub fn take_callback(&mut self) -> C
         requires { (v : V) × ((c : C) × (place_of self.old ≡ (Sets (Running v), (1, Some (Callback c)) ∷ []))) }
         ensures cell { cell_of self.new ≡ cell_of self.old }
@@ -75,7 +75,7 @@ impl<V, C> Half<V, C> {
         value
     }
 
-    // Looks at the word once, and takes the value if it is there.
+    /// Looks at the word once, and takes the value if it is there.
     pub fn fetch(&mut self) -> Option<V>
         requires waits { place_of self.old ≡ (Waits (waiter_in (place_of self.old).0), []) }
         requires unseen { (waiter_in (place_of self.old).0).known ≡ Unseen }
@@ -113,7 +113,7 @@ impl<V, C> Half<V, C> {
         callback
     }
 
-    // Parks the callback, or hands it back where the value is there.
+    /// Parks the callback, or hands it back where the value is there.
     pub fn park(&mut self, callback: C) -> Result<(), C>
         requires waits { place_of self.old ≡ (Waits (waiter_in (place_of self.old).0), []) }
         requires unregistered { (waiter_in (place_of self.old).0).callback ≡ Unregistered }

@@ -25,7 +25,7 @@ fn free_table<V, C>(table: Cell<V, C>, seat: CellSeat<V, C>)
     closed.free();
 }
 
-// A new cell, and its two halves: the setter's and the waiter's.
+/// A new cell, and its two halves: the setter's and the waiter's.
 pub fn two_halves<V, C>(alloc: Global) -> Result<(Half<V, C>, Half<V, C>), AllocError>
     ensures { IfOk result (λ halves. (cell_of halves.0 ≡ cell_of halves.1) × (place_of halves.0 ≡ (Sets Unset, [])) × (place_of halves.1 ≡ (Waits fresh, []))) }
 {
@@ -87,7 +87,7 @@ impl<V, C> Half<V, C> {
         }
     }
 
-    // Joins the setter's half and the waiter's, which kept the value if it saw it, and gives the cell's memory back.
+    /// Joins the setter's half and the waiter's, which kept the value if it saw it, and gives the cell's memory back.
     pub fn settle(self, other: Half<V, C>, kept: Option<V>) -> V
         requires cell { cell_of self ≡ cell_of other }
         requires set { (v : V) × ((ran : Bool) × (place_of self ≡ (Sets (Finished v ran), []))) }

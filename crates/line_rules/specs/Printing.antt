@@ -1,5 +1,5 @@
 -- How bytes, numbers and lines are printed.
-use Rattle.std.specs.Prelude.{ℕ, ◌+◌, ◌/◌, ◌%◌, Bool, not, ◌&&◌, if◌then◌else◌, List, [], ◌∷◌, ◌++◌, nat_lt, ◌==◌, codes, decimal, flat_map}
+use Rattle.std.specs.Prelude.{ℕ, ◌+◌, ◌/◌, ◌%◌, Bool, not, ◌&&◌, if◌then◌else◌, List, [], ◌∷◌, ◌++◌, Option, Some, None, nat_lt, ◌==◌, codes, decimal, flat_map}
 use Rattle.std.specs.List.{join_with_byte}
 
 abbrev pub space : ℕ
@@ -22,16 +22,28 @@ is_plain byte = not (nat_lt byte 32) && nat_lt byte 127 && not (byte == backslas
 abbrev pub hexadecimal_digit : ℕ → ℕ
 hexadecimal_digit n = if nat_lt n 10 then 48 + n else 87 + n
 
+-- a backslash, x and two digits
+abbrev pub in_digits : ℕ → List ℕ
+in_digits byte = backslash ∷ 120 ∷ hexadecimal_digit (byte / 16) ∷ hexadecimal_digit (byte % 16) ∷ []
+
 -- the one spelling of a byte
 abbrev pub printed : ℕ → List ℕ
 printed byte =
     if is_plain byte then byte ∷ []
     else if byte == backslash then backslash ∷ backslash ∷ []
-    else backslash ∷ 120 ∷ hexadecimal_digit (byte / 16) ∷ hexadecimal_digit (byte % 16) ∷ []
+    else in_digits byte
 
 -- the printable form of bytes
 unfoldable pub printable : List ℕ → List ℕ
 printable bytes = flat_map printed bytes
+
+-- the spelling of a byte where one byte more, if one is given, is spelled by its digits
+abbrev pub printed_but : Option ℕ → ℕ → List ℕ
+printed_but None byte = printed byte
+printed_but (Some escaped) byte = if byte == escaped then in_digits byte else printed byte
+
+unfoldable pub printable_but : Option ℕ → List ℕ → List ℕ
+printable_but escaped bytes = flat_map (printed_but escaped) bytes
 
 -- a line: its fields with single spaces between them, and one line feed
 abbrev pub line : List (List ℕ) → List ℕ

@@ -1,0 +1,15 @@
+use Rattle.std.proofs.Common.{◌≡◌, ◌≤◌, ◌++◌, Some, length}
+use Rattle.line_rules.specs.Printing.{printable_but}
+use Rattle.dump_text.specs.Growing.{Grew}
+use Rattle.dump_text.proofs.printing.add_printable_but.Given as goal
+
+-- what was added, before what is still to add, is all
+abbrev pub invariant-loop-n : goal.invariant-loop-n
+invariant-loop-n l = record {
+  all : l.to ++ printable_but (Some l.escaped) l.left ≡ l.fn.to ++ printable_but (Some l.escaped) l.bytes;
+  within : length l.left ≤ length l.bytes;
+  grew : Grew l.fn.to l.to;
+}
+
+abbrev pub decreases-loop-n : goal.decreases-loop-n
+decreases-loop-n l = length l.left
