@@ -1,0 +1,6 @@
+pub mod Lists
+pub mod Orders
+pub mod Pages
+pub mod Rising
+pub mod Taking
+pub mod Walks

@@ -1,0 +1,55 @@
+-- The order of keys.
+use Rattle.std.proofs.Common.{◌≡◌, ℕ, ◌<◌, ◌≤◌, ◌⊎◌, inl, inr, true, false, not, List, [], ◌∷◌, refl, sym, ap, ◌∙◌, true≢false, arith}
+use Rattle.std.proofs.lemmas.Bool.{false≢true, cases_lt}
+use Rattle.std.specs.declared.cmp.Ordering.{Ordering}
+use Rattle.std.specs.declared.cmp.Ordering.TheVariants.{Less, Equal, Greater}
+use Rattle.std.specs.Cmp.Lexicographic.{nat_list_cmp_total}
+use Rattle.std.specs.Ordering.{is_lt, ordering_reverse}
+use Rattle.key_bytes.specs.Keys.{key_cmp, key_lt, key_le, after}
+use Rattle.key_bytes.specs.SuccessorLaws.{lt_first, lt_later, lt_rest, not_below_alone, irreflexive}
+
+pub less : (o : Ordering) → is_lt o ≡ true → o ≡ Less
+less Less h = refl
+less Equal h = absurd (false≢true h)
+less Greater h = absurd (false≢true h)
+
+-- the first is not above the second, which is below the third
+pub le_lt : (a b c : List ℕ) → key_lt b a ≡ false → key_lt b c ≡ true → key_lt a c ≡ true
+le_lt a b c above below = by (key_cmp b a) refl
+  where
+    by : (o : Ordering) → key_cmp b a ≡ o → key_lt a c ≡ true
+    by Less is = absurd (true≢false (sym (ap is_lt is) ∙ above))
+    by Equal is = ap is_lt (sym (nat_list_cmp_total.congr b a c is)) ∙ below
+    by Greater is = ap is_lt (nat_list_cmp_total.trans a b c (nat_list_cmp_total.antisymm a b ∙ ap ordering_reverse is) (less (key_cmp b c) below))
+
+-- the first is below the second, which is not above the third
+pub lt_le : (a b c : List ℕ) → key_lt a b ≡ true → key_lt c b ≡ false → key_lt a c ≡ true
+lt_le a b c below above = by (key_cmp c b) refl
+  where
+    by : (o : Ordering) → key_cmp c b ≡ o → key_lt a c ≡ true
+    by Less is = absurd (true≢false (sym (ap is_lt is) ∙ above))
+    by Equal is = ap is_lt (nat_list_cmp_total.antisymm a c ∙ ap ordering_reverse (nat_list_cmp_total.congr c b a is) ∙ sym (nat_list_cmp_total.antisymm a b)) ∙ below
+    by Greater is = ap is_lt (nat_list_cmp_total.trans a b c (less (key_cmp a b) below) (nat_list_cmp_total.antisymm b c ∙ ap ordering_reverse is))
+
+pub lt_trans : (a b c : List ℕ) → key_lt a b ≡ true → key_lt b c ≡ true → key_lt a c ≡ true
+lt_trans a b c p q = ap is_lt (nat_list_cmp_total.trans a b c (less (key_cmp a b) p) (less (key_cmp b c) q))
+
+pub above_not_below : (a b : List ℕ) → key_lt a b ≡ true → key_lt b a ≡ false
+above_not_below a b below = ap is_lt (nat_list_cmp_total.antisymm b a ∙ ap ordering_reverse (less (key_cmp a b) below))
+
+-- below the key after a key are that key and those below it
+pub lt_after : (x k : List ℕ) → key_lt x (after k) ≡ key_le x k
+lt_after [] [] = refl
+lt_after [] (c ∷ k) = refl
+lt_after (a ∷ x) [] = not_below_alone 0 a x (omega arith)
+lt_after (a ∷ x) (c ∷ k) = by (cases_lt a c) (cases_lt c a) (lt_after x k)
+  where
+    by : (a < c) ⊎ (c ≤ a) → (c < a) ⊎ (a ≤ c) → key_lt x (after k) ≡ key_le x k → key_lt (a ∷ x) (c ∷ after k) ≡ key_le (a ∷ x) (c ∷ k)
+    by (inl h) _ rest = lt_first a c x (after k) h ∙ sym (ap not (lt_later c a k x h))
+    by _ (inl h) rest = lt_later a c x (after k) h ∙ sym (ap not (lt_first c a k x h))
+    by (inr h) (inr g) rest =
+        let same : a ≡ c = omega arith in
+        lt_rest a c x (after k) same ∙ rest ∙ sym (ap not (lt_rest c a k x (sym same)))
+
+pub below_after : (k : List ℕ) → key_lt k (after k) ≡ true
+below_after k = lt_after k k ∙ ap not (irreflexive k)

@@ -1,0 +1,36 @@
+use Rattle.std.proofs.Common.{◌≡◌, ◌<◌, ◌≤◌, ◌++◌, suc, length, Some, sym, ap, ◌∙◌, arith}
+use Rattle.std.specs.Option.{option_map}
+use Rattle.key_bytes.specs.Entries.{entry_of}
+use Rattle.key_map.specs.Ends.{first}
+use Rattle.range_read.specs.Slices.{span}
+use Rattle.range_read.proofs.Taking.{step_smaller, step_whole, pushed_length, taken_full, taken_whole}
+use Rattle.range_read.proofs.walking.walk.Goals as goal
+
+pub loop-left-smaller : goal.loop-left-smaller
+loop-left-smaller g c =
+    let m = g.V.OrderedView.map c.args.view.now in
+    let is = sym (c.in_ok-pair.ensures {u = tt}) ∙ ap (option_map entry_of) c.in-Some.is in
+    step_smaller m c.loop-left.left.begin c.loop-left.left.end c.args.down (entry_of c.in-Some.pair) is
+    c.in_ok-left.left.begin c.in_ok-left.left.end (c.in_ok-left.ensures {u = tt}).begin (c.in_ok-left.ensures {u = tt}).end
+
+pub loop-left-preserved : goal.loop-left-preserved
+loop-left-preserved g c =
+    let m = g.V.OrderedView.map c.args.view.now in
+    let is = sym (c.in_ok-pair.ensures {u = tt}) ∙ ap (option_map entry_of) c.in-Some.is in
+    let pushed = (c.in_ok-push.ensures {u = tt}).ok in
+    let longer = pushed_length c.loop-left.pairs c.push.new.self (entry_of c.in-Some.pair) pushed in
+    record {
+      whole = step_whole m c.loop-left.left.begin c.loop-left.left.end c.args.down (entry_of c.in-Some.pair) is
+          c.in_ok-left.left.begin c.in_ok-left.left.end (c.in_ok-left.ensures {u = tt}).begin (c.in_ok-left.ensures {u = tt}).end
+          c.loop-left.pairs c.push.new.self (span m c.args.range.now.begin c.args.range.now.end c.args.down) c.loop-left.invariant.whole pushed;
+      short = λ some. let room = c.is_full.ensures.room c.loop-left-test.true some in omega (arith, room, longer, c.len.ensures);
+    }
+
+pub returns-clause-pairs : goal.returns-clause-pairs
+returns-clause-pairs g c =
+    let m = g.V.OrderedView.map c.args.view.now in
+    let full = c.is_full.ensures.full c.loop-left-test.false in
+    let short = c.loop-left.invariant.short full.0 in
+    let is : c.args.limit ≡ length c.loop-left.pairs = omega (arith, full.1, short, c.len.ensures) in
+    taken_full c.args.limit c.loop-left.pairs (span m c.loop-left.left.begin c.loop-left.left.end c.args.down) (span m c.args.range.now.begin c.args.range.now.end c.args.down)
+    c.loop-left.invariant.whole full.0 is

@@ -1,0 +1,4 @@
+pub mod Pages
+pub mod Selecting
+pub mod Slices
+pub mod Walks

@@ -1,0 +1,35 @@
+//! Reads of more than one key: key selectors, slices of a range, and pages of a slice, over any ordered view of a
+//! database.
+//!
+//! A view answers the first pair from a key on, and the last pair below a key (`OrderedView`). From these two alone
+//! `resolve` answers the key that a selector means (`select`, in `specs/Selecting.antt`), `all` the pairs of a range,
+//! in order or reversed, up to a limit (`slice`, in `specs/Slices.antt`), and `page` the first so many of these, and
+//! whether more follow (`page_size`, in `specs/Pages.antt`). Pages that are read one behind another, each from where
+//! the one before ended, are together the slice (`proofs/Joined.antt`).
+//!
+//! The rules are those of the API reference of release 6.3: "Key selectors" for `resolve`, and
+//! "fdb_transaction_get_range" for the rest. A selector is a key, `or_equal` and an offset: let c be how many keys are
+//! less than the key, or are less than or equal to it where `or_equal` holds; it means the key at place
+//! c - 1 + offset, counted from 0. Before the first place stands the empty key, behind the last one `FF`.
+#![tactic(auto)]
+
+mod fault;
+mod mode;
+mod paged;
+mod reading;
+mod resolving;
+mod selector;
+mod view;
+mod walking;
+
+pub use fault::RangeFault;
+pub use mode::Mode;
+pub use paged::Page;
+pub use reading::{all, page};
+
+
+pub use selector::Selector;
+pub use view::OrderedView;
+
+
+

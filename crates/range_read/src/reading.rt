@@ -1,0 +1,82 @@
+//! Slices of a range, whole and by pages.
+
+ghost use Rattle.std.specs.Prelude.{◌≡◌, ◌≤◌, ◌++◌, ◌-◌, true, false, IfOk, IfErr, take, length, nat_lt};
+ghost use Rattle.range_read.specs.Pages.{lacks_limit, page_size, IsRefused};
+ghost use Rattle.range_read.specs.Slices.{slice, slice_behind, span, last_key};
+
+use crate::fault::RangeFault;
+use crate::mode::{Mode, lacks, size_of_page};
+use crate::paged::Page;
+use crate::view::OrderedView;
+use crate::walking::{first_inside, walk};
+use key_bytes::{KeyRange, Pairs};
+use std::alloc::Global;
+
+// Refuses a mode that wants a limit which is not there. It takes no memory.
+fn check(mode: Mode, limit: u32) -> Result<(), RangeFault>
+    ensures ok { IfOk result (λ _. lacks_limit mode limit ≡ false) }
+    ensures err { IfErr result (λ fault. (lacks_limit mode limit ≡ true) × IsRefused mode limit fault) }
+{
+    if lacks(mode, limit) {
+        return Err(RangeFault::NoLimit);
+    }
+    Ok(())
+}
+
+/// The pairs of `range` that `view` has, in the order of their keys, or in the other order where `reverse` holds; of
+/// these the first `limit`, or all where it is 0 (API reference of release 6.3, "fdb_transaction_get_range"). There are
+/// none where the range's begin isn't less than its end. NoLimit exactly where the mode is `Exact` and the limit is 0;
+/// else the mode changes nothing. NoMemory where memory runs out.
+pub fn all<V: OrderedView>(
+    alloc: Global,
+    view: &V,
+    range: &KeyRange,
+    limit: u32,
+    reverse: bool,
+    mode: Mode,
+) -> Result<Pairs, RangeFault>
+    ensures pairs { IfOk result (λ pairs. pairs
+        ≡ slice (V.map view.now) range.now.begin range.now.end limit reverse) }
+    ensures limited { IfOk result (λ _. lacks_limit mode limit ≡ false) }
+    ensures refused { IfErr result (IsRefused mode limit) }
+{
+    check(mode, limit)?;
+    let taken = walk(alloc, view, range, limit, reverse)?;
+    Ok(taken.pairs)
+}
+
+/// The first page of the slice that `all` answers: its first pairs, as many as the mode, the limit and the turn say
+/// (`page_size`), or all where there are no more; and whether the slice has pairs behind these (API reference of release
+/// 6.3, "fdb_transaction_get_range", streaming modes). Where more follow, the slice is the page followed by the slice of
+/// what is left: from the key after the page's last key to the end, or in reverse from the begin to the last key, with
+/// the limit less so many pairs. Turns are counted from 1. NoLimit exactly where the mode is `Exact` and the limit is 0.
+/// NoMemory where memory runs out.
+pub fn page<V: OrderedView>(
+    alloc: Global,
+    view: &V,
+    range: &KeyRange,
+    limit: u32,
+    reverse: bool,
+    mode: Mode,
+    turn: u32,
+) -> Result<Page, RangeFault>
+    requires { 1 ≤ turn }
+    ensures pairs { IfOk result (λ page. page.pairs
+        ≡ take (page_size mode limit turn) (slice (V.map view.now) range.now.begin range.now.end limit reverse)) }
+    ensures more { IfOk result (λ page. page.more
+        ≡ nat_lt (page_size mode limit turn) (length (slice (V.map view.now) range.now.begin range.now.end limit reverse))) }
+    ensures rest { IfOk result (λ page. page.more ≡ true
+        → slice (V.map view.now) range.now.begin range.now.end limit reverse
+        ≡ page.pairs ++ slice_behind (V.map view.now) range.now.begin range.now.end (limit - length page.pairs) reverse (last_key page.pairs)) }
+    ensures limited { IfOk result (λ _. lacks_limit mode limit ≡ false) }
+    ensures refused { IfErr result (IsRefused mode limit) }
+{
+    check(mode, limit)?;
+    let size = size_of_page(mode, limit, turn);
+    let taken = walk(alloc, view, range, size, reverse)?;
+    let more = limit != size && first_inside(view, &taken.left, reverse)?.is_some();
+    Ok(Page {
+        pairs: taken.pairs,
+        more,
+    })
+}

@@ -1,0 +1,122 @@
+//! Walks along the keys of a view, up or down.
+
+ghost use Rattle.std.specs.Prelude.{◌≡◌, ◌<◌, ◌≤◌, ◌++◌, ℕ, true, false, IfOk};
+ghost use Rattle.std.specs.Option.{option_map};
+ghost use Rattle.key_bytes.specs.Entries.{entry_of};
+ghost use Rattle.key_map.specs.Ends.{first};
+ghost use Rattle.range_read.specs.Slices.{slice, span};
+ghost use Rattle.range_read.specs.Walks.{begin_behind, behind, end_behind, near, onward};
+
+use crate::view::OrderedView;
+use key_bytes::{Key, KeyRange, Pair, Pairs};
+use std::alloc::{AllocError, Global};
+
+// What a walk through a range took, and what it left of the range.
+#[derive(Drop)]
+pub(crate) struct Taken {
+    pub(crate) pairs: Pairs,
+    pub(crate) left: KeyRange,
+}
+
+// The first pair that a walk from a key meets.
+pub(crate) fn step<V: OrderedView>(
+    view: &V,
+    from: &Key,
+    down: bool,
+) -> Result<Option<Pair>, AllocError>
+    ensures { IfOk result (λ pair. option_map entry_of pair
+        ≡ first (onward (V.map view.now) from.now down)) }
+{
+    if down {
+        view.prev(from.as_slice())
+    } else {
+        view.next(from.as_slice())
+    }
+}
+
+// Where a walk goes on behind a key that it met.
+pub(crate) fn go_on(key: Key, down: bool) -> Result<Key, AllocError>
+    ensures { IfOk result (λ from. from ≡ behind key down) }
+{
+    if down { Ok(key) } else { key.after() }
+}
+
+// The end of a range at which a walk through it starts.
+fn near_end(range: &KeyRange, down: bool) -> &Key
+    ensures { result.now ≡ near range.now.begin range.now.end down }
+{
+    if down { &range.end } else { &range.begin }
+}
+
+// The first pair that a walk through a range meets.
+pub(crate) fn first_inside<V: OrderedView>(
+    view: &V,
+    range: &KeyRange,
+    down: bool,
+) -> Result<Option<Pair>, AllocError>
+    ensures { IfOk result (λ pair. option_map entry_of pair
+        ≡ first (span (V.map view.now) range.now.begin range.now.end down)) }
+{
+    let Some(pair) = step(view, near_end(range, down), down)? else {
+        return Ok(None);
+    };
+    if range.has(pair.key.as_slice()) {
+        Ok(Some(pair))
+    } else {
+        Ok(None)
+    }
+}
+
+// What is left of a range behind a key that a walk met in it.
+fn left_behind(range: KeyRange, key: &Key, down: bool) -> Result<KeyRange, AllocError>
+    ensures begin { IfOk result (λ left. left.begin ≡ begin_behind range.begin key.now down) }
+    ensures end { IfOk result (λ left. left.end ≡ end_behind range.end key.now down) }
+{
+    if down {
+        Ok(KeyRange {
+            begin: range.begin,
+            end: key.copy()?,
+        })
+    } else {
+        Ok(KeyRange {
+            begin: key.after()?,
+            end: range.end,
+        })
+    }
+}
+
+// Whether a limit is reached; 0 is no limit.
+fn is_full(limit: u32, taken: usize) -> bool
+    ensures full { result ≡ true → (0 < limit) × (limit ≤ taken) }
+    ensures room { result ≡ false → 0 < limit → taken < limit }
+{
+    limit != 0 && limit as usize <= taken
+}
+
+// Takes the first pairs of a range, up to a limit, and says what is left of the range behind them.
+pub(crate) fn walk<V: OrderedView>(
+    alloc: Global,
+    view: &V,
+    range: &KeyRange,
+    limit: u32,
+    down: bool,
+) -> Result<Taken, AllocError>
+    ensures pairs { IfOk result (λ taken. taken.pairs
+        ≡ slice (V.map view.now) range.now.begin range.now.end limit down) }
+    ensures whole { IfOk result (λ taken. taken.pairs ++ span (V.map view.now) taken.left.begin taken.left.end down
+        ≡ span (V.map view.now) range.now.begin range.now.end down) }
+{
+    let mut pairs = Pairs::new(alloc);
+    let mut left = KeyRange {
+        begin: range.begin.copy()?,
+        end: range.end.copy()?,
+    };
+    while !is_full(limit, pairs.len()) {
+        let Some(pair) = first_inside(view, &left, down)? else {
+            return Ok(Taken { pairs, left });
+        };
+        left = left_behind(left, &pair.key, down)?;
+        pairs.push(pair)?;
+    }
+    Ok(Taken { pairs, left })
+}
