@@ -2,5 +2,6 @@ pub mod Lists
 pub mod Orders
 pub mod Pages
 pub mod Rising
+pub mod Selectors
 pub mod Taking
 pub mod Walks

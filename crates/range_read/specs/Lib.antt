@@ -1,3 +1,4 @@
+pub mod Courses
 pub mod Pages
 pub mod Selecting
 pub mod Slices

@@ -1,8 +1,9 @@
 -- Walks along the keys, up or down.
-use Rattle.std.specs.Prelude.{ℕ, Bool, true, false, List}
+use Rattle.std.specs.Prelude.{ℕ, ◌==◌, Bool, true, false, not, ◌&&◌, List, is_some}
 use Rattle.std.specs.FinMap as finite
 use Rattle.std.specs.List.{filter}
 use Rattle.key_bytes.specs.Keys.{after, key_le, key_lt}
+use Rattle.key_map.specs.Ends.{first}
 use Rattle.database_rules.specs.Databases.{Database}
 use Rattle.range_read.specs.Slices.{Entries, turned}
 
@@ -33,3 +34,7 @@ begin_behind begin key false = after key
 abbrev pub end_behind : List ℕ → List ℕ → Bool → List ℕ
 end_behind end key true = key
 end_behind end key false = end
+
+-- whether a slice goes on behind a page of a size which left this of the range: the limit isn't reached, and a pair is left
+abbrev pub has_more : (limit size : ℕ) → Entries → Bool
+has_more limit size left = not (limit == size) && is_some (first left)

@@ -28,6 +28,7 @@ pub use paged::Page;
 pub use reading::{all, page};
 
 
+pub use resolving::resolve;
 pub use selector::Selector;
 pub use view::OrderedView;
 

@@ -3,6 +3,7 @@
 ghost use Rattle.std.specs.Prelude.{◌≡◌, ◌≤◌, ◌++◌, ◌-◌, true, false, IfOk, IfErr, take, length, nat_lt};
 ghost use Rattle.range_read.specs.Pages.{lacks_limit, page_size, IsRefused};
 ghost use Rattle.range_read.specs.Slices.{slice, slice_behind, span, last_key};
+ghost use Rattle.range_read.specs.Walks.{has_more};
 
 use crate::fault::RangeFault;
 use crate::mode::{Mode, lacks, size_of_page};
@@ -10,7 +11,7 @@ use crate::paged::Page;
 use crate::view::OrderedView;
 use crate::walking::{first_inside, walk};
 use key_bytes::{KeyRange, Pairs};
-use std::alloc::Global;
+use std::alloc::{AllocError, Global};
 
 // Refuses a mode that wants a limit which is not there. It takes no memory.
 fn check(mode: Mode, limit: u32) -> Result<(), RangeFault>
@@ -21,6 +22,23 @@ fn check(mode: Mode, limit: u32) -> Result<(), RangeFault>
         return Err(RangeFault::NoLimit);
     }
     Ok(())
+}
+
+// Whether a slice goes on behind a page of this size, which left this of the range.
+fn goes_on<V: OrderedView>(
+    view: &V,
+    left: &KeyRange,
+    limit: u32,
+    size: u32,
+    reverse: bool,
+) -> Result<bool, AllocError>
+    ensures { IfOk result (λ more. more
+        ≡ has_more limit size (span (V.map view.now) left.now.begin left.now.end reverse)) }
+{
+    if limit == size {
+        return Ok(false);
+    }
+    Ok(first_inside(view, left, reverse)?.is_some())
 }
 
 /// The pairs of `range` that `view` has, in the order of their keys, or in the other order where `reverse` holds; of
@@ -74,7 +92,7 @@ pub fn page<V: OrderedView>(
     check(mode, limit)?;
     let size = size_of_page(mode, limit, turn);
     let taken = walk(alloc, view, range, size, reverse)?;
-    let more = limit != size && first_inside(view, &taken.left, reverse)?.is_some();
+    let more = goes_on(view, &taken.left, limit, size, reverse)?;
     Ok(Page {
         pairs: taken.pairs,
         more,

@@ -1,9 +1,9 @@
 //! The key that a selector means.
 
-ghost use Rattle.std.specs.Prelude.{◌≡◌, ℕ, List, IfOk, slice_get, if◌then◌else◌};
+ghost use Rattle.std.specs.Prelude.{◌≡◌, ℕ, [], false, true, List, IfOk, slice_get, slice_index_or};
 ghost use Rattle.std.specs.Map.{keys_of};
-ghost use Rattle.std.specs.Option.{option_map};
-ghost use Rattle.key_bytes.specs.Keys.{after};
+ghost use Rattle.key_bytes.specs.Keys.{top};
+ghost use Rattle.range_read.specs.Courses.{start_of, IsCourse};
 ghost use Rattle.range_read.specs.Selecting.{select};
 ghost use Rattle.range_read.specs.Walks.{onward};
 
@@ -33,4 +33,82 @@ fn nth_key<V: OrderedView>(
         left -= 1;
     }
     Ok(None)
+}
+
+// The key at a place of those at or above a key, or `FF` where there are fewer.
+fn key_above<V: OrderedView>(
+    alloc: Global,
+    view: &V,
+    start: &Key,
+    place: u32,
+) -> Result<Key, AllocError>
+    ensures { IfOk result (λ key. key
+        ≡ slice_index_or (keys_of (onward (V.map view.now) start.now false)) place top) }
+{
+    match nth_key(view, start, place, false)? {
+        Some(key) => Ok(key),
+        None => Bytes::from_slice(alloc, &[255]),
+    }
+}
+
+// The key at a place of those below a key, the greatest first, or the empty key where there are fewer.
+fn key_below<V: OrderedView>(
+    alloc: Global,
+    view: &V,
+    start: &Key,
+    place: u32,
+) -> Result<Key, AllocError>
+    ensures { IfOk result (λ key. key
+        ≡ slice_index_or (keys_of (onward (V.map view.now) start.now true)) place []) }
+{
+    match nth_key(view, start, place, true)? {
+        Some(key) => Ok(key),
+        None => Ok(Bytes::new(alloc)),
+    }
+}
+
+// Where a selector's key is found from its start on: at a place of the keys above, or of those below.
+enum Course {
+    Up(u32),
+    Down(u32),
+}
+
+// The way that an offset leads.
+fn course_of(offset: i32) -> Course
+    ensures { IsCourse offset result }
+{
+    if offset > 0 {
+        Course::Up(offset.unsigned_abs() - 1)
+    } else {
+        Course::Down(offset.unsigned_abs())
+    }
+}
+
+// The least key that does not stand before a selector's place, whether the database has it or not.
+fn start_key(selector: &Selector) -> Result<Key, AllocError>
+    ensures { IfOk result (λ start. start ≡ start_of selector.now) }
+{
+    if selector.or_equal {
+        selector.key.after()
+    } else {
+        selector.key.copy()
+    }
+}
+
+/// The key that a selector means among the keys of `view`: with c keys that are less than the selector's key, or less
+/// than or equal to it where `or_equal` holds, the key at place c - 1 + offset, counted from 0; the empty key where that
+/// place is negative, and `FF` where it is behind the last key (API reference of release 6.3, "Key selectors"). It makes
+/// no more steps than there are keys on the way. An error where memory runs out.
+pub fn resolve<V: OrderedView>(
+    alloc: Global,
+    view: &V,
+    selector: &Selector,
+) -> Result<Key, AllocError>
+    ensures { IfOk result (λ key. key ≡ select (V.map view.now) selector.now) }
+{
+    let start = start_key(selector)?;
+    match course_of(selector.offset) {
+        Course::Up(place) => key_above(alloc, view, &start, place),
+        Course::Down(place) => key_below(alloc, view, &start, place),
+    }
 }
