@@ -1,9 +1,10 @@
 -- Pages: their sizes, and what follows them.
-use Rattle.std.proofs.Common.{◌≡◌, ℕ, zero, suc, ◌<◌, ◌≤◌, ◌+◌, ◌-◌, ◌*◌, ◌^◌, min, Bool, true, false, cond, not, ◌&&◌, List, [], ◌∷◌, ◌++◌, length, take, None, Some, is_some, nat_eq, nat_lt, refl, sym, ap, subst, ◌∙◌, true≢false, arith, lt-ltb, le-ltb, ltb-true, ltb-false, append_assoc, length-append}
+use Rattle.std.proofs.Common.{◌≡◌, ℕ, zero, suc, ◌<◌, ◌≤◌, ◌+◌, ◌-◌, ◌*◌, ◌^◌, min, Bool, true, false, cond, not, ◌&&◌, List, [], ◌∷◌, ◌++◌, length, take, slice_get, None, Some, is_some, nat_eq, nat_lt, refl, sym, ap, subst, ◌∙◌, true≢false, arith, lt-ltb, le-ltb, ltb-true, ltb-false, append_assoc, length-append}
 use Rattle.std.proofs.Math.Dec.{eqb-suc-zero}
 use Rattle.std.proofs.Math.Nat.{pow-le-pow_right, one-le-pow}
 use Rattle.std.proofs.lemmas.Bool.{eqb-false, eqb-true}
 use Rattle.std.proofs.lemmas.List.{take-take, length-take, append-nil}
+use Rattle.std.proofs.lemmas.Option.{same_Some}
 use Rattle.std.specs.Option.{option_map_or}
 use Rattle.key_map.specs.Ends.{first, last}
 use Rattle.database_rules.specs.Databases.{Database}
@@ -147,7 +148,16 @@ with_last [] some = absurd (omega arith)
 with_last (x ∷ []) some = ([], x, refl)
 with_last (y ∷ z ∷ ps) some = let rest = with_last (z ∷ ps) (omega arith) in (y ∷ rest.0, rest.1, ap (λ ys. y ∷ ys) rest.2)
 
-behind_is : (database : Database) (b e : List ℕ) (limit : ℕ) (down : Bool) (key : List ℕ) → cut limit (span database (begin_behind b key down) (end_behind e key down) down) ≡ slice_behind database b e limit down key
+-- the last key, by its place
+pub last_at : (ps : Entries) (e : Entry) → 0 < length ps → slice_get ps (length ps - 1) ≡ Some e → e.0 ≡ last_key ps
+last_at [] e some is = absurd (omega arith)
+last_at (x ∷ []) e some is = ap (λ e. e.0) (sym (same_Some x e is))
+last_at (x ∷ y ∷ ps) e some is =
+    let n : suc (length ps) - 1 ≡ length ps = omega arith in
+    let m : suc (suc (length ps)) - 1 ≡ suc (length ps) = omega arith in
+    last_at (y ∷ ps) e (omega arith) (ap (slice_get (y ∷ ps)) n ∙ ap (slice_get (x ∷ y ∷ ps)) (sym m) ∙ is)
+
+pub behind_is : (database : Database) (b e : List ℕ) (limit : ℕ) (down : Bool) (key : List ℕ) → cut limit (span database (begin_behind b key down) (end_behind e key down) down) ≡ slice_behind database b e limit down key
 behind_is database b e limit true key = refl
 behind_is database b e limit false key = refl
 

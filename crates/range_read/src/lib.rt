@@ -4,8 +4,8 @@
 //! A view answers the first pair from a key on, and the last pair below a key (`OrderedView`). From these two alone
 //! `resolve` answers the key that a selector means (`select`, in `specs/Selecting.antt`), `all` the pairs of a range,
 //! in order or reversed, up to a limit (`slice`, in `specs/Slices.antt`), and `page` the first so many of these, and
-//! whether more follow (`page_size`, in `specs/Pages.antt`). Pages that are read one behind another, each from where
-//! the one before ended, are together the slice (`proofs/Joined.antt`).
+//! whether more follow (`page_size`, in `specs/Pages.antt`). Where more follow, the slice is the page followed by the
+//! slice of what is left, so pages that are read one behind another until no more follow are together the slice.
 //!
 //! The rules are those of the API reference of release 6.3: "Key selectors" for `resolve`, and
 //! "fdb_transaction_get_range" for the rest. A selector is a key, `or_equal` and an offset: let c be how many keys are
@@ -26,11 +26,9 @@ pub use fault::RangeFault;
 pub use mode::Mode;
 pub use paged::Page;
 pub use reading::{all, page};
-
-
 pub use resolving::resolve;
 pub use selector::Selector;
 pub use view::OrderedView;
 
-
-
+#[cfg(test)]
+mod tests;
