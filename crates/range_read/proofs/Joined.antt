@@ -1,6 +1,6 @@
 -- Pages that are read one behind another, for callers.
-use Rattle.std.proofs.Common.{◌≡◌, ℕ, ◌<◌, ◌≤◌, ◌-◌, min, Bool, true, false, List, ◌++◌, length, take, nat_lt, sym, ap, ◌∙◌, arith, ltb-true, ltb-false, append_assoc, length-append}
-use Rattle.std.proofs.lemmas.List.{length-take, take_all}
+use Rattle.std.proofs.Common.{◌≡◌, ℕ, ◌<◌, ◌-◌, Bool, true, false, List, ◌++◌, length, take, nat_lt, sym, ap, ◌∙◌, arith, ltb-true, append_assoc, length-append}
+use Rattle.std.proofs.lemmas.List.{length-take}
 use Rattle.database_rules.specs.Databases.{Database}
 use Rattle.range_read.specs.declared.mode.Mode.{Mode}
 use Rattle.range_read.specs.Pages.{page_size, lacks_limit}
@@ -8,42 +8,37 @@ use Rattle.range_read.specs.Slices.{Entries, slice, slice_behind, last_key}
 use Rattle.range_read.specs.Walks.{begin_behind, end_behind}
 use Rattle.range_read.proofs.Pages.{IsSize-page, behind_is}
 
--- the last page has all that is left
-pub joined_last : (n : ℕ) (ps got now rest all : Entries) (more : Bool) → ps ++ rest ≡ all → got ≡ take n rest → more ≡ nat_lt n (length rest) → more ≡ false → now ≡ ps ++ got → now ≡ all
-joined_last n ps got now rest all more whole page is none added =
-    added ∙ ap (λ ys. ps ++ ys) (page ∙ take_all n rest (ltb-false n (length rest) (sym is ∙ none))) ∙ whole
-
 module _ (database : Database) (b e : List ℕ) (limit : ℕ) (down : Bool) (mode : Mode) (turn : ℕ) (got : Entries) (more : Bool)
     (limited : lacks_limit mode limit ≡ false)
     (page : got ≡ take (page_size mode limit turn) (slice database b e limit down))
     (is : more ≡ nat_lt (page_size mode limit turn) (length (slice database b e limit down)))
     (some : more ≡ true)
   where
-  -- a page behind which more follow is not empty
-  pub got_some : 0 < length got
-  got_some =
-      let size = IsSize-page mode limit turn limited in
-      let long = ltb-true _ _ (sym is ∙ some) in
-      let same = ap length page in
-      let front = length-take (page_size mode limit turn) (slice database b e limit down) in
-      omega (arith, size.some, long, same, front)
+    -- a page behind which more follow is not empty
+    pub got_some : 0 < length got
+    got_some =
+        let size = IsSize-page mode limit turn limited in
+        let long = ltb-true _ _ (sym is ∙ some) in
+        let same = ap length page in
+        let front = length-take (page_size mode limit turn) (slice database b e limit down) in
+        omega (arith, size.some, long, same, front)
 
-  module _ (rest : slice database b e limit down ≡ got ++ slice_behind database b e (limit - length got) down (last_key got))
-      (c d : List ℕ) (begin : c ≡ begin_behind b (last_key got) down) (end : d ≡ end_behind e (last_key got) down) (left : ℕ) (fewer : left ≡ limit - length got)
-    where
-    rest_is_slice : slice database b e limit down ≡ got ++ slice database c d left down
-    rest_is_slice =
-        rest ∙ ap (λ ys. got ++ ys) (sym (behind_is database b e (limit - length got) down (last_key got))
-        ∙ (λ i. slice database (sym begin i) (sym end i) (sym fewer i) down))
+    module _ (rest : slice database b e limit down ≡ got ++ slice_behind database b e (limit - length got) down (last_key got))
+        (c d : List ℕ) (begin : c ≡ begin_behind b (last_key got) down) (end : d ≡ end_behind e (last_key got) down) (left : ℕ) (fewer : left ≡ limit - length got)
+      where
+        rest_is_slice : slice database b e limit down ≡ got ++ slice database c d left down
+        rest_is_slice =
+            rest ∙ ap (λ ys. got ++ ys) (sym (behind_is database b e (limit - length got) down (last_key got))
+            ∙ (λ i. slice database (sym begin i) (sym end i) (sym fewer i) down))
 
-    -- each page leaves less
-    pub joined_smaller : length (slice database c d left down) < length (slice database b e limit down)
-    joined_smaller =
-        let same = ap length rest_is_slice in let both = length-append got (slice database c d left down) in
-        omega (arith, same, both, got_some)
+        -- each page leaves less
+        pub joined_smaller : length (slice database c d left down) < length (slice database b e limit down)
+        joined_smaller =
+            let same = ap length rest_is_slice in let both = length-append got (slice database c d left down) in
+            omega (arith, same, both, got_some)
 
-    -- what was read, followed by what is left, stays the slice
-    pub joined_whole : (ps now all : Entries) → ps ++ slice database b e limit down ≡ all → now ≡ ps ++ got → now ++ slice database c d left down ≡ all
-    joined_whole ps now all whole added =
-        ap (λ now. now ++ slice database c d left down) added ∙ append_assoc ps got (slice database c d left down)
-        ∙ ap (λ ys. ps ++ ys) (sym rest_is_slice) ∙ whole
+        -- what was read, followed by what is left, stays the slice
+        pub joined_whole : (ps now all : Entries) → ps ++ slice database b e limit down ≡ all → now ≡ ps ++ got → now ++ slice database c d left down ≡ all
+        joined_whole ps now all whole added =
+            ap (λ now. now ++ slice database c d left down) added ∙ append_assoc ps got (slice database c d left down)
+            ∙ ap (λ ys. ps ++ ys) (sym rest_is_slice) ∙ whole

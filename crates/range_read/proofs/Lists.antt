@@ -1,5 +1,5 @@
 -- Facts about lists, and about tests of them.
-use Rattle.std.proofs.Common.{◌≡◌, Bool, true, false, cond, List, [], ◌∷◌, ◌++◌, reverse, Option, None, Some, refl, sym, ap, ◌∙◌}
+use Rattle.std.proofs.Common.{◌≡◌, Bool, true, false, cond, List, [], ◌∷◌, ◌++◌, reverse, None, Some, refl, sym, ap, ◌∙◌}
 use Rattle.std.proofs.lemmas.List.{append-nil, reverse-append}
 use Rattle.std.proofs.lemmas.List.Elements.{filter-append}
 use Rattle.std.proofs.lemmas.Option.{none-some}
@@ -47,9 +47,6 @@ module _ {X : Type 0} where
       first_of (z ∷ zs) is = is
 
   module _ (p : X → Bool) where
-    pub filter-one : (x : X) → filter p (x ∷ []) ≡ cond (p x) (x ∷ []) []
-    filter-one x = refl
-
     pub filter-reverse : (xs : List X) → filter p (reverse xs) ≡ reverse (filter p xs)
     filter-reverse [] = refl
     filter-reverse (x ∷ xs) =

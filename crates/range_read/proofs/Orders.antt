@@ -6,7 +6,7 @@ use Rattle.std.specs.declared.cmp.Ordering.TheVariants.{Less, Equal, Greater}
 use Rattle.std.specs.Cmp.Lexicographic.{nat_list_cmp_total}
 use Rattle.std.specs.Ordering.{is_lt, ordering_reverse}
 use Rattle.key_bytes.specs.Keys.{key_cmp, key_lt, key_le, after}
-use Rattle.key_bytes.specs.SuccessorLaws.{lt_first, lt_later, lt_rest, not_below_alone, irreflexive}
+use Rattle.key_bytes.specs.SuccessorLaws.{lt_first, lt_later, lt_rest, not_below_alone}
 
 pub less : (o : Ordering) → is_lt o ≡ true → o ≡ Less
 less Less h = refl
@@ -21,15 +21,6 @@ le_lt a b c above below = by (key_cmp b a) refl
     by Less is = absurd (true≢false (sym (ap is_lt is) ∙ above))
     by Equal is = ap is_lt (sym (nat_list_cmp_total.congr b a c is)) ∙ below
     by Greater is = ap is_lt (nat_list_cmp_total.trans a b c (nat_list_cmp_total.antisymm a b ∙ ap ordering_reverse is) (less (key_cmp b c) below))
-
--- the first is below the second, which is not above the third
-pub lt_le : (a b c : List ℕ) → key_lt a b ≡ true → key_lt c b ≡ false → key_lt a c ≡ true
-lt_le a b c below above = by (key_cmp c b) refl
-  where
-    by : (o : Ordering) → key_cmp c b ≡ o → key_lt a c ≡ true
-    by Less is = absurd (true≢false (sym (ap is_lt is) ∙ above))
-    by Equal is = ap is_lt (nat_list_cmp_total.antisymm a c ∙ ap ordering_reverse (nat_list_cmp_total.congr c b a is) ∙ sym (nat_list_cmp_total.antisymm a b)) ∙ below
-    by Greater is = ap is_lt (nat_list_cmp_total.trans a b c (less (key_cmp a b) below) (nat_list_cmp_total.antisymm b c ∙ ap ordering_reverse is))
 
 pub lt_trans : (a b c : List ℕ) → key_lt a b ≡ true → key_lt b c ≡ true → key_lt a c ≡ true
 lt_trans a b c p q = ap is_lt (nat_list_cmp_total.trans a b c (less (key_cmp a b) p) (less (key_cmp b c) q))
@@ -50,6 +41,3 @@ lt_after (a ∷ x) (c ∷ k) = by (cases_lt a c) (cases_lt c a) (lt_after x k)
     by (inr h) (inr g) rest =
         let same : a ≡ c = omega arith in
         lt_rest a c x (after k) same ∙ rest ∙ sym (ap not (lt_rest c a k x (sym same)))
-
-pub below_after : (k : List ℕ) → key_lt k (after k) ≡ true
-below_after k = lt_after k k ∙ ap not (irreflexive k)

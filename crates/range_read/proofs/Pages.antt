@@ -1,12 +1,11 @@
 -- Pages: their sizes, and what follows them.
-use Rattle.std.proofs.Common.{◌≡◌, ℕ, zero, suc, ◌<◌, ◌≤◌, ◌+◌, ◌-◌, ◌*◌, ◌^◌, min, Bool, true, false, cond, not, ◌&&◌, List, [], ◌∷◌, ◌++◌, length, take, slice_get, None, Some, is_some, nat_eq, nat_lt, refl, sym, ap, subst, ◌∙◌, true≢false, arith, lt-ltb, le-ltb, ltb-true, ltb-false, append_assoc, length-append}
+use Rattle.std.proofs.Common.{◌≡◌, ℕ, zero, suc, ◌<◌, ◌≤◌, ◌-◌, ◌*◌, ◌^◌, min, Bool, true, false, cond, not, ◌&&◌, List, [], ◌∷◌, ◌++◌, length, take, slice_get, Some, nat_eq, nat_lt, refl, sym, ap, ◌∙◌, true≢false, arith, lt-ltb, le-ltb, ltb-true, ltb-false, append_assoc, length-append}
 use Rattle.std.proofs.Math.Dec.{eqb-suc-zero}
 use Rattle.std.proofs.Math.Nat.{pow-le-pow_right, one-le-pow}
 use Rattle.std.proofs.lemmas.Bool.{eqb-false, eqb-true}
 use Rattle.std.proofs.lemmas.List.{take-take, length-take, append-nil}
 use Rattle.std.proofs.lemmas.Option.{same_Some}
 use Rattle.std.specs.Option.{option_map_or}
-use Rattle.key_map.specs.Ends.{first, last}
 use Rattle.database_rules.specs.Databases.{Database}
 use Rattle.range_read.specs.declared.mode.Mode.{Mode}
 use Rattle.range_read.specs.declared.mode.Mode.TheVariants.{WantAll, Iterator, Exact, Small, Medium, Large, Serial}

@@ -1,6 +1,6 @@
 -- A selector's key by a walk: up for a positive offset, down else.
-use Rattle.std.proofs.Common.{◌≡◌, ℕ, zero, suc, ◌<◌, ◌≤◌, ◌+◌, ◌-◌, Bool, true, false, cond, not, List, [], ◌∷◌, ◌++◌, length, reverse, get_or, slice_get, nat_lt, ltb-true, ltb-false, refl, sym, ap, ◌∙◌, arith}
-use Rattle.std.specs.Prelude.{ℤ, pos, negsuc, ◌+ℤ◌, ◌-ℤ◌, neg_ℤ, count_by}
+use Rattle.std.proofs.Common.{◌≡◌, ℕ, suc, ◌<◌, ◌+◌, ◌-◌, Bool, true, false, cond, not, List, [], ◌∷◌, ◌++◌, length, reverse, get_or, nat_lt, ltb-true, ltb-false, refl, sym, ap, ◌∙◌, arith}
+use Rattle.std.specs.Prelude.{pos, negsuc, ◌+ℤ◌, ◌-ℤ◌, neg_ℤ, count_by}
 use Rattle.std.specs.FinMap as finite
 use Rattle.std.specs.List.{filter}
 use Rattle.std.specs.Map.{keys_of}
@@ -15,7 +15,7 @@ use Rattle.range_read.specs.Selecting.{select, key_at, sorted_keys, stands_befor
 use Rattle.range_read.specs.Slices.{Entries}
 use Rattle.range_read.specs.Walks.{onward}
 use Rattle.range_read.proofs.Lists.{filter-reverse, reverse-cons}
-use Rattle.range_read.proofs.Orders.{lt_after, lt_trans, above_not_below, le_lt}
+use Rattle.range_read.proofs.Orders.{lt_after, above_not_below, le_lt}
 use Rattle.range_read.proofs.Rising.{IsBefore, Rises}
 use Rattle.range_read.proofs.Walks.{Entry, meets_first, turned_rises}
 
@@ -53,8 +53,7 @@ module _ (start : List ℕ) where
   none_is_below e [] before high = (refl, refl)
   none_is_below e (f ∷ es) before high =
       let rest = none_is_below e es before.1 high in
-      let fails : key_lt f.0 start ≡ false = above_not_below start f.0 (le_lt start e.0 f.0 high before.0) in
-      (
+      let fails : key_lt f.0 start ≡ false = above_not_below start f.0 (le_lt start e.0 f.0 high before.0) in (
         ap (λ b. cond b (f ∷ below es) (below es)) fails ∙ rest.0,
         ap (λ b. cond (not b) (f ∷ not_below es) (not_below es)) fails ∙ ap (λ ys. f ∷ ys) rest.1,
       )
@@ -73,9 +72,6 @@ module _ (start : List ℕ) where
 -- ---- the two laws
 
 module _ (database : Database) (s : Selector) where
-  es : Entries
-  es = finite.entries database
-
   lows : List (List ℕ)
   lows = keys_of (filter (λ e. key_lt e.0 (start_of s)) (finite.entries database))
 

@@ -1,13 +1,11 @@
 -- The steps of walks: what is taken, followed by what is left, stays the whole.
-use Rattle.std.proofs.Common.{◌≡◌, ℕ, zero, suc, ◌<◌, ◌≤◌, ◌-◌, Bool, List, [], ◌∷◌, ◌++◌, length, take, slice_get, None, Some, refl, sym, ap, subst, ◌∙◌, append_assoc, arith, length-append}
-use Rattle.std.proofs.lemmas.List.{append-nil, take_all}
-use Rattle.std.proofs.Math.Seq.{take-length}
+use Rattle.std.proofs.Common.{◌≡◌, ℕ, zero, suc, ◌<◌, ◌-◌, Bool, List, [], ◌∷◌, ◌++◌, length, take, slice_get, Some, refl, sym, ap, ◌∙◌, append_assoc, arith, length-append}
 use Rattle.std.specs.Map.{keys_of}
 use Rattle.key_map.specs.Ends.{first}
 use Rattle.database_rules.specs.Databases.{Database}
 use Rattle.range_read.specs.Slices.{Entries, cut, span}
 use Rattle.range_read.specs.Walks.{onward, behind, begin_behind, end_behind}
-use Rattle.range_read.proofs.Lists.{first_is, first_none}
+use Rattle.range_read.proofs.Lists.{first_is}
 use Rattle.range_read.proofs.Walks.{Entry, onward_behind, span_behind}
 
 -- ---- one step through a range
@@ -45,16 +43,6 @@ module _ {X : Type 0} where
   taken_full zero ps rest all whole some full = absurd (omega arith)
   taken_full (suc n) ps rest all whole some full =
       sym (take_front ps rest) ∙ (λ i. take (sym full i) (whole i))
-
-  -- nothing is left, and no more than the limit are taken
-  pub taken_whole : (limit : ℕ) (ps rest all : List X) → ps ++ rest ≡ all → first rest ≡ None → (0 < limit → length ps ≤ limit) → ps ≡ cut limit all
-  taken_whole limit ps rest all whole none short =
-      let is : ps ≡ all = sym (append-nil ps) ∙ ap (λ ys. ps ++ ys) (sym (first_none rest none)) ∙ whole in
-      by limit short ∙ ap (cut limit) is
-    where
-      by : (n : ℕ) → (0 < n → length ps ≤ n) → ps ≡ cut n ps
-      by zero short = refl
-      by (suc n) short = sym (take_all (suc n) ps (short (omega arith)))
 
 -- ---- one step of a walk from a key
 

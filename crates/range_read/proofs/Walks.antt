@@ -1,5 +1,5 @@
 -- What a walk meets, one key after the other.
-use Rattle.std.proofs.Common.{◌≡◌, ℕ, Bool, true, false, not, ◌&&◌, List, [], ◌∷◌, reverse, None, Some, T, refl, sym, ap, subst, ◌∙◌, true≢false}
+use Rattle.std.proofs.Common.{◌≡◌, ℕ, Bool, true, false, not, ◌&&◌, List, [], ◌∷◌, None, Some, T, refl, sym, ap, ◌∙◌, true≢false}
 use Rattle.std.specs.FinMap as finite
 use Rattle.std.specs.FinMap.Entries.{below_all, is_sorted}
 use Rattle.std.specs.List.{filter}
@@ -10,8 +10,8 @@ use Rattle.database_rules.specs.Databases.{Database}
 use Rattle.range_read.specs.Slices.{Entries, span, turned}
 use Rattle.range_read.specs.Walks.{is_onward, onward, behind, near, begin_behind, end_behind}
 use Rattle.range_read.proofs.Lists.{filter-reverse}
-use Rattle.range_read.proofs.Orders.{lt_trans, lt_le, le_lt, lt_after, above_not_below}
-use Rattle.range_read.proofs.Rising.{IsBefore, Rises, flipped, rises_reverse, behind_first, none_stricter, first_stricter, none_above, first_passes}
+use Rattle.range_read.proofs.Orders.{lt_trans, le_lt, lt_after, above_not_below}
+use Rattle.range_read.proofs.Rising.{IsBefore, Rises, rises_reverse, behind_first, none_stricter, first_stricter, none_above, first_passes}
 
 -- ---- the pairs of a database, in the order of a walk
 

@@ -1,5 +1,5 @@
 -- How many pairs a page has.
-use Rattle.std.specs.Prelude.{◌≡◌, ℕ, ◌-◌, ◌*◌, ◌^◌, ◌==◌, Bool, true, false, IsTrue, if◌then◌else◌, min}
+use Rattle.std.specs.Prelude.{◌≡◌, ℕ, ◌-◌, ◌*◌, ◌^◌, ◌==◌, Bool, true, false, if◌then◌else◌, min}
 use Rattle.range_read.specs.declared.mode.Mode.{Mode}
 use Rattle.range_read.specs.declared.mode.Mode.TheVariants.{WantAll, Iterator, Exact, Small, Medium, Large, Serial}
 use Rattle.range_read.specs.declared.fault.RangeFault.{RangeFault}

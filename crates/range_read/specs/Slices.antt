@@ -1,5 +1,5 @@
 -- Slices of a range.
-use Rattle.std.specs.Prelude.{ℕ, zero, suc, ◌-◌, Bool, true, false, List, [], ◌∷◌, take, reverse}
+use Rattle.std.specs.Prelude.{ℕ, zero, suc, Bool, true, false, List, [], take, reverse}
 use Rattle.std.specs.FinMap as finite
 use Rattle.std.specs.List.{filter}
 use Rattle.std.specs.Option.{option_map_or}

@@ -1,8 +1,7 @@
 //! The key that a selector means.
 
-ghost use Rattle.std.specs.Prelude.{◌≡◌, ℕ, [], false, true, List, IfOk, slice_get, slice_index_or};
+ghost use Rattle.std.specs.Prelude.{◌≡◌, IfOk, slice_get, slice_index_or};
 ghost use Rattle.std.specs.Map.{keys_of};
-ghost use Rattle.key_bytes.specs.Keys.{top};
 ghost use Rattle.range_read.specs.Courses.{start_of, IsCourse};
 ghost use Rattle.range_read.specs.Selecting.{select};
 ghost use Rattle.range_read.specs.Walks.{onward};
@@ -35,35 +34,21 @@ fn nth_key<V: OrderedView>(
     Ok(None)
 }
 
-// The key at a place of those at or above a key, or `FF` where there are fewer.
-fn key_above<V: OrderedView>(
+// The key at a place of those that a walk from a key meets, or another where there are fewer.
+fn key_or<V: OrderedView>(
     alloc: Global,
     view: &V,
     start: &Key,
     place: u32,
+    down: bool,
+    otherwise: &[u8],
 ) -> Result<Key, AllocError>
     ensures { IfOk result (λ key. key
-        ≡ slice_index_or (keys_of (onward (V.map view.now) start.now false)) place top) }
+        ≡ slice_index_or (keys_of (onward (V.map view.now) start.now down)) place otherwise.now) }
 {
-    match nth_key(view, start, place, false)? {
+    match nth_key(view, start, place, down)? {
         Some(key) => Ok(key),
-        None => Bytes::from_slice(alloc, &[255]),
-    }
-}
-
-// The key at a place of those below a key, the greatest first, or the empty key where there are fewer.
-fn key_below<V: OrderedView>(
-    alloc: Global,
-    view: &V,
-    start: &Key,
-    place: u32,
-) -> Result<Key, AllocError>
-    ensures { IfOk result (λ key. key
-        ≡ slice_index_or (keys_of (onward (V.map view.now) start.now true)) place []) }
-{
-    match nth_key(view, start, place, true)? {
-        Some(key) => Ok(key),
-        None => Ok(Bytes::new(alloc)),
+        None => Bytes::from_slice(alloc, otherwise),
     }
 }
 
@@ -108,7 +93,7 @@ pub fn resolve<V: OrderedView>(
 {
     let start = start_key(selector)?;
     match course_of(selector.offset) {
-        Course::Up(place) => key_above(alloc, view, &start, place),
-        Course::Down(place) => key_below(alloc, view, &start, place),
+        Course::Up(place) => key_or(alloc, view, &start, place, false, &[255]),
+        Course::Down(place) => key_or(alloc, view, &start, place, true, &[]),
     }
 }

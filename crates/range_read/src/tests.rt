@@ -249,7 +249,15 @@ fn size_of(
 ) -> Result<(usize, bool), RangeFault>
     requires { 1 ≤ turn }
 {
-    let got = page(alloc, view, &range_of(alloc, &[], &[255])?, limit, false, mode, turn)?;
+    let got = page(
+        alloc,
+        view,
+        &range_of(alloc, &[], &[255])?,
+        limit,
+        false,
+        mode,
+        turn,
+    )?;
     Ok((got.pairs.len(), got.more))
 }
 
@@ -276,7 +284,10 @@ fn joins_pages(rt: HostRuntime) -> Result<(), Fail> {
         for limit in [0u32, 18] {
             let joined = by_pages(alloc, &view, &range, limit, reverse, Mode::Small)?;
             let whole = all(alloc, &view, &range, limit, reverse, Mode::WantAll)?;
-            assert_eq!(rt; shown(alloc, &joined)?.as_slice(), shown(alloc, &whole)?.as_slice());
+            assert_eq!(rt;
+                shown(alloc, &joined)?.as_slice(),
+                shown(alloc, &whole)?.as_slice()
+            );
         }
     }
     Ok(())

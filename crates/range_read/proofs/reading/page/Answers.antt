@@ -1,8 +1,8 @@
-use Rattle.std.proofs.Common.{◌≡◌, false, take, nat_lt, length, sym, ap, ◌∙◌}
+use Rattle.std.proofs.Common.{sym, ap, ◌∙◌}
 use Rattle.range_read.specs.Pages.{page_size}
-use Rattle.range_read.specs.Slices.{cut, slice, span}
+use Rattle.range_read.specs.Slices.{cut, span}
 use Rattle.range_read.specs.Walks.{has_more}
-use Rattle.range_read.proofs.Pages.{IsSize, IsSize-page, take_cut, more_is, page_rest}
+use Rattle.range_read.proofs.Pages.{IsSize-page, take_cut, more_is, page_rest}
 use Rattle.range_read.proofs.reading.page.Goals as goal
 
 pub returns-clause-pairs : goal.returns-clause-pairs
@@ -32,4 +32,4 @@ returns-clause-rest g c more =
     let page = (c.in_ok-taken.ensures {u = tt}).pairs ∙ ap (λ n. cut n all) c.size_of_page-size.ensures in
     page_rest m b e c.args.limit n c.args.reverse c.in_ok-taken.taken.pairs left is (c.in_ok-taken.ensures {u = tt}).whole page
     (sym (more_is c.args.limit n c.in_ok-taken.taken.pairs left all is (c.in_ok-taken.ensures {u = tt}).whole page)
-      ∙ ap (λ n. has_more c.args.limit n left) (sym c.size_of_page-size.ensures) ∙ sym (c.in_ok-more.ensures {u = tt}) ∙ more)
+    ∙ ap (λ n. has_more c.args.limit n left) (sym c.size_of_page-size.ensures) ∙ sym (c.in_ok-more.ensures {u = tt}) ∙ more)

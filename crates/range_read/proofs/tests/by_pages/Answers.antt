@@ -1,4 +1,4 @@
-use Rattle.std.proofs.Common.{◌≡◌, ◌≤◌, ◌-◌, Bool, true, false, not, refl, sym, ap, ◌∙◌, true≢false, arith}
+use Rattle.std.proofs.Common.{◌-◌, ap, ◌∙◌, arith}
 use Rattle.range_read.specs.Slices.{slice}
 use Rattle.range_read.proofs.Joined.{got_some, joined_smaller, joined_whole}
 use Rattle.range_read.proofs.tests.by_pages.Goals as goal
@@ -25,8 +25,8 @@ pages-preserved g c =
     next.limited next.pairs next.more more in
     record {
       whole = joined_whole m c.pages.left.begin c.pages.left.end c.pages.rest c.args.reverse c.args.mode c.pages.turn c.in_ok-next.next.pairs c.in_ok-next.next.more
-    next.limited next.pairs next.more more (next.rest more)
-    c.in_ok-left-2.left.begin c.in_ok-left-2.left.end (left.begin some) (left.end some) c.rest_of-rest.result (c.rest_of-rest.ensures ∙ ap (λ n. c.pages.rest - n) c.len.ensures)
+          next.limited next.pairs next.more more (next.rest more)
+          c.in_ok-left-2.left.begin c.in_ok-left-2.left.end (left.begin some) (left.end some) c.rest_of-rest.result (c.rest_of-rest.ensures ∙ ap (λ n. c.pages.rest - n) c.len.ensures)
           c.pages.pairs c.append.new.pairs (slice m c.args.range.now.begin c.args.range.now.end c.args.limit c.args.reverse) c.pages.invariant.whole (c.in_ok-append.ensures {u = tt});
       turns = let before = c.pages.invariant.turns in let now = c.saturating_add-turn.ensures in omega (arith, before, now);
     }

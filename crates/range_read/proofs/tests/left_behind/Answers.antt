@@ -1,4 +1,4 @@
-use Rattle.std.proofs.Common.{◌-◌, true, false, slice_get, sym, ap, ◌∙◌}
+use Rattle.std.proofs.Common.{◌-◌, slice_get, sym, ap, ◌∙◌}
 use Rattle.key_bytes.specs.Entries.{entry_of}
 use Rattle.key_bytes.specs.Keys.{after}
 use Rattle.range_read.specs.Walks.{begin_behind, end_behind}

@@ -1,9 +1,8 @@
-use Rattle.std.proofs.Common.{◌≡◌, ◌<◌, ◌≤◌, ◌++◌, suc, length, Some, sym, ap, ◌∙◌, arith}
+use Rattle.std.proofs.Common.{◌≡◌, length, sym, ap, ◌∙◌, arith}
 use Rattle.std.specs.Option.{option_map}
 use Rattle.key_bytes.specs.Entries.{entry_of}
-use Rattle.key_map.specs.Ends.{first}
 use Rattle.range_read.specs.Slices.{span}
-use Rattle.range_read.proofs.Taking.{step_smaller, step_whole, pushed_length, taken_full, taken_whole}
+use Rattle.range_read.proofs.Taking.{step_smaller, step_whole, pushed_length, taken_full}
 use Rattle.range_read.proofs.walking.walk.Goals as goal
 
 pub loop-left-smaller : goal.loop-left-smaller
