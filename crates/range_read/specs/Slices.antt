@@ -7,14 +7,16 @@ use Rattle.key_bytes.specs.Keys.{after, within}
 use Rattle.key_map.specs.Ends.{last}
 use Rattle.database_rules.specs.Databases.{Database}
 
+-- keys with their values
 abbrev pub Entries : Type 0
 Entries = List (List ℕ × List ℕ)
 
+-- a list, or the same list from its end on
 abbrev pub turned : {X : Type 0} → Bool → List X → List X
 turned true xs = reverse xs
 turned false xs = xs
 
--- the first so many; 0 is no limit
+-- the first so many of a list; 0 is no limit
 abbrev pub cut : {X : Type 0} → ℕ → List X → List X
 cut zero xs = xs
 cut (suc n) xs = take (suc n) xs
