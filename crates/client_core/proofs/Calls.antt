@@ -7,7 +7,7 @@ use Rattle.database_rules.specs.declared.AtomicOp.{AtomicOp}
 use Rattle.database_rules.specs.declared.Phase.{Phase}
 use Rattle.database_rules.specs.declared.Phase.TheVariants as phase
 use Rattle.database_rules.specs.Atomics.{atomic_named}
-use Rattle.database_rules.specs.Databases.{Operation, History, Commit, Set, Clear, ClearRange}
+use Rattle.database_rules.specs.Databases.{Mutation, History, Commit, Set, Clear, ClearRange}
 use Rattle.database_rules.specs.Transactions.{Transaction, fresh, get_code, set_code, clear_code, clear_range_code, atomic_code, commit_code, is_read_only, is_cancelled, is_retryable, with_version}
 use Rattle.fdb_calls.specs.Calling.{Called, called, get_by, write_by, atomic_by, commit_by, commit_allowed, commit_refused, on_error_by, error_handled}
 
@@ -20,9 +20,9 @@ get_quiet : (code : Option ℕ) (history : History) (transaction : Transaction) 
 get_quiet (Some code) history transaction key = record { commits = refl; lives = omega arith }
 get_quiet None history transaction key = record { commits = refl; lives = omega arith }
 
-write_quiet : (code : Option ℕ) (transaction : Transaction) (operation : Operation) → IsQuiet (write_by code transaction operation)
-write_quiet (Some code) transaction operation = record { commits = refl; lives = omega arith }
-write_quiet None transaction operation = record { commits = refl; lives = omega arith }
+write_quiet : (code : Option ℕ) (transaction : Transaction) (mutation : Mutation) → IsQuiet (write_by code transaction mutation)
+write_quiet (Some code) transaction mutation = record { commits = refl; lives = omega arith }
+write_quiet None transaction mutation = record { commits = refl; lives = omega arith }
 
 atomic_quiet : (code : Option ℕ) (op : Option AtomicOp) (transaction : Transaction) (key operand : List ℕ) → IsQuiet (atomic_by code op transaction key operand)
 atomic_quiet code None transaction key operand = record { commits = refl; lives = omega arith }
@@ -96,7 +96,7 @@ few_lives history life transaction its_call = by (quiet history life transaction
     by (inl is) = is.lives
     by (inr e) = subst (λ c. (called history life transaction c).lives ≤ 1) (sym e) (none_few _ (commit_lives history life transaction))
 
--- a transaction without an operation commits nothing
+-- a transaction without a mutation commits nothing
 empty_commits : (history : History) (life n : ℕ) → (called history life (with_version history (fresh n)) call.Commit).commits ≡ []
 unfolding called commit_code
 empty_commits history life n = refl

@@ -11,12 +11,12 @@ use Rattle.fdb_calls.specs.Calling.{Called, called}
 use Rattle.machine_rules.specs.Worlds.{World, fresh_at_last, is_fault, step}
 use Rattle.version_store.specs.Versions.{last_of}
 use Rattle.txn_core.specs.Stands as txn
-use Rattle.client_core.specs.Stands.{Kept, StandsFor}
+use Rattle.client_core.specs.Stands.{CoreModel, StandsFor}
 use Rattle.client_core.specs.Sound.{Took, TookApart, IsSound}
 use Rattle.client_core.proofs.Calls.{first_commits, commit_lives, few_lives}
 
 -- one life more was drawn
-abbrev pub drawn : Kept → Kept
+abbrev pub drawn : CoreModel → CoreModel
 drawn core = record core { next_life = core.next_life + 1 }
 
 -- what a first call leaves of a transaction of its own
@@ -28,20 +28,20 @@ abbrev pub world_called : World → TxnCall → World
 world_called world its_call = record world { next_life = world.next_life + 1 + (first_called world its_call).lives }
 
 -- each transaction for which this one stands is called as the rule says
-abbrev pub CallsApart : Transaction → Kept → TxnCall → Reply → Transaction → Kept → Type 0
+abbrev pub CallsApart : Transaction → CoreModel → TxnCall → Reply → Transaction → CoreModel → Type 0
 CallsApart begun core its_call reply left after = (transaction : Transaction) (world : World) → txn.StandsFor begun transaction → StandsFor core world
     → TookApart reply left after world (called world.history world.next_life transaction its_call)
 
 -- a fresh transaction at the last version of each history
-abbrev pub IsAtLast : Transaction → Kept → Type 0
+abbrev pub IsAtLast : Transaction → CoreModel → Type 0
 IsAtLast begun core = (history : History) → txn.Keeps core.store history → txn.StandsFor begun (with_version history (fresh core.next_life))
 
-pub record FirstTook (reply : Reply) (left : Transaction) (after : Kept) (world : World) (its_call : TxnCall) : Type 0 where
+pub record FirstTook (reply : Reply) (left : Transaction) (after : CoreModel) (world : World) (its_call : TxnCall) : Type 0 where
   pub reply_is : reply ≡ (first_called world its_call).reply
   pub stands : txn.StandsFor left (first_called world its_call).transaction
   pub world_stands : StandsFor after (world_called world its_call)
 
-pub first_took : (core after : Kept) (world : World) (its_call : TxnCall) (begun left : Transaction) (reply : Reply) → IsAtLast begun core
+pub first_took : (core after : CoreModel) (world : World) (its_call : TxnCall) (begun left : Transaction) (reply : Reply) → IsAtLast begun core
     → CallsApart begun (drawn core) its_call reply left after → StandsFor core world → FirstTook reply left after world its_call
 first_took core after world its_call begun left reply fresh_one calls stands =
     let begun_stands = subst (λ n. txn.StandsFor begun (with_version world.history (fresh n))) stands.next_life (fresh_one world.history stands.keeps) in
@@ -55,7 +55,7 @@ first_took core after world its_call begun left reply fresh_one calls stands =
     }
 
 -- where the call was refused, nothing is committed
-pub refused_took : (after : Kept) (world : World) (its_call : TxnCall) (left : Transaction) (reply : Reply) → FirstTook reply left after world its_call → is_fault reply ≡ true
+pub refused_took : (after : CoreModel) (world : World) (its_call : TxnCall) (left : Transaction) (reply : Reply) → FirstTook reply left after world its_call → is_fault reply ≡ true
     → Took reply after (step world (request.Database its_call))
 unfolding step
 refused_took after world its_call left reply first fault =
@@ -69,7 +69,7 @@ refused_took after world its_call left reply first fault =
     }
 
 -- otherwise the commit follows
-pub committed_took : (middle after : Kept) (world : World) (its_call : TxnCall) (between left : Transaction) (reply committed : Reply) → FirstTook reply between middle world its_call
+pub committed_took : (middle after : CoreModel) (world : World) (its_call : TxnCall) (between left : Transaction) (reply committed : Reply) → FirstTook reply between middle world its_call
     → is_fault reply ≡ false → CallsApart between middle call.Commit committed left after
     → Took (cond (is_fault committed) committed reply) after (step world (request.Database its_call))
 unfolding step
@@ -89,7 +89,7 @@ committed_took middle after world its_call between left reply committed first fi
     }
 
 -- after the first call the store has a version to spare, and there is a life to spare
-pub few_between : (core after : Kept) (its_call : TxnCall) (left : Transaction) (reply : Reply) → ((world : World) → StandsFor core world → FirstTook reply left after world its_call)
+pub few_between : (core after : CoreModel) (its_call : TxnCall) (left : Transaction) (reply : Reply) → ((world : World) → StandsFor core world → FirstTook reply left after world its_call)
     → IsSound core (2 ^ 62) (2 ^ 63) → (last_of after.store < 2 ^ 63) × (after.next_life < 2 ^ 64 - 1)
 few_between core after its_call left reply took sound =
     let first = (took sound.world sound.stands).world_stands in

@@ -7,11 +7,11 @@ use Rattle.version_store.specs.Versions as versions
 use Rattle.version_store.specs.Versions.{Versions, last_of}
 use Rattle.machine_rules.specs.Worlds.{Transactions, begun}
 use Rattle.txn_core.specs.Stands.{Keeps}
-use Rattle.client_core.specs.Stands.{Kept, StandsFor, AreAlike}
+use Rattle.client_core.specs.Stands.{CoreModel, StandsFor, AreAlike}
 
 -- the store keeps the history of the first commit
 pub first_kept : (store : Versions) (pairs : List (List ℕ × List ℕ)) → last_of store ≡ 1 → versions.at store 0 ≡ finite.empty
-    → versions.at store 1 ≡ do_all (loaded pairs).operations finite.empty → Keeps store (loaded pairs ∷ [])
+    → versions.at store 1 ≡ do_all (loaded pairs).mutations finite.empty → Keeps store (loaded pairs ∷ [])
 first_kept store pairs last empty first = record { last_is = last; at_is = by }
   where
     by : (version : ℕ) → version ≤ 1 → versions.at store version ≡ at (loaded pairs ∷ []) version
@@ -20,7 +20,7 @@ first_kept store pairs last empty first = record { last_is = last; at_is = by }
     by (suc (suc n)) within = absurd (omega arith)
 
 -- a store of the first version, and no transaction, stand for the beginning
-pub begun_stands : (core : Kept) (pairs : List (List ℕ × List ℕ)) (words : ℕ → ℕ) → Keeps core.store (loaded pairs ∷ []) → core.transactions ≡ finite.empty → core.next_life ≡ 0
+pub begun_stands : (core : CoreModel) (pairs : List (List ℕ × List ℕ)) (words : ℕ → ℕ) → Keeps core.store (loaded pairs ∷ []) → core.transactions ≡ finite.empty → core.next_life ≡ 0
     → StandsFor core (begun pairs words)
 begun_stands core pairs words keeps none life = record {
   keeps = keeps;

@@ -14,7 +14,7 @@ use Rattle.fdb_calls.specs.Calling.{called}
 use Rattle.machine_rules.specs.Worlds.{World, Transactions, transaction_of, call_named, with_new, with_named}
 use Rattle.txn_core.specs.Stands as txn
 use Rattle.txn_core.specs.declared.answer.Answer.{Answer}
-use Rattle.client_core.specs.Stands.{Kept, StandsFor, AreAlike}
+use Rattle.client_core.specs.Stands.{CoreModel, StandsFor, AreAlike}
 use Rattle.client_core.specs.Sound.{Took}
 
 same_key : (name : List ℕ) → eq_by_cmp key_cmp name name ≡ true
@@ -40,7 +40,7 @@ alike_inserted m w name kept transaction stands alike = λ q.
     (subst (λ y. AreAlike (cond (eq_by_cmp key_cmp q name) (Some kept) (finite.get m q)) y) (sym (finite.get-insert nat_list_cmp_total w name transaction q)) both)
 
 -- a transaction of a new life under a name
-pub new_stands : (core : Kept) (world : World) (name : List ℕ) (kept : Transaction) (after : Kept) → StandsFor core world → txn.StandsFor kept (fresh core.next_life)
+pub new_stands : (core : CoreModel) (world : World) (name : List ℕ) (kept : Transaction) (after : CoreModel) → StandsFor core world → txn.StandsFor kept (fresh core.next_life)
     → after.store ≡ core.store → after.transactions ≡ finite.insert core.transactions name kept → after.next_life ≡ core.next_life + 1 → StandsFor after (with_new world name)
 new_stands core world name kept after stands fresh_one store transactions next_life = record {
   keeps = subst (λ s. txn.Keeps s world.history) (sym store) stands.keeps;
@@ -58,11 +58,11 @@ alike_there (Some x) None alike = absurd alike
 alike_there (Some x) (Some y) alike = refl
 
 -- a name that has a transaction needs none
-pub named_had : (core : Kept) (world : World) (name : List ℕ) → StandsFor core world → is_some (finite.get core.transactions name) ≡ true → with_named world name ≡ world
+pub named_had : (core : CoreModel) (world : World) (name : List ℕ) → StandsFor core world → is_some (finite.get core.transactions name) ≡ true → with_named world name ≡ world
 named_had core world name stands there =
     ap (λ b. cond b world (with_new world name)) (sym (alike_there (finite.get core.transactions name) (finite.get world.transactions name) (stands.transactions name)) ∙ there)
 
-pub named_none : (core : Kept) (world : World) (name : List ℕ) → StandsFor core world → is_some (finite.get core.transactions name) ≡ false → with_named world name ≡ with_new world name
+pub named_none : (core : CoreModel) (world : World) (name : List ℕ) → StandsFor core world → is_some (finite.get core.transactions name) ≡ false → with_named world name ≡ with_new world name
 named_none core world name stands there =
     ap (λ b. cond b world (with_new world name)) (sym (alike_there (finite.get core.transactions name) (finite.get world.transactions name) (stands.transactions name)) ∙ there)
 
@@ -78,7 +78,7 @@ byte_counts true = refl
 byte_counts false = refl
 
 -- a call on the transaction of a name, which is there, is the call of the step
-pub named_took : (core after : Kept) (world : World) (name : List ℕ) (call : TxnCall) (before left : Transaction) (answer : Answer)
+pub named_took : (core after : CoreModel) (world : World) (name : List ℕ) (call : TxnCall) (before left : Transaction) (answer : Answer)
     → finite.get core.transactions name ≡ Some before
     → ((transaction : Transaction) (history : History) → txn.StandsFor before transaction → txn.Keeps core.store history → txn.Answers answer left after.store history (called history core.next_life transaction call))
     → after.transactions ≡ finite.insert core.transactions name left → after.next_life ≡ core.next_life + cond answer.drew_life 1 0

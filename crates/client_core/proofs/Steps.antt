@@ -10,7 +10,7 @@ use Rattle.fdb_calls.specs.declared.TxnCall.TheVariants as call
 use Rattle.database_rules.specs.Databases.{Commit, last}
 use Rattle.fdb_calls.specs.Calling.{called}
 use Rattle.machine_rules.specs.Worlds.{World, HasWords, step, with_new, transaction_of, call_named, fresh_at_last, is_fault, Stepped}
-use Rattle.client_core.specs.Stands.{Kept, StandsFor, Answers}
+use Rattle.client_core.specs.Stands.{CoreModel, StandsFor, Answers}
 use Rattle.client_core.specs.Sound.{IsSound, Took}
 use Rattle.client_core.proofs.Calls.{few_commits, few_lives, commit_commits}
 use Rattle.client_core.proofs.Databases.{first_called}
@@ -68,18 +68,18 @@ pub words_kept : (world : World) (given : Request) (words : ℕ → ℕ) → Has
 words_kept world given words has place = has place ∙ (λ i. sym (step_words world given) i place)
 
 -- the reply and what a core stands for, as the contract says it
-pub took_answers : (its_reply : Reply) (core : Kept) (words : ℕ → ℕ) (stepped : Stepped) → Took its_reply core stepped → HasWords stepped.world words → Answers its_reply core words stepped
+pub took_answers : (its_reply : Reply) (core : CoreModel) (words : ℕ → ℕ) (stepped : Stepped) → Took its_reply core stepped → HasWords stepped.world words → Answers its_reply core words stepped
 took_answers reply.Done core words stepped took has = (sym took.reply_is, took.stands, has)
 took_answers (reply.Value value) core words stepped took has = (sym took.reply_is, took.stands, has)
 took_answers (reply.Fault code) core words stepped took has = (sym took.reply_is, took.stands, has)
 took_answers reply.NoMemory core words stepped took has = tt
 
 -- how many requests were taken does not matter for what a core stands for
-pub stands_counted : (core : Kept) (applied : ℕ) (world : World) → StandsFor core world → StandsFor (record core { applied = applied }) world
+pub stands_counted : (core : CoreModel) (applied : ℕ) (world : World) → StandsFor core world → StandsFor (record core { applied = applied }) world
 stands_counted core applied world stands = record { keeps = stands.keeps; transactions = stands.transactions; next_life = stands.next_life }
 
 -- a core that is sound takes a request, and is sound after it
-pub sound_taken : (core after : Kept) (given : Request) (its_reply : Reply) (applied : ℕ) → ((world : World) → StandsFor core world → Took its_reply after (step world given))
+pub sound_taken : (core after : CoreModel) (given : Request) (its_reply : Reply) (applied : ℕ) → ((world : World) → StandsFor core world → Took its_reply after (step world given))
     → IsSound core (applied + 1) (2 * applied) → IsSound after (applied + 1 + 1) (2 * (applied + 1))
 sound_taken core after given its_reply applied took sound =
     let few = step_few sound.world given in
@@ -91,7 +91,7 @@ sound_taken core after given its_reply applied took sound =
     }
 
 -- a core that is sound has versions and lives to spare
-pub sound_enough : (core : Kept) (applied counted : ℕ) → applied < 2 ^ 62 → IsSound core (applied + 1) (2 * applied) → IsSound (record core { applied = counted }) (2 ^ 62) (2 ^ 63)
+pub sound_enough : (core : CoreModel) (applied counted : ℕ) → applied < 2 ^ 62 → IsSound core (applied + 1) (2 * applied) → IsSound (record core { applied = counted }) (2 ^ 62) (2 ^ 63)
 sound_enough core applied counted few sound = record {
   world = sound.world;
   stands = stands_counted core counted sound.world sound.stands;

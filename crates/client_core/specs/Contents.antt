@@ -1,6 +1,6 @@
 -- What the code keeps, as contracts see it.
 use Rattle.client_core.specs.declared.contents.Contents.{Contents}
-use Rattle.client_core.specs.Stands.{Kept}
+use Rattle.client_core.specs.Stands.{CoreModel}
 
-abbrev pub kept_of : Contents → Kept
-kept_of contents = record { store = contents.store; transactions = contents.transactions; next_life = contents.next_life; applied = contents.applied }
+abbrev pub model_of : Contents → CoreModel
+model_of contents = record { store = contents.store; transactions = contents.transactions; next_life = contents.next_life; applied = contents.applied }

@@ -11,7 +11,7 @@ use Rattle.txn_core.specs.Stands as txn
 
 -- what a core keeps: the store of its versions, the transactions by name, the number of the next life, and how many
 -- requests it took
-pub record Kept : Type 0 where
+pub record CoreModel : Type 0 where
   pub store : Versions
   pub transactions : Transactions
   pub next_life : ℕ
@@ -26,14 +26,14 @@ AreAlike (Some kept) (Some transaction) = txn.StandsFor kept transaction
 
 -- A core stands for each world whose history its store keeps, which has the number of its next life, and in which each
 -- name has a transaction that the core's stands for, or none where the core has none.
-pub record StandsFor (core : Kept) (world : World) : Type 0 where
+pub record StandsFor (core : CoreModel) (world : World) : Type 0 where
   pub keeps : txn.Keeps core.store world.history
   pub transactions : (name : List ℕ) → AreAlike (finite.get core.transactions name) (finite.get world.transactions name)
   pub next_life : core.next_life ≡ world.next_life
 
 -- the reply is that of a step, the core stands for its world, and the words still to come are that world's; or memory ran
 -- out, and nothing is said of the core and of the words
-abbrev pub Answers : Reply → Kept → (ℕ → ℕ) → Stepped → Type 0
+abbrev pub Answers : Reply → CoreModel → (ℕ → ℕ) → Stepped → Type 0
 Answers reply.Done core words stepped = (stepped.reply ≡ reply.Done) × StandsFor core stepped.world × HasWords stepped.world words
 Answers (reply.Value value) core words stepped = (stepped.reply ≡ reply.Value value) × StandsFor core stepped.world × HasWords stepped.world words
 Answers (reply.Fault code) core words stepped = (stepped.reply ≡ reply.Fault code) × StandsFor core stepped.world × HasWords stepped.world words

@@ -26,23 +26,23 @@ pub struct Core {
 
 impl Model for Core {
     ghost use Rattle.std.specs.Prelude.{◌≡◌, false, ◌+◌, ◌*◌};
-    ghost use Rattle.client_core.specs.Stands.{Kept};
+    ghost use Rattle.client_core.specs.Stands.{CoreModel};
     ghost use Rattle.client_core.specs.Sound.{IsSound};
-    ghost use Rattle.client_core.specs.Contents.{kept_of};
+    ghost use Rattle.client_core.specs.Contents.{model_of};
     ghost use Rattle.std.specs.FinMap as finite;
     ghost use Rattle.key_bytes.specs.Keys.{key_cmp};
     ghost use Rattle.std.specs.Coded.{codes, coded_ℕ, coded_list};
     ghost use Rattle.version_store.specs.contracts.store.Store as store;
     ghost use Rattle.txn_core.specs.contracts.txn.Txn as txn;
 
-    ghost Value = { Kept };
+    ghost Value = { CoreModel };
 
     ghost coded = { Prim.hlevel (codes, store.the_row.coded, finite.code {R = key_cmp} (coded_list coded_ℕ) txn.the_row.coded) };
 
-    ghost view = { λ core. kept_of core.contents };
+    ghost view = { λ core. model_of core.contents };
 
     ghost invariant = { λ core. core.is_out_of_memory ≡ false
-        → IsSound (kept_of core.contents) (core.contents.applied + 1) (2 * core.contents.applied) };
+        → IsSound (model_of core.contents) (core.contents.applied + 1) (2 * core.contents.applied) };
 }
 
 impl Core {

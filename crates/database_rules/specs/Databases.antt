@@ -9,33 +9,33 @@ abbrev pub Database : Type 0
 Database = finite.FinMap key_cmp (List ℕ)
 
 -- what a write of a transaction does
-pub data Operation : Type 0 where
-  Set : (key value : List ℕ) → Operation
-  Clear : (key : List ℕ) → Operation
+pub data Mutation : Type 0 where
+  Set : (key value : List ℕ) → Mutation
+  Clear : (key : List ℕ) → Mutation
   -- clears the keys that are at least begin and less than end
-  ClearRange : (begin end : List ℕ) → Operation
-  Atomic : (op : AtomicOp) (key operand : List ℕ) → Operation
+  ClearRange : (begin end : List ℕ) → Mutation
+  Atomic : (op : AtomicOp) (key operand : List ℕ) → Mutation
 
 -- the database with a value under a key, or without the key
 abbrev pub put : Database → List ℕ → Option (List ℕ) → Database
 put database key (Some value) = finite.insert database key value
 put database key None = finite.remove database key
 
--- the database after one operation
-abbrev pub do_one : Operation → Database → Database
+-- the database after one mutation
+abbrev pub do_one : Mutation → Database → Database
 do_one (Set key value) database = finite.insert database key value
 do_one (Clear key) database = finite.remove database key
 do_one (ClearRange begin end) database = finite.retain_keys database (λ key. not (within begin end key))
 do_one (Atomic op key operand) database = put database key (atom op (finite.get database key) operand)
 
--- the database after operations, in their order
-abbrev pub do_all : List Operation → Database → Database
+-- the database after mutations, in their order
+abbrev pub do_all : List Mutation → Database → Database
 do_all [] database = database
-do_all (operation ∷ operations) database = do_all operations (do_one operation database)
+do_all (mutation ∷ mutations) database = do_all mutations (do_one mutation database)
 
 -- what a commit did
 pub record Commit : Type 0 where
-  pub operations : List Operation
+  pub mutations : List Mutation
 
 -- the commits in order: the one at place n made version n + 1
 abbrev pub History : Type 0
@@ -44,7 +44,7 @@ History = List Commit
 -- the database after commits, in their order
 abbrev pub after_commits : List Commit → Database → Database
 after_commits [] database = database
-after_commits (commit ∷ commits) database = after_commits commits (do_all commit.operations database)
+after_commits (commit ∷ commits) database = after_commits commits (do_all commit.mutations database)
 
 -- the last version
 abbrev pub last : History → ℕ
@@ -54,9 +54,9 @@ last history = length history
 abbrev pub at : History → ℕ → Database
 at history version = after_commits (take version history) finite.empty
 
-abbrev pub set_of : List ℕ × List ℕ → Operation
+abbrev pub set_of : List ℕ × List ℕ → Mutation
 set_of entry = Set entry.0 entry.1
 
 -- the first commit: the pairs of the input as sets, in the order of their lines, so that of two values of one key the later stays
 abbrev pub loaded : List (List ℕ × List ℕ) → Commit
-loaded pairs = record { operations = map set_of pairs }
+loaded pairs = record { mutations = map set_of pairs }

@@ -1,4 +1,4 @@
--- What a list of operations says of one key, whatever the map before it, and what a versionstamp fills in.
+-- What a list of mutations says of one key, whatever the map before it, and what a versionstamp fills in.
 use Rattle.std.specs.Prelude.{ℕ, ◌+◌, ◌-◌, Bool, true, false, not, ◌&&◌, if◌then◌else◌, List, [], ◌∷◌, ◌++◌, length, map, take, drop, replicate, flat_map, Option, Some, None, bytes_eq}
 use Rattle.std.specs.List.{list_any}
 use Rattle.key_bytes.specs.declared.range.KeyRange.{KeyRange}
@@ -6,7 +6,7 @@ use Rattle.key_bytes.specs.Keys.{within, after}
 use Rattle.database_rules.specs.declared.AtomicOp.{AtomicOp}
 use Rattle.database_rules.specs.declared.AtomicOp.TheVariants as atomic
 use Rattle.database_rules.specs.Atomics.{atom, is_versionstamped, little}
-use Rattle.database_rules.specs.Databases.{Operation, Set, Clear, ClearRange, Atomic}
+use Rattle.database_rules.specs.Databases.{Mutation, Set, Clear, ClearRange, Atomic}
 
 -- ---- sets of keys
 
@@ -19,8 +19,8 @@ range_from begin end = record { begin = begin; end = end }
 
 -- ---- the state of a key
 
--- the key that an operation is of, or the keys
-abbrev pub touches : Operation → List ℕ → Bool
+-- the key that a mutation is of, or the keys
+abbrev pub touches : Mutation → List ℕ → Bool
 touches (Set key value) asked = bytes_eq asked key
 touches (Clear key) asked = bytes_eq asked key
 touches (ClearRange begin end) asked = within begin end asked
@@ -32,45 +32,45 @@ pub data KeyState : Type 0 where
   -- the key has this value, or none, whatever it had before
   Decided : (value : Option (List ℕ)) → KeyState
   -- the key has what these atomic operations, each with its operand, make of what it had before, in their order
-  Depends : (edits : List (AtomicOp × List ℕ)) → KeyState
+  Depends : (mutations : List (AtomicOp × List ℕ)) → KeyState
 
 -- an atomic operation on a key in a state
 abbrev pub after_atomic : AtomicOp → List ℕ → KeyState → KeyState
 after_atomic op operand Unmodified = Depends ((op, operand) ∷ [])
 after_atomic op operand (Decided old) = Decided (atom op old operand)
-after_atomic op operand (Depends edits) = Depends (edits ++ (op, operand) ∷ [])
+after_atomic op operand (Depends mutations) = Depends (mutations ++ (op, operand) ∷ [])
 
--- an operation on a key in a state; one with a versionstamp is left out
-abbrev pub state_after : Operation → List ℕ → KeyState → KeyState
+-- a mutation on a key in a state; one with a versionstamp is left out
+abbrev pub state_after : Mutation → List ℕ → KeyState → KeyState
 state_after (Set key value) asked state = if bytes_eq asked key then Decided (Some value) else state
 state_after (Clear key) asked state = if bytes_eq asked key then Decided None else state
 state_after (ClearRange begin end) asked state = if within begin end asked then Decided None else state
 state_after (Atomic op key operand) asked state = if bytes_eq asked key && not (is_versionstamped op) then after_atomic op operand state else state
 
--- operations on a key in a state, in their order
-abbrev pub states_after : List Operation → List ℕ → KeyState → KeyState
+-- mutations on a key in a state, in their order
+abbrev pub states_after : List Mutation → List ℕ → KeyState → KeyState
 states_after [] asked state = state
-states_after (operation ∷ operations) asked state = states_after operations asked (state_after operation asked state)
+states_after (mutation ∷ mutations) asked state = states_after mutations asked (state_after mutation asked state)
 
--- the state of a key under operations
-abbrev pub state_under : List Operation → List ℕ → KeyState
-state_under operations asked = states_after operations asked Unmodified
+-- the state of a key under mutations
+abbrev pub state_under : List Mutation → List ℕ → KeyState
+state_under mutations asked = states_after mutations asked Unmodified
 
 abbrev pub is_unmodified : KeyState → Bool
 is_unmodified Unmodified = true
 is_unmodified (Decided value) = false
-is_unmodified (Depends edits) = false
+is_unmodified (Depends mutations) = false
 
 -- what atomic operations make of a value, in their order
 abbrev pub all_atoms : List (AtomicOp × List ℕ) → Option (List ℕ) → Option (List ℕ)
 all_atoms [] old = old
-all_atoms (edit ∷ edits) old = all_atoms edits (atom edit.0 old edit.1)
+all_atoms (mutation ∷ mutations) old = all_atoms mutations (atom mutation.0 old mutation.1)
 
 -- what a key in a state has, of what it had before
 abbrev pub value_in : KeyState → Option (List ℕ) → Option (List ℕ)
 value_in Unmodified old = old
 value_in (Decided value) old = value
-value_in (Depends edits) old = all_atoms edits old
+value_in (Depends mutations) old = all_atoms mutations old
 
 -- ---- versionstamps (API reference, "fdb_transaction_atomic_op")
 
@@ -85,8 +85,8 @@ stamp_place bytes = little (drop (length bytes - 4) bytes)
 unfoldable pub stamped : List ℕ → List ℕ → List ℕ
 stamped stamp bytes = take (stamp_place bytes) (template bytes) ++ stamp ++ drop (stamp_place bytes + 10) (template bytes)
 
--- the operation as a commit with this stamp does it
-abbrev pub filled : List ℕ → Operation → Operation
+-- the mutation as a commit with this stamp does it
+abbrev pub filled : List ℕ → Mutation → Mutation
 filled stamp (Set key value) = Set key value
 filled stamp (Clear key) = Clear key
 filled stamp (ClearRange begin end) = ClearRange begin end
@@ -94,15 +94,15 @@ filled stamp (Atomic atomic.SetVersionstampedKey key operand) = Set (stamped sta
 filled stamp (Atomic atomic.SetVersionstampedValue key operand) = Set key (stamped stamp operand)
 filled stamp (Atomic op key operand) = Atomic op key operand
 
-abbrev pub all_filled : List ℕ → List Operation → List Operation
-all_filled stamp operations = map (filled stamp) operations
+abbrev pub all_filled : List ℕ → List Mutation → List Mutation
+all_filled stamp mutations = map (filled stamp) mutations
 
--- the keys that an operation makes unreadable until its life ends: that of a stamped value, and each that lies from the
+-- the keys that a mutation makes unreadable until its life ends: that of a stamped value, and each that lies from the
 -- template with ten 00 up to the template with ten FF, of a stamped key
-abbrev pub unreadable_by : Operation → List KeyRange
+abbrev pub unreadable_by : Mutation → List KeyRange
 unreadable_by (Atomic atomic.SetVersionstampedKey key operand) = range_from (stamped (replicate 10 0) key) (after (stamped (replicate 10 255) key)) ∷ []
 unreadable_by (Atomic atomic.SetVersionstampedValue key operand) = range_from key (after key) ∷ []
-unreadable_by operation = []
+unreadable_by mutation = []
 
-abbrev pub unreadable : List Operation → List KeyRange
-unreadable operations = flat_map unreadable_by operations
+abbrev pub unreadable : List Mutation → List KeyRange
+unreadable mutations = flat_map unreadable_by mutations

@@ -6,14 +6,14 @@ use Rattle.key_bytes.specs.Keys.{key_lt, top}
 use Rattle.database_rules.specs.declared.Phase.{Phase}
 use Rattle.database_rules.specs.declared.Phase.TheVariants as phase
 use Rattle.database_rules.specs.Atomics.{atomic_named}
-use Rattle.database_rules.specs.Databases.{Database, Operation, Set, Clear, ClearRange, Atomic, History, do_all, at, last}
+use Rattle.database_rules.specs.Databases.{Database, Mutation, Set, Clear, ClearRange, Atomic, History, do_all, at, last}
 
 pub record Transaction : Type 0 where
   -- the number of its life
   pub life : ℕ
   -- its read version, once it is taken
   pub version : Option ℕ
-  pub operations : List Operation
+  pub mutations : List Mutation
   -- the keys that its ordinary reads rest on; none yet
   pub read_ranges : List KeyRange
   pub size : ℕ
@@ -21,7 +21,7 @@ pub record Transaction : Type 0 where
 
 -- a life before its first call
 abbrev pub fresh : ℕ → Transaction
-fresh life = record { life = life; version = None; operations = []; read_ranges = []; size = 0; phase = phase.Active }
+fresh life = record { life = life; version = None; mutations = []; read_ranges = []; size = 0; phase = phase.Active }
 
 -- ---- the codes of the API reference, by their names there
 
@@ -113,9 +113,9 @@ unfoldable pub atomic_code : Transaction → List ℕ → List ℕ → List ℕ 
 atomic_code transaction name key operand = first_failing (after_phase transaction.phase
     ((is_none (atomic_named name), invalid_mutation_type) ∷ key_checks key operand))
 
--- without an operation the commit is read-only: it succeeds and makes no version
+-- without a mutation the commit is read-only: it succeeds and makes no version
 abbrev pub is_read_only : Transaction → Bool
-is_read_only transaction = nat_lt (length transaction.operations) 1
+is_read_only transaction = nat_lt (length transaction.mutations) 1
 
 unfoldable pub commit_code : Transaction → Option ℕ
 commit_code transaction = first_failing (after_phase transaction.phase
@@ -127,9 +127,9 @@ commit_code transaction = first_failing (after_phase transaction.phase
 abbrev pub version_in : History → Transaction → ℕ
 version_in history transaction = unwrap_or transaction.version (last history)
 
--- the map that a transaction sees: that at its version, after its operations
+-- the map that a transaction sees: that at its version, after its mutations
 abbrev pub view : History → Transaction → Database
-view history transaction = do_all transaction.operations (at history (version_in history transaction))
+view history transaction = do_all transaction.mutations (at history (version_in history transaction))
 
 abbrev pub with_version : History → Transaction → Transaction
 with_version history transaction = record transaction { version = Some (version_in history transaction) }
@@ -140,18 +140,18 @@ with_version history transaction = record transaction { version = Some (version_
 abbrev pub grown : ℕ → ℕ → ℕ
 grown size bytes = min (size + bytes) (size_limit + 1)
 
--- how many bytes an operation counts: key and value, or twice the key and 1 of a clear, or both ends
-abbrev pub bytes_of : Operation → ℕ
-bytes_of (Set key value) = length key + length value
-bytes_of (Clear key) = 2 * length key + 1
-bytes_of (ClearRange begin end) = length begin + length end
-bytes_of (Atomic op key operand) = length key + length operand
+-- how many bytes a mutation counts: key and value, or twice the key and 1 of a clear, or both ends
+abbrev pub mutation_size : Mutation → ℕ
+mutation_size (Set key value) = length key + length value
+mutation_size (Clear key) = 2 * length key + 1
+mutation_size (ClearRange begin end) = length begin + length end
+mutation_size (Atomic op key operand) = length key + length operand
 
 -- the transaction after an accepted write
-abbrev pub with_operation : Transaction → Operation → Transaction
-with_operation transaction operation = record transaction {
-  operations = transaction.operations ++ operation ∷ [];
-  size = grown transaction.size (bytes_of operation);
+abbrev pub with_mutation : Transaction → Mutation → Transaction
+with_mutation transaction mutation = record transaction {
+  mutations = transaction.mutations ++ mutation ∷ [];
+  size = grown transaction.size (mutation_size mutation);
 }
 
 abbrev pub with_phase : Transaction → Phase → Transaction

@@ -1,4 +1,4 @@
-//! The database in definitions alone: what a finite map is after operations, what commits and histories are, what a
+//! The database in definitions alone: what a finite map is after mutations, what commits and histories are, what a
 //! transaction is, and which check of a call fails first.
 //!
 //! Nothing here runs but a few types that definitions and code share. The crates above state their contracts by these
@@ -32,7 +32,7 @@ pub enum Phase {
     Tried(Tried),
 }
 
-/// What an atomic operation does to the value of a key: the operation is named, and has an operand.
+/// What an atomic operation does to the value of a key: the mutation is named, and has an operand.
 ///
 /// What each makes of an old value and its operand is `atom` in `specs/Atomics.antt` (API reference of release 6.3,
 /// "fdb_transaction_atomic_op").

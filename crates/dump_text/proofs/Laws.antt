@@ -8,7 +8,7 @@ use Rattle.std.proofs.lemmas.List.Elements.{All-from_recursion, recursion_from_A
 use Rattle.key_bytes.specs.Keys.{IsByteString, key_lt, top}
 use Rattle.line_rules.specs.Inputs.{pair_lines, IsSmall, IsInput}
 use Rattle.line_rules.specs.Printing.{separator, printed, printable, hexadecimal_digit, is_plain, backslash, pair_line}
-use Rattle.line_rules.specs.Reading.{Text, text_of, Stop, AtEnd, AtSeparator, AtFault, Line, Flaw, Bad, Long, Entry, pair_within, value_at, key_at, fields_at, pair_at, lines_of, with_first, size_of, Fault, Place, start, next_place, read_line, read_lines, joined, pairs_of, input_limit, pairs_limit, line_limit, key_limit, value_limit}
+use Rattle.line_rules.specs.Reading.{ReadText, text_of, Stop, AtEnd, AtSeparator, AtFault, Line, Flaw, Bad, Long, Entry, pair_within, value_at, key_at, fields_at, pair_at, lines_of, with_first, size_of, Fault, Place, start, next_place, read_line, read_lines, joined, pairs_of, input_limit, pairs_limit, line_limit, key_limit, value_limit}
 use Rattle.dump_text.proofs.Pieces.{with_front, text_empty, text_parted}
 use Rattle.dump_text.proofs.Printed.{ending, text_was, text_printed}
 use Rattle.line_rules.specs.Lines.{IsFeedless, IsFeedless-append, whole_first}
@@ -32,7 +32,7 @@ within_was key value entry e =
     let limits = neither (nat_lt key_limit (length key)) (nat_lt value_limit (length value)) all.0 in
     (ltb-false key_limit (length key) limits.0, ltb-false value_limit (length value) limits.1, ok_is (key, value) entry all.1)
 
-value_was : (line : Line) (key : List ℕ) (stop : Stop) (value : Text) (entry : Entry) → value_at line key stop value ≡ Ok entry
+value_was : (line : Line) (key : List ℕ) (stop : Stop) (value : ReadText) (entry : Entry) → value_at line key stop value ≡ Ok entry
     → (stop ≡ AtEnd) × (line.is_whole ≡ true) × (pair_within key value.bytes ≡ Ok entry)
 value_was line key AtEnd value entry e =
     let parts = choice_ok line.is_whole (Bad (length line.bytes)) (pair_within key value.bytes) entry e in
@@ -40,7 +40,7 @@ value_was line key AtEnd value entry e =
 value_was line key AtSeparator value entry e = absurd cc
 value_was line key AtFault value entry e = absurd cc
 
-key_was : (line : Line) (stop : Stop) (key : Text) (entry : Entry) → key_at line stop key ≡ Ok entry
+key_was : (line : Line) (stop : Stop) (key : ReadText) (entry : Entry) → key_at line stop key ≡ Ok entry
     → (stop ≡ AtSeparator) × (value_at line key.bytes (text_of key.left).stop (text_of key.left) ≡ Ok entry)
 key_was line AtEnd key entry e = absurd cc
 key_was line AtSeparator key entry e = (refl, e)

@@ -4,10 +4,10 @@ use Rattle.std.specs.List.{take_while}
 use Rattle.std.proofs.lemmas.List.{append-nil}
 use Rattle.dump_text.proofs.Runs.{after, passes, fails, length-run}
 use Rattle.line_rules.specs.Printing.{is_plain, backslash, separator}
-use Rattle.line_rules.specs.Reading.{Piece, Nothing, Spelled, Separator, Unfit, piece_at, hexadecimal_piece, escaped_piece, digit_of, behind, begun, Text, pieces, text_of, Stop, AtEnd, AtSeparator, AtFault}
+use Rattle.line_rules.specs.Reading.{Piece, Nothing, Spelled, Separator, Unfit, piece_at, hexadecimal_piece, escaped_piece, digit_of, behind, read_on, ReadText, pieces, text_of, Stop, AtEnd, AtSeparator, AtFault}
 
 -- what was read before, put before what is read
-abbrev pub with_front : List ℕ → Text → Text
+abbrev pub with_front : List ℕ → ReadText → ReadText
 with_front front text = record text { bytes = front ++ text.bytes }
 
 -- behind each piece fewer bytes are left than before it, two fewer behind the separator
@@ -47,12 +47,12 @@ shorter (byte ∷ rest) =
 
 -- ---- text_of, a piece at a time
 
--- what is begun depends on the text behind a spelled byte alone
-same_begun : (bytes : List ℕ) (n : ℕ) (p : Piece) (s t : Text) → Shorter n p → (length (behind p) < n → s ≡ t) → begun bytes p s ≡ begun bytes p t
-same_begun bytes n Nothing s t h e = refl
-same_begun bytes n (Spelled byte rest) s t h e = ap (λ (x : Text). begun bytes (Spelled byte rest) x) (e h)
-same_begun bytes n (Separator rest) s t h e = refl
-same_begun bytes n Unfit s t h e = refl
+-- what is read_on depends on the text behind a spelled byte alone
+same_read_on : (bytes : List ℕ) (n : ℕ) (p : Piece) (s t : ReadText) → Shorter n p → (length (behind p) < n → s ≡ t) → read_on bytes p s ≡ read_on bytes p t
+same_read_on bytes n Nothing s t h e = refl
+same_read_on bytes n (Spelled byte rest) s t h e = ap (λ (x : ReadText). read_on bytes (Spelled byte rest) x) (e h)
+same_read_on bytes n (Separator rest) s t h e = refl
+same_read_on bytes n Unfit s t h e = refl
 
 -- as many pieces as bytes are enough, and more change nothing
 enough : (n m : ℕ) (bytes : List ℕ) → length bytes < n → length bytes < m → pieces n bytes ≡ pieces m bytes
@@ -60,29 +60,29 @@ unfolding pieces
 enough zero m bytes h k = absurd (omega arith)
 enough (suc n) zero bytes h k = absurd (omega arith)
 enough (suc n) (suc m) bytes h k =
-    same_begun bytes (length bytes) (piece_at bytes) (pieces n (behind (piece_at bytes))) (pieces m (behind (piece_at bytes))) (shorter bytes)
+    same_read_on bytes (length bytes) (piece_at bytes) (pieces n (behind (piece_at bytes))) (pieces m (behind (piece_at bytes))) (shorter bytes)
     (λ l. enough n m (behind (piece_at bytes)) (omega arith) (omega arith))
 
-pub text_begun : (bytes : List ℕ) → text_of bytes ≡ begun bytes (piece_at bytes) (text_of (behind (piece_at bytes)))
+pub text_read_on : (bytes : List ℕ) → text_of bytes ≡ read_on bytes (piece_at bytes) (text_of (behind (piece_at bytes)))
 unfolding text_of pieces
-text_begun bytes =
+text_read_on bytes =
     let next : length bytes + 1 ≡ suc (length bytes) = omega arith in
-    let one : pieces (length bytes + 1) bytes ≡ begun bytes (piece_at bytes) (pieces (length bytes) (behind (piece_at bytes))) = ap (λ (n : ℕ). pieces n bytes) next in
-    one ∙ same_begun bytes (length bytes) (piece_at bytes) (pieces (length bytes) (behind (piece_at bytes))) (text_of (behind (piece_at bytes))) (shorter bytes)
+    let one : pieces (length bytes + 1) bytes ≡ read_on bytes (piece_at bytes) (pieces (length bytes) (behind (piece_at bytes))) = ap (λ (n : ℕ). pieces n bytes) next in
+    one ∙ same_read_on bytes (length bytes) (piece_at bytes) (pieces (length bytes) (behind (piece_at bytes))) (text_of (behind (piece_at bytes))) (shorter bytes)
     (λ l. enough (length bytes) (length (behind (piece_at bytes)) + 1) (behind (piece_at bytes)) l (omega arith))
 
 -- what stands at each piece
 pub text_spelled : (bytes rest : List ℕ) (byte : ℕ) → piece_at bytes ≡ Spelled byte rest → text_of bytes ≡ with_front (byte ∷ []) (text_of rest)
-text_spelled bytes rest byte e = text_begun bytes ∙ ap (λ (p : Piece). begun bytes p (text_of (behind p))) e
+text_spelled bytes rest byte e = text_read_on bytes ∙ ap (λ (p : Piece). read_on bytes p (text_of (behind p))) e
 
 pub text_nothing : (bytes : List ℕ) → piece_at bytes ≡ Nothing → text_of bytes ≡ record { bytes = []; stop = AtEnd; left = [] }
-text_nothing bytes e = text_begun bytes ∙ ap (λ (p : Piece). begun bytes p (text_of (behind p))) e
+text_nothing bytes e = text_read_on bytes ∙ ap (λ (p : Piece). read_on bytes p (text_of (behind p))) e
 
 pub text_separator : (bytes rest : List ℕ) → piece_at bytes ≡ Separator rest → text_of bytes ≡ record { bytes = []; stop = AtSeparator; left = rest }
-text_separator bytes rest e = text_begun bytes ∙ ap (λ (p : Piece). begun bytes p (text_of (behind p))) e
+text_separator bytes rest e = text_read_on bytes ∙ ap (λ (p : Piece). read_on bytes p (text_of (behind p))) e
 
 pub text_unfit : (bytes : List ℕ) → piece_at bytes ≡ Unfit → text_of bytes ≡ record { bytes = []; stop = AtFault; left = bytes }
-text_unfit bytes e = text_begun bytes ∙ ap (λ (p : Piece). begun bytes p (text_of (behind p))) e
+text_unfit bytes e = text_read_on bytes ∙ ap (λ (p : Piece). read_on bytes p (text_of (behind p))) e
 
 -- ---- runs of plain bytes
 
@@ -121,14 +121,14 @@ IsSpelled (Spelled byte rest) = Unit {0}
 IsSpelled (Separator rest) = ⊥
 IsSpelled Unfit = ⊥
 
-nothing_begun : (bytes : List ℕ) (p : Piece) (t : Text) → (IsSpelled p → ⊥) → (begun bytes p t).bytes ≡ []
-nothing_begun bytes Nothing t h = refl
-nothing_begun bytes (Spelled byte rest) t h = absurd (h tt)
-nothing_begun bytes (Separator rest) t h = refl
-nothing_begun bytes Unfit t h = refl
+nothing_read_on : (bytes : List ℕ) (p : Piece) (t : ReadText) → (IsSpelled p → ⊥) → (read_on bytes p t).bytes ≡ []
+nothing_read_on bytes Nothing t h = refl
+nothing_read_on bytes (Spelled byte rest) t h = absurd (h tt)
+nothing_read_on bytes (Separator rest) t h = refl
+nothing_read_on bytes Unfit t h = refl
 
 pub none_read : (bytes : List ℕ) → (IsSpelled (piece_at bytes) → ⊥) → (text_of bytes).bytes ≡ []
-none_read bytes h = ap (λ (t : Text). t.bytes) (text_begun bytes) ∙ nothing_begun bytes (piece_at bytes) (text_of (behind (piece_at bytes))) h
+none_read bytes h = ap (λ (t : ReadText). t.bytes) (text_read_on bytes) ∙ nothing_read_on bytes (piece_at bytes) (text_of (behind (piece_at bytes))) h
 
 -- ---- where reading stops
 
@@ -170,24 +170,24 @@ nothing_left [] e = refl
 nothing_left (byte ∷ rest) e = absurd (subst IsSome e (some_piece byte rest))
 
 -- what was read before a place where no byte is spelled is all
-text_done : (front bytes : List ℕ) (stop : Stop) (left : List ℕ) (total : Text) → text_of bytes ≡ record { bytes = []; stop = stop; left = left } → with_front front (text_of bytes) ≡ total
+text_done : (front bytes : List ℕ) (stop : Stop) (left : List ℕ) (total : ReadText) → text_of bytes ≡ record { bytes = []; stop = stop; left = left } → with_front front (text_of bytes) ≡ total
     → record { bytes = front; stop = stop; left = left } ≡ total
 text_done front bytes stop left total e so_far =
     ap (λ (x : List ℕ). record { bytes = x; stop = stop; left = left }) (sym (append-nil front)) ∙ ap (with_front front) (sym e) ∙ so_far
 
-pub done_nothing : (front bytes : List ℕ) (total : Text) → Nothing ≡ piece_at bytes → with_front front (text_of bytes) ≡ total → record { bytes = front; stop = AtEnd; left = bytes } ≡ total
+pub done_nothing : (front bytes : List ℕ) (total : ReadText) → Nothing ≡ piece_at bytes → with_front front (text_of bytes) ≡ total → record { bytes = front; stop = AtEnd; left = bytes } ≡ total
 done_nothing front bytes total e so_far =
     let nothing = nothing_left bytes (sym e) in
     rw nothing (text_done front bytes AtEnd [] total (text_nothing bytes (sym e)) so_far)
 
-pub done_separator : (front bytes rest : List ℕ) (total : Text) → Separator rest ≡ piece_at bytes → with_front front (text_of bytes) ≡ total → record { bytes = front; stop = AtSeparator; left = rest } ≡ total
+pub done_separator : (front bytes rest : List ℕ) (total : ReadText) → Separator rest ≡ piece_at bytes → with_front front (text_of bytes) ≡ total → record { bytes = front; stop = AtSeparator; left = rest } ≡ total
 done_separator front bytes rest total e so_far = text_done front bytes AtSeparator rest total (text_separator bytes rest (sym e)) so_far
 
-pub done_unfit : (front bytes : List ℕ) (total : Text) → Unfit ≡ piece_at bytes → with_front front (text_of bytes) ≡ total → record { bytes = front; stop = AtFault; left = bytes } ≡ total
+pub done_unfit : (front bytes : List ℕ) (total : ReadText) → Unfit ≡ piece_at bytes → with_front front (text_of bytes) ≡ total → record { bytes = front; stop = AtFault; left = bytes } ≡ total
 done_unfit front bytes total e so_far = text_done front bytes AtFault bytes total (text_unfit bytes (sym e)) so_far
 
 -- one more byte and the run behind it
-pub read_more : (front bytes rest run left : List ℕ) (byte : ℕ) (total : Text) → Spelled byte rest ≡ piece_at bytes → run ≡ take_while is_plain rest → left ≡ after is_plain rest
+pub read_more : (front bytes rest run left : List ℕ) (byte : ℕ) (total : ReadText) → Spelled byte rest ≡ piece_at bytes → run ≡ take_while is_plain rest → left ≡ after is_plain rest
     → with_front front (text_of bytes) ≡ total → with_front ((front ++ byte ∷ []) ++ run) (text_of left) ≡ total
 read_more front bytes rest run left byte total e f g so_far =
     let one = text_step bytes rest run left byte e f g in

@@ -4,8 +4,8 @@ use Rattle.std.specs.List.{AllByRecursion}
 use Rattle.std.proofs.lemmas.Bool.{eqb-true, ltb-true, lt-ltb, not-true}
 use Rattle.std.proofs.lemmas.Bool.Decides.{nat_tests}
 use Rattle.line_rules.specs.Printing.{is_plain, backslash, separator, printed, printable, hexadecimal_digit}
-use Rattle.line_rules.specs.Reading.{Piece, Nothing, Spelled, Separator, Unfit, piece_at, hexadecimal_piece, escaped_piece, digit_of, behind, begun, Text, text_of, Stop, AtEnd, AtSeparator, AtFault}
-use Rattle.dump_text.proofs.Pieces.{with_front, text_spelled, text_begun, Shorter, shorter}
+use Rattle.line_rules.specs.Reading.{Piece, Nothing, Spelled, Separator, Unfit, piece_at, hexadecimal_piece, escaped_piece, digit_of, behind, read_on, ReadText, text_of, Stop, AtEnd, AtSeparator, AtFault}
+use Rattle.dump_text.proofs.Pieces.{with_front, text_spelled, text_read_on, Shorter, shorter}
 
 -- ---- digits
 
@@ -127,27 +127,27 @@ ending AtEnd left = []
 ending AtSeparator left = separator ++ left
 ending AtFault left = left
 
-pub record IsSpelled (bytes : List ℕ) (text : Text) : Type 0 where
+pub record IsSpelled (bytes : List ℕ) (text : ReadText) : Type 0 where
   pub parts : bytes ≡ printable text.bytes ++ ending text.stop text.left
   pub small : AllByRecursion (λ b. b < 256) text.bytes
 
-begun_spelled : (bytes : List ℕ) (p : Piece) (text : Text) → Spells bytes p → (length (behind p) < length bytes → IsSpelled (behind p) text) → Shorter (length bytes) p → IsSpelled bytes (begun bytes p text)
+read_on_spelled : (bytes : List ℕ) (p : Piece) (text : ReadText) → Spells bytes p → (length (behind p) < length bytes → IsSpelled (behind p) text) → Shorter (length bytes) p → IsSpelled bytes (read_on bytes p text)
 unfolding printable
-begun_spelled bytes Nothing text h k s = record { parts = h; small = tt }
-begun_spelled bytes (Spelled byte rest) text h k s =
+read_on_spelled bytes Nothing text h k s = record { parts = h; small = tt }
+read_on_spelled bytes (Spelled byte rest) text h k s =
     let later = k s in
     record {
       parts = h.0 ∙ ap (λ (x : List ℕ). printed byte ++ x) later.parts ∙ sym (append_assoc (printed byte) (printable text.bytes) (ending text.stop text.left));
       small = (h.1, later.small);
     }
-begun_spelled bytes (Separator rest) text h k s = record { parts = h; small = tt }
-begun_spelled bytes Unfit text h k s = record { parts = refl; small = tt }
+read_on_spelled bytes (Separator rest) text h k s = record { parts = h; small = tt }
+read_on_spelled bytes Unfit text h k s = record { parts = refl; small = tt }
 
 text_spells : (n : ℕ) (bytes : List ℕ) → length bytes < n → IsSpelled bytes (text_of bytes)
 text_spells zero bytes h = absurd (omega arith)
 text_spells (suc n) bytes h =
     let more = λ (l : length (behind (piece_at bytes)) < length bytes). text_spells n (behind (piece_at bytes)) (omega arith) in
-    rw (text_begun bytes) (begun_spelled bytes (piece_at bytes) (text_of (behind (piece_at bytes))) (spells bytes) more (shorter bytes))
+    rw (text_read_on bytes) (read_on_spelled bytes (piece_at bytes) (text_of (behind (piece_at bytes))) (spells bytes) more (shorter bytes))
 
 pub text_was : (bytes : List ℕ) → IsSpelled bytes (text_of bytes)
 text_was bytes = text_spells (suc (length bytes)) bytes (omega arith)

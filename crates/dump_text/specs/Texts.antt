@@ -5,7 +5,7 @@ use Rattle.dump_text.specs.declared.text.Piece.{Piece}
 use Rattle.dump_text.specs.declared.text.Piece.TheVariants as pieces
 use Rattle.dump_text.specs.declared.text.Stop.{Stop}
 use Rattle.dump_text.specs.declared.text.Stop.TheVariants as stops
-use Rattle.dump_text.specs.declared.text.Text.{Text}
+use Rattle.dump_text.specs.declared.text.ReadText.{ReadText}
 
 abbrev pub piece_is : Piece → reading.Piece
 piece_is pieces.Nothing = reading.Nothing
@@ -18,7 +18,7 @@ stop_is stops.AtEnd = reading.AtEnd
 stop_is stops.AtSeparator = reading.AtSeparator
 stop_is stops.AtFault = reading.AtFault
 
-abbrev pub text_is : Text → reading.Text
+abbrev pub text_is : ReadText → reading.ReadText
 text_is text = record { bytes = text.bytes.items; stop = stop_is text.stop; left = text.left.now }
 
 -- how many bytes stand between what was read and what is left

@@ -33,7 +33,7 @@ pub enum Stop {
 
 /// What was read of a printable form, and what is left: behind the separator, or from the byte on that fits no rule.
 #[derive(Drop)]
-pub struct Text<'a> {
+pub struct ReadText<'a> {
     pub bytes: Vec<u8>,
     pub stop: Stop,
     pub left: &'a [u8],
@@ -124,7 +124,7 @@ fn add_run(text: &mut Vec<u8>, run: &[u8]) -> Result<(), AllocError>
 }
 
 /// The bytes that are spelled up to the end, the separator or a fault.
-pub fn read_text(alloc: Global, bytes: &[u8]) -> Result<Text<'_>, AllocError>
+pub fn read_text(alloc: Global, bytes: &[u8]) -> Result<ReadText<'_>, AllocError>
     ensures value { IfOk result (λ text. text_is text ≡ text_of bytes.now) }
     ensures within { IfOk result (λ text. length text.left.now + passed text.stop ≤ length bytes.now) }
 {
@@ -140,17 +140,17 @@ pub fn read_text(alloc: Global, bytes: &[u8]) -> Result<Text<'_>, AllocError>
                 add_run(&mut text, run)?;
                 left = after;
             }
-            Piece::Nothing => return Ok(Text {
+            Piece::Nothing => return Ok(ReadText {
                 bytes: text,
                 stop: Stop::AtEnd,
                 left,
             }),
-            Piece::Separator(rest) => return Ok(Text {
+            Piece::Separator(rest) => return Ok(ReadText {
                 bytes: text,
                 stop: Stop::AtSeparator,
                 left: rest,
             }),
-            Piece::Unfit => return Ok(Text {
+            Piece::Unfit => return Ok(ReadText {
                 bytes: text,
                 stop: Stop::AtFault,
                 left,

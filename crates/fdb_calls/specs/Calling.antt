@@ -7,8 +7,8 @@ use Rattle.database_rules.specs.declared.Phase.{Phase}
 use Rattle.database_rules.specs.declared.Phase.TheVariants as phase
 use Rattle.database_rules.specs.declared.AtomicOp.{AtomicOp}
 use Rattle.database_rules.specs.Atomics.{atomic_named}
-use Rattle.database_rules.specs.Databases.{Operation, Set, Clear, ClearRange, Atomic, History, Commit, last}
-use Rattle.database_rules.specs.Transactions.{Transaction, fresh, transaction_cancelled, get_code, set_code, clear_code, clear_range_code, atomic_code, commit_code, is_read_only, is_cancelled, is_retryable, view, with_version, with_operation, with_phase, cancelled}
+use Rattle.database_rules.specs.Databases.{Mutation, Set, Clear, ClearRange, Atomic, History, Commit, last}
+use Rattle.database_rules.specs.Transactions.{Transaction, fresh, transaction_cancelled, get_code, set_code, clear_code, clear_range_code, atomic_code, commit_code, is_read_only, is_cancelled, is_retryable, view, with_version, with_mutation, with_phase, cancelled}
 use Rattle.fdb_calls.specs.declared.TxnCall.{TxnCall}
 use Rattle.fdb_calls.specs.declared.TxnCall.TheVariants as call
 use Rattle.fdb_calls.specs.declared.Reply.{Reply}
@@ -37,9 +37,9 @@ get_by (Some code) history transaction key = refuses transaction code
 get_by None history transaction key = answers (with_version history transaction) (reply.Value (finite.get (view history transaction) key))
 
 -- a write: a refused one changes nothing
-abbrev pub write_by : Option ℕ → Transaction → Operation → Called
-write_by (Some code) transaction operation = refuses transaction code
-write_by None transaction operation = answers (with_operation transaction operation) reply.Done
+abbrev pub write_by : Option ℕ → Transaction → Mutation → Called
+write_by (Some code) transaction mutation = refuses transaction code
+write_by None transaction mutation = answers (with_mutation transaction mutation) reply.Done
 
 -- an atomic operation by its name
 abbrev pub atomic_by : Option ℕ → Option AtomicOp → Transaction → List ℕ → List ℕ → Called
@@ -47,7 +47,7 @@ atomic_by code None transaction key operand = refuses transaction (unwrap_or cod
 atomic_by code (Some op) transaction key operand = write_by code transaction (Atomic op key operand)
 
 abbrev pub commit_of : Transaction → Commit
-commit_of transaction = record { operations = transaction.operations }
+commit_of transaction = record { mutations = transaction.mutations }
 
 -- a commit that is not read-only makes the next version
 abbrev pub committed : History → Transaction → Called

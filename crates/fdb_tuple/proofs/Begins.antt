@@ -2,7 +2,7 @@
 use Rattle.std.proofs.Common.{◌≡◌, ℕ, ◌+◌, ◌-◌, ◌<◌, Bool, true, false, leb, List, [], ◌∷◌, ◌++◌, length, refl, arith}
 use Rattle.std.specs.Int.{is_negative}
 use Rattle.std.proofs.lemmas.Bool.{leb-true, cond_both}
-use Rattle.fdb_tuple.specs.Tuples.{Scalar, Null, Bytes, Text, Int, Boolean, Uuid, Stamp, Elements, End, Single, Nested}
+use Rattle.fdb_tuple.specs.Tuples.{Scalar, Null, Bytes, Text, Int, Boolean, Uuid, Stamp, Elements, Empty, Single, Nested}
 use Rattle.fdb_tuple.specs.Zeros.{IsNoEscape}
 use Rattle.fdb_tuple.specs.Spelling.{int_code, signed_spelled, scalar_spelled, spelled_in}
 use Rattle.fdb_tuple.specs.Stops.{EndsByZero}
@@ -38,8 +38,8 @@ scalar_begins nested (Stamp stamp user) = begins 0x33 _ (omega arith)
 pub some_byte : (nested : Bool) (scalar : Scalar) → 0 < length (scalar_spelled nested scalar)
 some_byte nested scalar = rw (scalar_begins nested scalar).is (omega arith)
 
-pub IsNoEscape-spelled_in : (nested : Bool) (elements : Elements) (after : List ℕ) → (elements ≡ End → IsNoEscape after) → IsNoEscape (spelled_in nested elements ++ after)
-IsNoEscape-spelled_in nested End after end = end refl
+pub IsNoEscape-spelled_in : (nested : Bool) (elements : Elements) (after : List ℕ) → (elements ≡ Empty → IsNoEscape after) → IsNoEscape (spelled_in nested elements ++ after)
+IsNoEscape-spelled_in nested Empty after end = end refl
 IsNoEscape-spelled_in nested (Single scalar rest) after end =
     let b = scalar_begins nested scalar in
     rw b.is (λ e. omega (arith, b.low))
@@ -47,11 +47,11 @@ IsNoEscape-spelled_in nested (Nested inner rest) after end = λ e. omega arith
 
 -- what ends by a 00 does so with an element before it too
 pub EndsByZero-single : (scalar : Scalar) (elements : Elements) → EndsByZero elements → EndsByZero (Single scalar elements)
-EndsByZero-single scalar End ends = absurd ends
+EndsByZero-single scalar Empty ends = absurd ends
 EndsByZero-single scalar (Single second rest) ends = ends
 EndsByZero-single scalar (Nested inner rest) ends = ends
 
 pub EndsByZero-nested : (first elements : Elements) → EndsByZero elements → EndsByZero (Nested first elements)
-EndsByZero-nested first End ends = absurd ends
+EndsByZero-nested first Empty ends = absurd ends
 EndsByZero-nested first (Single scalar rest) ends = ends
 EndsByZero-nested first (Nested inner rest) ends = ends

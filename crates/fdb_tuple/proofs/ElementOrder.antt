@@ -4,16 +4,16 @@ use Rattle.std.specs.Ordering.{nat_cmp}
 use Rattle.std.specs.declared.cmp.Ordering.TheVariants.{Less, Greater}
 use Rattle.fdb_tuple.specs.declared.tuple.Elem.{Elem}
 use Rattle.fdb_tuple.specs.declared.tuple.Elem.TheVariants as elem
-use Rattle.fdb_tuple.specs.Tuples.{Elements, End}
+use Rattle.fdb_tuple.specs.Tuples.{Elements, Empty}
 use Rattle.fdb_tuple.specs.Listed.{before, tuple_of}
 use Rattle.fdb_tuple.specs.Order.{tuple_cmp}
 use Rattle.fdb_tuple.specs.BytesOrder.{nat_cmp-less, nat_cmp-equal, nat_cmp-greater}
 
-end_before : (y : Elem) (ys : Elements) → tuple_cmp End (before y ys) ≡ Less
+end_before : (y : Elem) (ys : Elements) → tuple_cmp Empty (before y ys) ≡ Less
 end_before (elem.Nested b) ys = refl
 end_before y ys = refl
 
-end_after : (x : Elem) (xs : Elements) → tuple_cmp (before x xs) End ≡ Greater
+end_after : (x : Elem) (xs : Elements) → tuple_cmp (before x xs) Empty ≡ Greater
 end_after (elem.Nested a) xs = refl
 end_after x xs = refl
 

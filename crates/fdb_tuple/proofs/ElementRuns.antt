@@ -7,7 +7,7 @@ use Rattle.fdb_tuple.specs.declared.tuple.Elem.{Elem}
 use Rattle.fdb_tuple.specs.declared.tuple.Elem.TheVariants as elem
 use Rattle.fdb_tuple.specs.declared.piece.Piece.{Piece}
 use Rattle.fdb_tuple.specs.declared.piece.Piece.TheVariants as piece
-use Rattle.fdb_tuple.specs.Tuples.{Elements, End, depth_of}
+use Rattle.fdb_tuple.specs.Tuples.{Elements, Empty, depth_of}
 use Rattle.fdb_tuple.specs.Listed.{IsElement, before, tuple_of, elements_of, tuple_of-elements_of}
 use Rattle.fdb_tuple.specs.Reading.{◌>>=◌, Fails, TupleRead, before_others, going_on, piece_at, elements_at}
 use Rattle.fdb_tuple.proofs.Pieces.{IsLeaf, IsPiece, piece_is}
@@ -117,7 +117,7 @@ followed-push : (elements : List Elem) (element : Elem) (read : TupleRead) → f
 followed-push [] element read = refl
 followed-push (first ∷ others) element read = ap (before_others first) (followed-push others element read)
 
-followed-ends : (elements : List Elem) (rest : List ℕ) → followed elements (Ok (End, rest)) ≡ Ok (tuple_of elements, rest)
+followed-ends : (elements : List Elem) (rest : List ℕ) → followed elements (Ok (Empty, rest)) ≡ Ok (tuple_of elements, rest)
 followed-ends [] rest = refl
 followed-ends (first ∷ others) rest = ap (before_others first) (followed-ends others rest)
 
@@ -191,5 +191,5 @@ inner_is_element whole around others after inner lt i =
     let within = IfOk-at_ok (IsWithin (suc around) others) i (elements_within (suc (length others)) whole (suc around) others) in
     omega (arith, within.1 lt)
 
-pub reading_begins : (whole around : ℕ) (bytes : List ℕ) → IsReading whole around bytes End bytes
+pub reading_begins : (whole around : ℕ) (bytes : List ℕ) → IsReading whole around bytes Empty bytes
 reading_begins whole around bytes = record { within = omega arith; total = refl }

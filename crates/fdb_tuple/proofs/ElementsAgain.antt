@@ -4,7 +4,7 @@ use Rattle.std.proofs.lemmas.Bool.{ne_eqb}
 use Rattle.fdb_tuple.specs.declared.fault.UnpackFault.{UnpackFault}
 use Rattle.fdb_tuple.specs.declared.tuple.Elem.TheVariants as elem
 use Rattle.fdb_tuple.specs.declared.piece.Piece.TheVariants as piece
-use Rattle.fdb_tuple.specs.Tuples.{Scalar, Elements, End, Single, Nested, IsScalar, AreElements, depth_of}
+use Rattle.fdb_tuple.specs.Tuples.{Scalar, Elements, Empty, Single, Nested, IsScalar, AreElements, depth_of}
 use Rattle.fdb_tuple.specs.Listed.{element_of, before-element_of}
 use Rattle.fdb_tuple.specs.Zeros.{IsNoEscape}
 use Rattle.fdb_tuple.specs.Spelling.{scalar_spelled, spelled_in}
@@ -18,12 +18,12 @@ use Rattle.fdb_tuple.proofs.PieceLaws.{is_inside, scalar_again, piece_refused}
 abbrev pub ReadsTo : ℕ → ℕ → List ℕ → TupleRead → Type 0
 ReadsTo whole around bytes read = (most : ℕ) → length bytes < most → elements_at most whole around bytes ≡ read
 
-pub reads_nothing : (whole : ℕ) → ReadsTo whole 0 [] (Ok (End, []))
+pub reads_nothing : (whole : ℕ) → ReadsTo whole 0 [] (Ok (Empty, []))
 unfolding elements_at piece_at
 reads_nothing whole zero lt = absurd (omega arith)
 reads_nothing whole (suc most) lt = refl
 
-reads_end : (whole around : ℕ) (rest : List ℕ) → IsNoEscape rest → ReadsTo whole (suc around) (0 ∷ rest) (Ok (End, rest))
+reads_end : (whole around : ℕ) (rest : List ℕ) → IsNoEscape rest → ReadsTo whole (suc around) (0 ∷ rest) (Ok (Empty, rest))
 unfolding elements_at piece_at coded_at kind_of
 reads_end whole around rest end zero lt = absurd (omega arith)
 reads_end whole around [] end (suc most) lt = refl
@@ -63,23 +63,23 @@ reads_opened whole around bytes f ne inside (suc most) lt = rw (opens whole arou
 
 -- whole elements, before those that are read after them
 abbrev pub after_front : Elements → TupleRead → TupleRead
-after_front End read = read
+after_front Empty read = read
 after_front (Single scalar rest) read = before_others (element_of scalar) (after_front rest read)
 after_front (Nested inner rest) read = before_others (elem.Nested inner) (after_front rest read)
 
-pub after_front-end : (elements : Elements) (rest : List ℕ) → after_front elements (Ok (End, rest)) ≡ Ok (elements, rest)
-after_front-end End rest = refl
+pub after_front-end : (elements : Elements) (rest : List ℕ) → after_front elements (Ok (Empty, rest)) ≡ Ok (elements, rest)
+after_front-end Empty rest = refl
 after_front-end (Single scalar others) rest = rw (after_front-end others rest) (ap (λ (t : Elements). Ok (t, rest)) (before-element_of scalar others))
 after_front-end (Nested inner others) rest = ap (before_others (elem.Nested inner)) (after_front-end others rest)
 
 after_front-fault : (elements : Elements) (f : UnpackFault) → after_front elements (Err f) ≡ Err f
-after_front-fault End f = refl
+after_front-fault Empty f = refl
 after_front-fault (Single scalar rest) f = ap (before_others (element_of scalar)) (after_front-fault rest f)
 after_front-fault (Nested inner rest) f = ap (before_others (elem.Nested inner)) (after_front-fault rest f)
 
 pub reads_front : (whole around : ℕ) (elements : Elements) (more : List ℕ) (read : TupleRead) → AreElements elements → around + depth_of elements ≤ 100 → (EndsByZero elements → IsNoEscape more) → ReadsTo whole around more read
     → ReadsTo whole around (spelled_in (is_inside around) elements ++ more) (after_front elements read)
-reads_front whole around End more read are le ends reads = reads
+reads_front whole around Empty more read are le ends reads = reads
 reads_front whole around (Single scalar rest) more read are le ends reads =
     let nested = is_inside around in
     let after = spelled_in nested rest ++ more in
@@ -91,7 +91,7 @@ reads_front whole around (Nested inner rest) more read are le ends reads =
     let after = spelled_in nested rest ++ more in
     let end : IsNoEscape after = IsNoEscape-spelled_in nested rest more (λ e. ends (rw e tt)) in
     let others = reads_front whole around rest more read are.1 (omega (arith, le)) (λ z. ends (EndsByZero-nested inner rest z)) reads in
-    let first = reads_front whole (suc around) inner (0 ∷ after) (Ok (End, after)) are.0 (omega (arith, le)) (λ _ e. omega arith) (reads_end whole around after end) in
+    let first = reads_front whole (suc around) inner (0 ∷ after) (Ok (Empty, after)) are.0 (omega (arith, le)) (λ _ e. omega arith) (reads_end whole around after end) in
     let inside = subst (ReadsTo whole (suc around) (spelled_in true inner ++ 0 ∷ after)) (after_front-end inner after) first in
     let longer = length-append (spelled_in true inner) (0 ∷ after) in
     let parts : 5 ∷ (spelled_in true inner ++ 0 ∷ after) ≡ spelled_in nested (Nested inner rest) ++ more = ap (λ (t : List ℕ). 5 ∷ t) (sym (append_assoc (spelled_in true inner) (0 ∷ spelled_in nested rest) more)) in

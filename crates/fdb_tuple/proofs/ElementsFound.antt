@@ -5,7 +5,7 @@ use Rattle.fdb_tuple.specs.declared.tuple.Elem.{Elem}
 use Rattle.fdb_tuple.specs.declared.tuple.Elem.TheVariants as elem
 use Rattle.fdb_tuple.specs.declared.piece.Piece.{Piece}
 use Rattle.fdb_tuple.specs.declared.piece.Piece.TheVariants as piece
-use Rattle.fdb_tuple.specs.Tuples.{Scalar, Elements, End, Single, Nested, AreElements, depth_of}
+use Rattle.fdb_tuple.specs.Tuples.{Scalar, Elements, Empty, Single, Nested, AreElements, depth_of}
 use Rattle.fdb_tuple.specs.Listed.{before, before-element_of}
 use Rattle.fdb_tuple.specs.Zeros.{IsNoEscape}
 use Rattle.fdb_tuple.specs.Spelling.{scalar_spelled, spelled_in}
@@ -50,7 +50,7 @@ AreBytes-back (b ∷ front) rest are = AreBytes-back front rest are.1
 ends_after-scalar : (nested : Bool) (scalar : Scalar) (elements : Elements) (inner : List Elements) (rest : List ℕ)
     → (IsString scalar → IsNoEscape (spelled_in nested elements ++ opened inner ++ rest)) → (EndsByZero (innermost elements inner) → IsNoEscape rest) → EndsByZero (innermost (Single scalar elements) inner) → IsNoEscape rest
 ends_after-scalar nested scalar elements (deeper ∷ inner) rest string ends = ends
-ends_after-scalar nested scalar End [] rest string ends = string
+ends_after-scalar nested scalar Empty [] rest string ends = string
 ends_after-scalar nested scalar (Single second others) [] rest string ends = ends
 ends_after-scalar nested scalar (Nested second others) [] rest string ends = ends
 
@@ -82,7 +82,7 @@ after_scalar whole around bytes element after (Err f) taken is = record {
 ends_after-nested : (nested : Bool) (first elements : Elements) (inner : List Elements) (rest : List ℕ)
     → IsNoEscape (spelled_in nested elements ++ opened inner ++ rest) → (EndsByZero (innermost elements inner) → IsNoEscape rest) → EndsByZero (innermost (Nested first elements) inner) → IsNoEscape rest
 ends_after-nested nested first elements (deeper ∷ inner) rest end ends = ends
-ends_after-nested nested first End [] rest end ends = λ _. end
+ends_after-nested nested first Empty [] rest end ends = λ _. end
 ends_after-nested nested first (Single second others) [] rest end ends = ends
 ends_after-nested nested first (Nested second others) [] rest end ends = ends
 
@@ -117,7 +117,7 @@ in_nested whole around after f le is =
     let one : around + 1 ≡ suc around = omega arith in
     let deep : around + suc (length is.inner) ≡ suc around + length is.inner = omega arith in
     record {
-      elements = End;
+      elements = Empty;
       are_elements = tt;
       shallow = omega arith;
       inner = is.elements ∷ is.inner;
@@ -159,7 +159,7 @@ found_on whole around bytes inside onward (Ok (piece.Holds element, after)) le a
     after_scalar whole around bytes element after (onward after) is (on after less (AreBytes-back spelled after (subst AreBytes is.parts are)))
 found_on whole around bytes inside onward (Err f) le are deeper on is =
     let none : around + 0 ≡ around = omega arith in
-    record { elements = End; are_elements = tt; shallow = omega arith; inner = []; are_open = le; rest = bytes; begins = refl; ends = λ none. absurd none; is_faulty = rw none is }
+    record { elements = Empty; are_elements = tt; shallow = omega arith; inner = []; are_open = le; rest = bytes; begins = refl; ends = λ none. absurd none; is_faulty = rw none is }
 
 pub elements_found : (most whole around : ℕ) (bytes : List ℕ) → length bytes < most → around ≤ 100 → AreBytes bytes → ElementsAre whole around bytes (elements_at most whole around bytes)
 unfolding elements_at

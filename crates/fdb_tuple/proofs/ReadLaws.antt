@@ -3,7 +3,7 @@
 use Rattle.std.proofs.Common.{◌≡◌, ◌≢◌, ℕ, suc, ◌+◌, false, List, [], ◌++◌, length, Result, Ok, Err, sym, ap, subst, ◌∙◌, arith, append_assoc}
 use Rattle.std.proofs.lemmas.List.{append-nil}
 use Rattle.fdb_tuple.specs.declared.fault.UnpackFault.{UnpackFault}
-use Rattle.fdb_tuple.specs.Tuples.{Elements, End, IsTuple}
+use Rattle.fdb_tuple.specs.Tuples.{Elements, Empty, IsTuple}
 use Rattle.fdb_tuple.specs.Spelling.{spelled_in, spelling}
 use Rattle.fdb_tuple.specs.Reading.{◌>>=◌, TupleRead, elements_at, read_tuple}
 use Rattle.fdb_tuple.specs.Stops.{opened, Stops}
@@ -33,7 +33,7 @@ unfolding read_tuple
 read_tuple_again tuple is =
     let bytes = spelling tuple in
     let whole = length bytes in
-    let front = reads_front whole 0 tuple [] (Ok (End, [])) is.0 (omega (arith, is.1)) (λ _. tt) (reads_nothing whole) in
+    let front = reads_front whole 0 tuple [] (Ok (Empty, [])) is.0 (omega (arith, is.1)) (λ _. tt) (reads_nothing whole) in
     let reads = subst (λ (t : List ℕ). ReadsTo whole 0 t (Ok (tuple, []))) (append-nil bytes) (subst (ReadsTo whole 0 (bytes ++ [])) (after_front-end tuple []) front) in
     ap (λ (r : TupleRead). r >>= (λ x. Ok x.0)) (reads (suc whole) (omega arith))
 

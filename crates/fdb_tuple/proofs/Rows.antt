@@ -4,7 +4,7 @@ use Rattle.std.specs.Str.{is_utf8, chars}
 use lib.Utf8
 use Rattle.fdb_tuple.specs.declared.fault.UnpackFault.TheVariants as unpack
 use Rattle.fdb_tuple.specs.declared.fault.StampPackFault.TheVariants as stamp
-use Rattle.fdb_tuple.specs.Tuples.{Elements, End, Single, Nested, Null, Bytes, Text, Int, Stamp}
+use Rattle.fdb_tuple.specs.Tuples.{Elements, Empty, Single, Nested, Null, Bytes, Text, Int, Stamp}
 use Rattle.fdb_tuple.specs.Spelling.{low_first, least_bytes, signed_spelled, int_spelled, spelling}
 use Rattle.fdb_tuple.specs.Kinds.{kind_of}
 use Rattle.fdb_tuple.specs.Reading.{string_at, bytes_at, text_at, number_low, short_at, sized_at, coded_at, piece_at, elements_at, read_tuple}
@@ -16,14 +16,14 @@ use Rattle.fdb_tuple.specs.Stamps.{incomplete, stamp_packed}
 foo_bar : List ℕ
 foo_bar = 0x66 ∷ 0x6F ∷ 0x6F ∷ 0 ∷ 0x62 ∷ 0x61 ∷ 0x72 ∷ []
 
-empty_is : spelling End ≡ []
+empty_is : spelling Empty ≡ []
 empty_is = refl
 
-zero_byte_is : spelling (Single (Bytes foo_bar) End) ≡ 0x01 ∷ 0x66 ∷ 0x6F ∷ 0x6F ∷ 0 ∷ 0xFF ∷ 0x62 ∷ 0x61 ∷ 0x72 ∷ 0 ∷ []
+zero_byte_is : spelling (Single (Bytes foo_bar) Empty) ≡ 0x01 ∷ 0x66 ∷ 0x6F ∷ 0x6F ∷ 0 ∷ 0xFF ∷ 0x62 ∷ 0x61 ∷ 0x72 ∷ 0 ∷ []
 unfolding foo_bar
 zero_byte_is = refl
 
-nested_is : spelling (Nested (Single (Bytes foo_bar) (Single Null (Nested End End))) End) ≡ 0x05 ∷ 0x01 ∷ 0x66 ∷ 0x6F ∷ 0x6F ∷ 0 ∷ 0xFF ∷ 0x62 ∷ 0x61 ∷ 0x72 ∷ 0 ∷ 0 ∷ 0xFF ∷ 0x05 ∷ 0 ∷ 0 ∷ []
+nested_is : spelling (Nested (Single (Bytes foo_bar) (Single Null (Nested Empty Empty))) Empty) ≡ 0x05 ∷ 0x01 ∷ 0x66 ∷ 0x6F ∷ 0x6F ∷ 0 ∷ 0xFF ∷ 0x62 ∷ 0x61 ∷ 0x72 ∷ 0 ∷ 0 ∷ 0xFF ∷ 0x05 ∷ 0 ∷ 0 ∷ []
 unfolding foo_bar
 nested_is = refl
 
@@ -113,24 +113,24 @@ too_big : read_tuple (0x1D ∷ 17 ∷ 1 ∷ replicate 16 0) ≡ Err (unpack.TooB
 unfolding read_tuple elements_at piece_at coded_at kind_of short_at sized_at text_at bytes_at string_at number_low is_utf8 chars
 too_big = refl
 
-read_all : read_tuple (0x02 ∷ 0x61 ∷ 0 ∷ 0x13 ∷ 0xFE ∷ 0 ∷ 0x05 ∷ 0x01 ∷ 0 ∷ 0xFF ∷ 0 ∷ 0 ∷ 0xFF ∷ 0 ∷ []) ≡ Ok (Single (Text (0x61 ∷ [])) (Single (Int (negsuc 0)) (Single Null (Nested (Single (Bytes (0 ∷ [])) (Single Null End)) End))))
+read_all : read_tuple (0x02 ∷ 0x61 ∷ 0 ∷ 0x13 ∷ 0xFE ∷ 0 ∷ 0x05 ∷ 0x01 ∷ 0 ∷ 0xFF ∷ 0 ∷ 0 ∷ 0xFF ∷ 0 ∷ []) ≡ Ok (Single (Text (0x61 ∷ [])) (Single (Int (negsuc 0)) (Single Null (Nested (Single (Bytes (0 ∷ [])) (Single Null Empty)) Empty))))
 unfolding read_tuple elements_at piece_at coded_at kind_of short_at sized_at text_at bytes_at string_at number_low is_utf8 chars lib.Utf8.encode
 read_all = refl
 
 -- ---- versionstamps
 
 -- the incomplete versionstamp of user order 7, before other elements
-stamped : Elements → Elements
-stamped rest = Single (Stamp incomplete 7) rest
+with_stamp : Elements → Elements
+with_stamp rest = Single (Stamp incomplete 7) rest
 
-one_stamp : stamp_packed (0x61 ∷ 0x62 ∷ []) (stamped End) ≡ Ok (0x61 ∷ 0x62 ∷ 0x33 ∷ replicate 10 0xFF ++ 0 ∷ 7 ∷ 3 ∷ 0 ∷ 0 ∷ 0 ∷ [])
-unfolding stamp_packed stamped
+one_stamp : stamp_packed (0x61 ∷ 0x62 ∷ []) (with_stamp Empty) ≡ Ok (0x61 ∷ 0x62 ∷ 0x33 ∷ replicate 10 0xFF ++ 0 ∷ 7 ∷ 3 ∷ 0 ∷ 0 ∷ 0 ∷ [])
+unfolding stamp_packed with_stamp
 one_stamp = refl
 
-no_stamp : stamp_packed (0x61 ∷ 0x62 ∷ []) End ≡ Err stamp.NoStamp
+no_stamp : stamp_packed (0x61 ∷ 0x62 ∷ []) Empty ≡ Err stamp.NoStamp
 unfolding stamp_packed
 no_stamp = refl
 
-two_stamps : stamp_packed (0x61 ∷ 0x62 ∷ []) (stamped (stamped End)) ≡ Err stamp.ManyStamps
-unfolding stamp_packed stamped
+two_stamps : stamp_packed (0x61 ∷ 0x62 ∷ []) (with_stamp (with_stamp Empty)) ≡ Err stamp.ManyStamps
+unfolding stamp_packed with_stamp
 two_stamps = refl

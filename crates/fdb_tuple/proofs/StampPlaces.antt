@@ -7,7 +7,7 @@ use Rattle.fdb_tuple.specs.declared.fault.StampPackFault.{StampPackFault}
 use Rattle.fdb_tuple.specs.declared.fault.StampPackFault.TheVariants as fault
 use Rattle.fdb_tuple.specs.declared.tuple.Elem.{Elem}
 use Rattle.fdb_tuple.specs.declared.tuple.Elem.TheVariants as elem
-use Rattle.fdb_tuple.specs.Tuples.{Scalar, Null, Bytes, Text, Int, Boolean, Uuid, Stamp, Elements, End, Single, Nested}
+use Rattle.fdb_tuple.specs.Tuples.{Scalar, Null, Bytes, Text, Int, Boolean, Uuid, Stamp, Elements, Empty, Single, Nested}
 use Rattle.fdb_tuple.specs.Listed.{before, tuple_of}
 use Rattle.fdb_tuple.specs.Spelling.{scalar_spelled, spelled_in}
 use Rattle.fdb_tuple.specs.Stamps.{incomplete, scalar_places, stamp_places, GivesPacked}
@@ -17,7 +17,7 @@ drop_element : (elements : List Elem) (i : ℕ) (element : Elem) → i < length 
 drop_element elements i element lt is = drop_more elements i element lt ∙ ap (λ (first : Elem). first ∷ drop (i + 1) elements) (sym is)
 
 -- the element at a place and those behind it
-pub length-spelled_in_left : (nested : Bool) (elements : List Elem) (i : ℕ) (element : Elem) → i < length elements → element ≡ get_or elements i element → length (spelled_in nested (tuple_of (drop i elements))) ≡ length (spelled_in nested (before element End)) + length (spelled_in nested (tuple_of (drop (i + 1) elements)))
+pub length-spelled_in_left : (nested : Bool) (elements : List Elem) (i : ℕ) (element : Elem) → i < length elements → element ≡ get_or elements i element → length (spelled_in nested (tuple_of (drop i elements))) ≡ length (spelled_in nested (before element Empty)) + length (spelled_in nested (tuple_of (drop (i + 1) elements)))
 length-spelled_in_left nested elements i element lt is =
     rw (drop_element elements i element lt is, spelled_in-before nested element (tuple_of (drop (i + 1) elements)), length-append) refl
 
@@ -49,7 +49,7 @@ scalar_below nested at (Stamp stamp user) =
     stamp_below at (bytes_eq stamp incomplete) (length (scalar_spelled nested (Stamp stamp user))) (omega (arith, length-append stamp (to_be_bytes w16 user)))
 
 stamp_places_below : (nested : Bool) (at : ℕ) (tuple : Elements) → AreBelow (at + length (spelled_in nested tuple)) (stamp_places nested at tuple)
-stamp_places_below nested at End = tt
+stamp_places_below nested at Empty = tt
 stamp_places_below nested at (Single scalar rest) =
     let first = scalar_spelled nested scalar in
     let len = length-append first (spelled_in nested rest) in

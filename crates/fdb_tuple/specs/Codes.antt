@@ -4,7 +4,7 @@ use Rattle.std.specs.Coded.{Coded, code_by, coded×, coded⊎, coded_ℕ, coded_
 use Rattle.std.proofs.Common.{ap, ◌∙◌, sym, inl, inr, append_assoc}
 use Rattle.std.proofs.lemmas.List.{append-nil}
 use base.Stored.{coded_unit}
-use Rattle.fdb_tuple.specs.Tuples.{Scalar, Null, Bytes, Text, Int, Boolean, Uuid, Stamp, Elements, End, Single, Nested}
+use Rattle.fdb_tuple.specs.Tuples.{Scalar, Null, Bytes, Text, Int, Boolean, Uuid, Stamp, Elements, Empty, Single, Nested}
 
 abbrev Sum : Type 0
 Sum = Unit {0} ⊎ (List ℕ ⊎ (List ℕ ⊎ (ℤ ⊎ (Bool ⊎ (List ℕ ⊎ (List ℕ × ℕ))))))
@@ -67,7 +67,7 @@ abbrev token_code : Coded Token
 token_code = code_by (Unit {0} ⊎ (Unit {0} ⊎ Scalar)) (coded⊎ coded_unit (coded⊎ coded_unit scalar_code)) token_sum sum_token sum_token-token_sum
 
 abbrev tokens_of : Elements → List Token
-tokens_of End = Close ∷ []
+tokens_of Empty = Close ∷ []
 tokens_of (Single scalar rest) = Leaf scalar ∷ tokens_of rest
 tokens_of (Nested inner rest) = Open ∷ tokens_of inner ++ tokens_of rest
 
@@ -77,7 +77,7 @@ close (elements, waiting) = elements
 
 -- reading from the right: what is read so far, the innermost first
 abbrev pushed : Token → List Elements → List Elements
-pushed Close stack = End ∷ stack
+pushed Close stack = Empty ∷ stack
 pushed (Leaf scalar) [] = []
 pushed (Leaf scalar) (rest ∷ stack) = Single scalar rest ∷ stack
 pushed Open [] = []
@@ -89,14 +89,14 @@ read [] = []
 read (token ∷ tokens) = pushed token (read tokens)
 
 abbrev first : List Elements → Elements
-first [] = End
+first [] = Empty
 first (elements ∷ stack) = elements
 
 abbrev elements_in : List Token → Elements
 elements_in tokens = first (read tokens)
 
 read-append : (elements : Elements) (rest : List Token) → read (tokens_of elements ++ rest) ≡ elements ∷ read rest
-read-append End rest = refl
+read-append Empty rest = refl
 read-append (Single scalar others) rest = ap (pushed (Leaf scalar)) (read-append others rest)
 read-append (Nested inner others) rest =
     ap (λ (tokens : List Token). pushed Open (read tokens)) (append_assoc (tokens_of inner) (tokens_of others) rest)

@@ -3,7 +3,7 @@ use Rattle.std.specs.Prelude.{◌≡◌, ◌≤◌, List, [], ◌∷◌, refl}
 use Rattle.std.proofs.Common.{ap, ◌∙◌}
 use Rattle.fdb_tuple.specs.declared.tuple.Elem.{Elem}
 use Rattle.fdb_tuple.specs.declared.tuple.Elem.TheVariants as elem
-use Rattle.fdb_tuple.specs.Tuples.{Scalar, Null, Bytes, Text, Int, Boolean, Uuid, Stamp, Elements, End, Single, Nested, depth_of}
+use Rattle.fdb_tuple.specs.Tuples.{Scalar, Null, Bytes, Text, Int, Boolean, Uuid, Stamp, Elements, Empty, Single, Nested, depth_of}
 
 -- an element before others
 abbrev pub before : Elem → Elements → Elements
@@ -18,7 +18,7 @@ before (elem.Stamp stamp) rest = Single (Stamp stamp.stamp stamp.user) rest
 
 -- the tuple of these elements
 abbrev pub tuple_of : List Elem → Elements
-tuple_of [] = End
+tuple_of [] = Empty
 tuple_of (element ∷ elements) = before element (tuple_of elements)
 
 abbrev pub element_of : Scalar → Elem
@@ -32,7 +32,7 @@ element_of (Stamp stamp user) = elem.Stamp (record { stamp = stamp; user = user 
 
 -- the elements of a tuple, in order
 abbrev pub elements_of : Elements → List Elem
-elements_of End = []
+elements_of Empty = []
 elements_of (Single scalar rest) = element_of scalar ∷ elements_of rest
 elements_of (Nested inner rest) = elem.Nested inner ∷ elements_of rest
 
@@ -72,6 +72,6 @@ before-element_of (Uuid bytes) rest = refl
 before-element_of (Stamp stamp user) rest = refl
 
 pub tuple_of-elements_of : (tuple : Elements) → tuple_of (elements_of tuple) ≡ tuple
-tuple_of-elements_of End = refl
+tuple_of-elements_of Empty = refl
 tuple_of-elements_of (Single scalar rest) = before-element_of scalar (tuple_of (elements_of rest)) ∙ ap (λ (others : Elements). Single scalar others) (tuple_of-elements_of rest)
 tuple_of-elements_of (Nested inner rest) = ap (λ (others : Elements). Nested inner others) (tuple_of-elements_of rest)

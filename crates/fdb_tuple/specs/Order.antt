@@ -5,7 +5,7 @@ use Rattle.std.specs.Ordering.{nat_cmp, int_cmp, ordering_then}
 use Rattle.std.specs.declared.cmp.Ordering.{Ordering}
 use Rattle.std.specs.declared.cmp.Ordering.TheVariants.{Less, Equal, Greater}
 use Rattle.key_bytes.specs.Keys.{key_cmp}
-use Rattle.fdb_tuple.specs.Tuples.{Scalar, Null, Bytes, Text, Int, Boolean, Uuid, Stamp, Elements, End, Single, Nested}
+use Rattle.fdb_tuple.specs.Tuples.{Scalar, Null, Bytes, Text, Int, Boolean, Uuid, Stamp, Elements, Empty, Single, Nested}
 
 -- the order of kinds: null, byte strings, Unicode strings, nested tuples, integers, false, true, UUIDs, versionstamps
 abbrev pub rank : Scalar → ℕ
@@ -34,12 +34,12 @@ abbrev pub scalar_cmp : Scalar → Scalar → Ordering
 scalar_cmp a b = ordering_then (nat_cmp (rank a) (rank b)) (value_cmp a b)
 
 abbrev pub tuple_cmp : Elements → Elements → Ordering
-tuple_cmp End End = Equal
-tuple_cmp End (Single b ys) = Less
-tuple_cmp End (Nested b ys) = Less
-tuple_cmp (Single a xs) End = Greater
+tuple_cmp Empty Empty = Equal
+tuple_cmp Empty (Single b ys) = Less
+tuple_cmp Empty (Nested b ys) = Less
+tuple_cmp (Single a xs) Empty = Greater
 tuple_cmp (Single a xs) (Single b ys) = ordering_then (scalar_cmp a b) (tuple_cmp xs ys)
 tuple_cmp (Single a xs) (Nested b ys) = nat_cmp (rank a) nested_rank
-tuple_cmp (Nested a xs) End = Greater
+tuple_cmp (Nested a xs) Empty = Greater
 tuple_cmp (Nested a xs) (Single b ys) = nat_cmp nested_rank (rank b)
 tuple_cmp (Nested a xs) (Nested b ys) = ordering_then (tuple_cmp a b) (tuple_cmp xs ys)

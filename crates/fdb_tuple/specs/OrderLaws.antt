@@ -10,7 +10,7 @@ use Rattle.std.proofs.lemmas.Cmp.{nat_list_cmp_total}
 use Rattle.std.proofs.lemmas.List.{append-nil}
 use Rattle.std.proofs.lemmas.Map.Keys.{below_from_sorted}
 use Rattle.key_bytes.specs.Keys.{key_cmp}
-use Rattle.fdb_tuple.specs.Tuples.{Scalar, Null, Bytes, Text, Int, Boolean, Uuid, Stamp, Elements, End, Single, Nested, greatest_magnitude, IsScalar, AreElements, IsTuple}
+use Rattle.fdb_tuple.specs.Tuples.{Scalar, Null, Bytes, Text, Int, Boolean, Uuid, Stamp, Elements, Empty, Single, Nested, greatest_magnitude, IsScalar, AreElements, IsTuple}
 use Rattle.fdb_tuple.specs.Spelling.{escaped, string_spelled, with_sign, int_code, signed_spelled, scalar_spelled, spelled_in, spelling}
 use Rattle.fdb_tuple.specs.Order.{rank, nested_rank, value_cmp, scalar_cmp, tuple_cmp}
 use Rattle.fdb_tuple.specs.BytesOrder.{ordering_then-assoc, ordering_then-equal, ordering_then-differ, nat_cmp-less, nat_cmp-equal, nat_cmp-greater, key_cmp-first_less, key_cmp-append, key_cmp-escaped, key_cmp-below_escape, IsBelowEscape}
@@ -155,7 +155,7 @@ nested_begins : (x : List ℕ) → BeginsAs nested_rank (0x05 ∷ x)
 nested_begins x = begins 0x05 x (search rules)
 
 elements_below : (nested : Bool) (a : Elements) (e : List ℕ) → IsBelowEscape e → IsBelowEscape (spelled_in nested a ++ e)
-elements_below nested End e h = h
+elements_below nested Empty e h = h
 elements_below nested (Single s xs) e h =
     rw (append_assoc (scalar_spelled nested s) (spelled_in nested xs) e) (begins_below (rank s) _ (scalar_begins nested s (spelled_in nested xs ++ e)))
 elements_below nested (Nested inner xs) e h = omega arith
@@ -175,21 +175,21 @@ closed_scalar false Null x y h = refl
 closed_scalar true Null x y h = key_cmp-below_escape x y h
 closed_scalar nested s x y h = closed_kind nested (rank s) x _ (scalar_begins nested s y) (omega (arith, boolean_rank))
 
-end_before : (nested : Bool) (b : Elements) (x e : List ℕ) → b ≢ End → IsBelowEscape x → key_cmp (closed nested x) (spelled_in nested b ++ e) ≡ Less
-end_before nested End x e some h = absurd (some refl)
+end_before : (nested : Bool) (b : Elements) (x e : List ℕ) → b ≢ Empty → IsBelowEscape x → key_cmp (closed nested x) (spelled_in nested b ++ e) ≡ Less
+end_before nested Empty x e some h = absurd (some refl)
 end_before nested (Single s xs) x e some h = rw (append_assoc (scalar_spelled nested s) (spelled_in nested xs) e) (closed_scalar nested s x (spelled_in nested xs ++ e) h)
 end_before nested (Nested inner xs) x e some h = closed_kind nested nested_rank x _ (nested_begins _) (omega arith)
 
-end_after : (nested : Bool) (a : Elements) (y e : List ℕ) → a ≢ End → IsBelowEscape y → key_cmp (spelled_in nested a ++ e) (closed nested y) ≡ Greater
+end_after : (nested : Bool) (a : Elements) (y e : List ℕ) → a ≢ Empty → IsBelowEscape y → key_cmp (spelled_in nested a ++ e) (closed nested y) ≡ Greater
 end_after nested a y e some h = nat_list_cmp_total.antisymm (spelled_in nested a ++ e) (closed nested y) ∙ ap ordering_reverse (end_before nested a y e some h)
 
 key_cmp-closed : (nested : Bool) (a b : Elements) (x y : List ℕ) → AreElements a → AreElements b → IsBelowEscape x → IsBelowEscape y →
     key_cmp (spelled_in nested a ++ closed nested x) (spelled_in nested b ++ closed nested y) ≡ ordering_then (tuple_cmp a b) (key_cmp (closed nested x) (closed nested y))
-key_cmp-closed nested End End x y ha hb hx hy = refl
-key_cmp-closed nested End (Single t ys) x y ha hb hx hy = end_before nested (Single t ys) x (closed nested y) (λ e. cc) hx
-key_cmp-closed nested End (Nested b ys) x y ha hb hx hy = end_before nested (Nested b ys) x (closed nested y) (λ e. cc) hx
-key_cmp-closed nested (Single s xs) End x y ha hb hx hy = end_after nested (Single s xs) y (closed nested x) (λ e. cc) hy
-key_cmp-closed nested (Nested a xs) End x y ha hb hx hy = end_after nested (Nested a xs) y (closed nested x) (λ e. cc) hy
+key_cmp-closed nested Empty Empty x y ha hb hx hy = refl
+key_cmp-closed nested Empty (Single t ys) x y ha hb hx hy = end_before nested (Single t ys) x (closed nested y) (λ e. cc) hx
+key_cmp-closed nested Empty (Nested b ys) x y ha hb hx hy = end_before nested (Nested b ys) x (closed nested y) (λ e. cc) hx
+key_cmp-closed nested (Single s xs) Empty x y ha hb hx hy = end_after nested (Single s xs) y (closed nested x) (λ e. cc) hy
+key_cmp-closed nested (Nested a xs) Empty x y ha hb hx hy = end_after nested (Nested a xs) y (closed nested x) (λ e. cc) hy
 key_cmp-closed nested (Single s xs) (Nested b ys) x y ha hb hx hy =
     rw (append_assoc (scalar_spelled nested s) (spelled_in nested xs) (closed nested x))
     (key_cmp-ranks (rank s) nested_rank _ _ (scalar_begins nested s _) (nested_begins _) (rank-nested s) ∙ ordering_then-differ (rank s) nested_rank _ (rank-nested s))

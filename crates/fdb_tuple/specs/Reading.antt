@@ -11,7 +11,7 @@ use Rattle.fdb_tuple.specs.declared.code.Kind.{Kind}
 use Rattle.fdb_tuple.specs.declared.code.Kind.TheVariants as kind
 use Rattle.fdb_tuple.specs.declared.piece.Piece.{Piece}
 use Rattle.fdb_tuple.specs.declared.piece.Piece.TheVariants as piece
-use Rattle.fdb_tuple.specs.Tuples.{Elements, End, greatest_magnitude}
+use Rattle.fdb_tuple.specs.Tuples.{Elements, Empty, greatest_magnitude}
 use Rattle.fdb_tuple.specs.Listed.{before}
 use Rattle.fdb_tuple.specs.Spelling.{signed_byte, with_sign}
 use Rattle.fdb_tuple.specs.Kinds.{kind_of}
@@ -167,7 +167,7 @@ before_others element read = do
 
 -- after a piece: `inside` reads the elements of a nested tuple, and `onward` those that follow
 abbrev pub going_on : (List ℕ → TupleRead) → (List ℕ → TupleRead) → Piece × List ℕ → TupleRead
-going_on inside onward (piece.Ends, rest) = Ok (End, rest)
+going_on inside onward (piece.Ends, rest) = Ok (Empty, rest)
 going_on inside onward (piece.Opens, rest) = inside rest >>= (λ inner. before_others (elem.Nested inner.0) (onward inner.1))
 going_on inside onward (piece.Holds element, rest) = before_others element (onward rest)
 

@@ -2,7 +2,7 @@
 use Rattle.std.specs.Prelude.{ℕ, zero, suc, ◌+◌, ◌-◌, ◌/◌, ◌%◌, nat_le, Bool, true, false, if◌then◌else◌, List, [], ◌∷◌, ◌++◌, length, map, reverse, ℤ, unsigned_abs}
 use Rattle.std.specs.Int.{w16, is_negative, to_be_bytes}
 use Rattle.std.specs.List.{flat_map}
-use Rattle.fdb_tuple.specs.Tuples.{Scalar, Null, Bytes, Text, Int, Boolean, Uuid, Stamp, Elements, End, Single, Nested}
+use Rattle.fdb_tuple.specs.Tuples.{Scalar, Null, Bytes, Text, Int, Boolean, Uuid, Stamp, Elements, Empty, Single, Nested}
 
 -- ---- strings
 
@@ -73,7 +73,7 @@ scalar_spelled nested (Stamp stamp user) = 0x33 ∷ stamp ++ to_be_bytes w16 use
 
 -- elements one after the other, at the top or inside a nested tuple
 abbrev pub spelled_in : Bool → Elements → List ℕ
-spelled_in nested End = []
+spelled_in nested Empty = []
 spelled_in nested (Single scalar rest) = scalar_spelled nested scalar ++ spelled_in nested rest
 spelled_in nested (Nested inner rest) = 0x05 ∷ spelled_in true inner ++ 0 ∷ spelled_in nested rest
 

@@ -4,7 +4,7 @@ use Rattle.std.specs.Prelude.{◌≡◌, ℕ, ◌+◌, Bool, true, false, if◌t
 use Rattle.std.specs.Int.{w32, to_le_bytes}
 use Rattle.fdb_tuple.specs.declared.fault.StampPackFault.{StampPackFault}
 use Rattle.fdb_tuple.specs.declared.fault.StampPackFault.TheVariants as fault
-use Rattle.fdb_tuple.specs.Tuples.{Scalar, Stamp, Elements, End, Single, Nested}
+use Rattle.fdb_tuple.specs.Tuples.{Scalar, Stamp, Elements, Empty, Single, Nested}
 use Rattle.fdb_tuple.specs.Spelling.{scalar_spelled, spelled_in, spelling}
 
 -- ten FF bytes mark a versionstamp as incomplete
@@ -18,7 +18,7 @@ scalar_places at _ = []
 
 -- the places of the ten bytes of each incomplete versionstamp, at any depth, where the elements' bytes begin at a place
 abbrev pub stamp_places : Bool → ℕ → Elements → List ℕ
-stamp_places nested at End = []
+stamp_places nested at Empty = []
 stamp_places nested at (Single scalar rest) = scalar_places at scalar ++ stamp_places nested (at + length (scalar_spelled nested scalar)) rest
 stamp_places nested at (Nested inner rest) = stamp_places true (at + 1) inner ++ stamp_places nested (at + 1 + length (spelled_in true inner) + 1) rest
 

@@ -7,7 +7,7 @@ use Rattle.fdb_tuple.specs.declared.fault.UnpackFault.{UnpackFault}
 use Rattle.fdb_tuple.specs.declared.fault.UnpackFault.TheVariants as fault
 use Rattle.fdb_tuple.specs.declared.code.Kind.{Kind}
 use Rattle.fdb_tuple.specs.declared.code.Kind.TheVariants as kind
-use Rattle.fdb_tuple.specs.Tuples.{Scalar, Bytes, Text, Elements, End, Single, Nested, AreElements, depth_of, IsTuple, greatest_magnitude}
+use Rattle.fdb_tuple.specs.Tuples.{Scalar, Bytes, Text, Elements, Empty, Single, Nested, AreElements, depth_of, IsTuple, greatest_magnitude}
 use Rattle.fdb_tuple.specs.Spelling.{escaped, string_spelled, signed_byte, with_sign, spelled_in, spelling}
 use Rattle.fdb_tuple.specs.Zeros.{IsNoEscape}
 use Rattle.fdb_tuple.specs.Kinds.{kind_of}
@@ -83,9 +83,9 @@ IsString _ = ⊥
 
 -- the last of the elements is a string or a nested tuple, which ends with the first 00 that no FF follows
 abbrev pub EndsByZero : Elements → Type 0
-EndsByZero End = ⊥
-EndsByZero (Single scalar End) = IsString scalar
-EndsByZero (Nested inner End) = Unit {0}
+EndsByZero Empty = ⊥
+EndsByZero (Single scalar Empty) = IsString scalar
+EndsByZero (Nested inner Empty) = Unit {0}
 EndsByZero (Single scalar rest) = EndsByZero rest
 EndsByZero (Nested inner rest) = EndsByZero rest
 

@@ -18,19 +18,19 @@ pub data Scalar : Type 0 where
 
 -- the elements of a tuple in order: none; or a first one, which is a scalar or a nested tuple, and the rest
 pub data Elements : Type 0 where
-  End : Elements
+  Empty : Elements
   Single : (scalar : Scalar) (rest : Elements) → Elements
   Nested : (inner : Elements) (rest : Elements) → Elements
 
 -- 0 where no element is a tuple, else 1 more than the greatest depth of one
 abbrev pub depth_of : Elements → ℕ
-depth_of End = 0
+depth_of Empty = 0
 depth_of (Single scalar rest) = depth_of rest
 depth_of (Nested inner rest) = max (depth_of inner + 1) (depth_of rest)
 
 -- how many elements there are, those of nested tuples included
 abbrev pub weight : Elements → ℕ
-weight End = 0
+weight Empty = 0
 weight (Single scalar rest) = weight rest + 1
 weight (Nested inner rest) = weight inner + weight rest + 1
 
@@ -50,7 +50,7 @@ IsScalar (Uuid bytes) = IsByteString bytes × (length bytes ≡ 16)
 IsScalar (Stamp stamp user) = IsByteString stamp × (length stamp ≡ 10) × (user < 2 ^ 16)
 
 abbrev pub AreElements : Elements → Type 0
-AreElements End = Unit {0}
+AreElements Empty = Unit {0}
 AreElements (Single scalar rest) = IsScalar scalar × AreElements rest
 AreElements (Nested inner rest) = AreElements inner × AreElements rest
 

@@ -1,7 +1,7 @@
 //! How many bytes the spelling of a tuple has, counted no further than the greatest `usize`.
 
 ghost use Rattle.std.specs.Prelude.{◌≡◌, ◌==◌, ◌+◌, ◌-◌, ◌^◌, min, Bool, true, false, length, count_by};
-ghost use Rattle.fdb_tuple.specs.Tuples.{End};
+ghost use Rattle.fdb_tuple.specs.Tuples.{Empty};
 ghost use Rattle.fdb_tuple.specs.Listed.{before};
 ghost use Rattle.fdb_tuple.specs.Spelling.{string_spelled, least_bytes, signed_spelled, spelled_in, spelling};
 
@@ -29,7 +29,7 @@ fn tuple_len(tuple: &Tuple, nested: bool) -> usize
 // How many bytes an element has, at the top or inside a nested tuple.
 #[cycle(len)]
 pub(crate) fn element_len(element: &Elem, nested: bool) -> usize
-    ensures { result ≡ min (length (spelled_in nested (before element.now End))) (2 ^ 64 - 1) }
+    ensures { result ≡ min (length (spelled_in nested (before element.now Empty))) (2 ^ 64 - 1) }
 {
     element.is_lawful();
     match element {

@@ -3,7 +3,7 @@
 ghost use Rattle.std.specs.Prelude.{◌≡◌};
 ghost use Rattle.std.specs.Ordering.{nat_cmp, ordering_then};
 ghost use Rattle.key_bytes.specs.Keys.{key_cmp};
-ghost use Rattle.fdb_tuple.specs.Tuples.{End};
+ghost use Rattle.fdb_tuple.specs.Tuples.{Empty};
 ghost use Rattle.fdb_tuple.specs.Listed.{before};
 ghost use Rattle.fdb_tuple.specs.Order.{tuple_cmp};
 ghost use Rattle.fdb_tuple.specs.Ranks.{rank_of};
@@ -41,7 +41,7 @@ fn tuple_order(a: &Tuple, b: &Tuple) -> Ordering
 // The order of the tuples of these elements alone.
 #[cycle(order)]
 fn element_order(a: &Elem, b: &Elem) -> Ordering
-    ensures { result ≡ tuple_cmp (before a.now End) (before b.now End) }
+    ensures { result ≡ tuple_cmp (before a.now Empty) (before b.now Empty) }
 {
     let kinds = kind_rank(a).cmp(&kind_rank(b));
     if kinds.is_ne() {
@@ -71,7 +71,7 @@ fn kind_rank(element: &Elem) -> u8
 #[cycle(order)]
 fn value_order(a: &Elem, b: &Elem) -> Ordering
     requires { rank_of a.now ≡ rank_of b.now }
-    ensures { result ≡ tuple_cmp (before a.now End) (before b.now End) }
+    ensures { result ≡ tuple_cmp (before a.now Empty) (before b.now Empty) }
 {
     match (a, b) {
         (Elem::Bytes(a), Elem::Bytes(b)) => a.as_slice().cmp(&b.as_slice()),

@@ -1,7 +1,7 @@
 //! Tuples as byte strings.
 
 ghost use Rattle.std.specs.Prelude.{◌≡◌, ◌+◌, ◌^◌, ◌<◌, [], ◌∷◌, ◌++◌, length, IfOk, OnOk, OnErr};
-ghost use Rattle.fdb_tuple.specs.Tuples.{End};
+ghost use Rattle.fdb_tuple.specs.Tuples.{Empty};
 ghost use Rattle.fdb_tuple.specs.Listed.{before};
 ghost use Rattle.fdb_tuple.specs.Spelling.{spelling};
 ghost use Rattle.fdb_tuple.specs.Stamps.{stamp_packed, GivesPacked};
@@ -25,7 +25,7 @@ pub fn pack(alloc: Global, tuple: &Tuple) -> Result<Bytes, AllocError>
 
 /// The spelling of the tuple of this one element.
 pub fn pack_element(alloc: Global, element: &Elem) -> Result<Bytes, AllocError>
-    ensures { IfOk result (λ packed. packed ≡ spelling (before element.now End)) }
+    ensures { IfOk result (λ packed. packed ≡ spelling (before element.now Empty)) }
 {
     let mut packed = with_room(alloc, element_len(element, false))?;
     put_element(&mut packed, element, false)?;

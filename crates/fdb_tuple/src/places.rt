@@ -1,7 +1,7 @@
 //! The place of the one incomplete versionstamp of a tuple.
 
 ghost use Rattle.std.specs.Prelude.{◌≡◌, ◌+◌, ◌≤◌, ◌<◌, ◌^◌, ℕ, true, false, List, [], ◌∷◌, ◌++◌, length, Err, option_to_list, IfOk, IfErr, OnOk};
-ghost use Rattle.fdb_tuple.specs.Tuples.{End, Stamp};
+ghost use Rattle.fdb_tuple.specs.Tuples.{Empty, Stamp};
 ghost use Rattle.fdb_tuple.specs.Listed.{before};
 ghost use Rattle.fdb_tuple.specs.Spelling.{spelled_in, spelling};
 ghost use Rattle.fdb_tuple.specs.Stamps.{scalar_places, stamp_places, with_place};
@@ -41,11 +41,11 @@ impl Walk {
     // Over an element, at the top or inside a nested tuple.
     #[cycle(walk)]
     fn over_element(&mut self, element: &Elem, nested: bool) -> Result<(), StampPackFault>
-        requires { self.old.at + length (spelled_in nested (before element.now End)) < 2 ^ 32 }
-        ensures at { OnOk result (self.new.at ≡ self.old.at + length (spelled_in nested (before element.now End))) }
-        ensures found { OnOk result (option_to_list self.new.found ≡ option_to_list self.old.found ++ stamp_places nested self.old.at (before element.now End)) }
+        requires { self.old.at + length (spelled_in nested (before element.now Empty)) < 2 ^ 32 }
+        ensures at { OnOk result (self.new.at ≡ self.old.at + length (spelled_in nested (before element.now Empty))) }
+        ensures found { OnOk result (option_to_list self.new.found ≡ option_to_list self.old.found ++ stamp_places nested self.old.at (before element.now Empty)) }
         ensures many { IfErr result (λ fault. (fault ≡ StampPackFault.ManyStamps)
-            × (2 ≤ length (option_to_list self.old.found ++ stamp_places nested self.old.at (before element.now End)))) }
+            × (2 ≤ length (option_to_list self.old.found ++ stamp_places nested self.old.at (before element.now Empty)))) }
     {
         element.is_lawful();
         match element {

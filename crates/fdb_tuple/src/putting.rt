@@ -2,7 +2,7 @@
 
 ghost use Rattle.std.specs.Prelude.{◌≡◌, ◌≤◌, true, [], ◌∷◌, ◌++◌, length, take, OnOk, OnErr};
 ghost use Rattle.std.specs.Int.{w16, w128, to_be_bytes};
-ghost use Rattle.fdb_tuple.specs.Tuples.{End};
+ghost use Rattle.fdb_tuple.specs.Tuples.{Empty};
 ghost use Rattle.fdb_tuple.specs.Listed.{before};
 ghost use Rattle.fdb_tuple.specs.Spelling.{escaped, string_spelled, least_bytes, with_sign, int_code, signed_spelled, null_spelled, spelled_in};
 
@@ -27,7 +27,7 @@ pub(crate) fn put_tuple(out: &mut Bytes, tuple: &Tuple, nested: bool) -> Result<
 // An element, at the top or inside a nested tuple.
 #[cycle(put)]
 pub(crate) fn put_element(out: &mut Bytes, element: &Elem, nested: bool) -> Result<(), AllocError>
-    ensures ok { OnOk result (out.new ≡ out.old ++ spelled_in nested (before element.now End)) }
+    ensures ok { OnOk result (out.new ≡ out.old ++ spelled_in nested (before element.now Empty)) }
     ensures err { OnErr result (take (length out.old) out.new ≡ out.old) }
 {
     match element {

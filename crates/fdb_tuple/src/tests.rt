@@ -105,8 +105,8 @@ fn elements(rt: HostRuntime) -> Result<(), Fail> {
     expect_packed(&rt, alloc, &Elem::Bool(true), b"\x27")?;
     let uuid = b"\x30\x00\x11\x22\x33\x44\x55\x66\x77\x88\x99\xAA\xBB\xCC\xDD\xEE\xFF";
     expect_packed(&rt, alloc, &Elem::Uuid(UUID), uuid)?;
-    let stamped = b"\x33\x01\x01\x01\x01\x01\x01\x01\x01\x01\x01\x02\x03";
-    expect_packed(&rt, alloc, &stamp(1, 0x0203), stamped)
+    let with_stamp = b"\x33\x01\x01\x01\x01\x01\x01\x01\x01\x01\x01\x02\x03";
+    expect_packed(&rt, alloc, &stamp(1, 0x0203), with_stamp)
 }
 
 #[test]
@@ -148,7 +148,7 @@ fn depths(rt: HostRuntime) -> Result<(), Fail> {
 }
 
 // A short prefix, and a short tuple with the place of its versionstamp.
-fn stamped(alloc: Global, prefix: &[u8], tuple: &Tuple) -> Result<Bytes, StampPackFault> {
+fn with_stamp(alloc: Global, prefix: &[u8], tuple: &Tuple) -> Result<Bytes, StampPackFault> {
     if prefix.len() > 99 || packed_len(tuple) > 99 {
         return Err(StampPackFault::NoMemory);
     }
@@ -159,18 +159,18 @@ fn stamped(alloc: Global, prefix: &[u8], tuple: &Tuple) -> Result<Bytes, StampPa
 fn versionstamps(rt: HostRuntime) -> Result<(), Fail> {
     let alloc = rt.alloc();
     let mut tuple = tuple_of(alloc, stamp(0xFF, 7))?;
-    let packed = stamped(alloc, b"ab", &tuple)?;
+    let packed = with_stamp(alloc, b"ab", &tuple)?;
     let wanted = b"ab\x33\xFF\xFF\xFF\xFF\xFF\xFF\xFF\xFF\xFF\xFF\x00\x07\x03\x00\x00\x00";
     assert!(rt; packed.as_slice() == wanted.as_slice());
     let inner = tuple_of(alloc, stamp(0xFF, 7))?;
     let mut outer = tuple_of(alloc, Elem::Int(-256))?;
     outer.push(Elem::Nested(inner))?;
-    let packed = stamped(alloc, b"", &outer)?;
+    let packed = with_stamp(alloc, b"", &outer)?;
     assert!(rt; packed.as_slice().ends_with(b"\x00\x07\x00\x05\x00\x00\x00"));
     tuple.push(Elem::Nested(outer))?;
-    let many = stamped(alloc, b"ab", &tuple);
+    let many = with_stamp(alloc, b"ab", &tuple);
     assert!(rt; matches!(many, Err(StampPackFault::ManyStamps)));
-    let none = stamped(alloc, b"ab", &tuple_of(alloc, stamp(1, 7))?);
+    let none = with_stamp(alloc, b"ab", &tuple_of(alloc, stamp(1, 7))?);
     assert!(rt; matches!(none, Err(StampPackFault::NoStamp)));
     Ok(())
 }

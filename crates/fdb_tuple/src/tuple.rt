@@ -74,7 +74,7 @@ impl Model for Tuple {
 }
 
 ghost use Rattle.key_bytes.specs.Keys.{IsByteString};
-ghost use Rattle.fdb_tuple.specs.Tuples.{End, depth_of, AreElements, IsTuple};
+ghost use Rattle.fdb_tuple.specs.Tuples.{Empty, depth_of, AreElements, IsTuple};
 ghost use Rattle.fdb_tuple.specs.Listed.{before, tuple_of, elements_of, IsTooDeep};
 
 impl Elem {
@@ -97,7 +97,7 @@ impl Elem {
 
     // The depth of the tuple of this one element.
     fn depth(&self) -> u8
-        ensures { result ≡ depth_of (before self.now End) }
+        ensures { result ≡ depth_of (before self.now Empty) }
     {
         match self {
             Elem::Nested(tuple) => {
@@ -110,7 +110,7 @@ impl Elem {
 
     // That contracts see an element of a tuple. It does nothing when it runs.
     pub(crate) fn is_lawful(&self)
-        ensures { AreElements (before self.now End) }
+        ensures { AreElements (before self.now Empty) }
     {
         match self {
             Elem::Null | Elem::Bool(_) => {}
@@ -148,7 +148,7 @@ fn are_bytes(bytes: &[u8])
 impl Tuple {
     /// The empty tuple. It takes no memory, and keeps the allocator for what is added later.
     pub fn new(alloc: Global) -> Tuple
-        ensures { result ≡ End }
+        ensures { result ≡ Empty }
     {
         Tuple {
             items: Vec::new(alloc),

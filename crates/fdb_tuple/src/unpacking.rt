@@ -126,7 +126,7 @@ fn coded(
     match kind_of(code) {
         None => Err(UnpackFault::BadCode(place)),
         Some(Kind::Null) => Ok(null_or_end(around, rest)),
-        Some(Kind::Bytes) => held(bytes_of(alloc, whole, rest)),
+        Some(Kind::Bytes) => held(byte_string_of(alloc, whole, rest)),
         Some(Kind::Text) => held(text_of(alloc, whole, place, rest)),
         Some(Kind::Nested) if around == MAX_DEPTH => Err(UnpackFault::TooDeep(place)),
         Some(Kind::Nested) => Ok((Piece::Opens, rest)),
@@ -162,7 +162,7 @@ fn null_or_end(around: u8, rest: &[u8]) -> (Piece, &[u8])
 }
 
 #[tactic(auto, unfolding(crate::specs::Reading::bytes_at))]
-fn bytes_of(alloc: Global, whole: usize, rest: &[u8]) -> Result<(Elem, &[u8]), UnpackFault>
+fn byte_string_of(alloc: Global, whole: usize, rest: &[u8]) -> Result<(Elem, &[u8]), UnpackFault>
     ensures { Gives (λ x. (x.0, x.1.now)) result (bytes_at whole rest.now) }
 {
     let (string, after) = string_of(alloc, whole, rest)?;

@@ -67,7 +67,7 @@ pub data Stop : Type 0 where
   AtFault : Stop
 
 -- the bytes that were spelled, why reading stopped, and what is left: behind the separator, or from the byte on that fits no rule
-pub record Text : Type 0 where
+pub record ReadText : Type 0 where
   pub bytes : List ℕ
   pub stop : Stop
   pub left : List ℕ
@@ -80,18 +80,18 @@ behind (Separator rest) = rest
 behind Unfit = []
 
 -- the text that a piece begins, where the text behind the piece is known
-abbrev pub begun : List ℕ → Piece → Text → Text
-begun bytes Nothing text = record { bytes = []; stop = AtEnd; left = [] }
-begun bytes (Spelled byte rest) text = record { bytes = byte ∷ text.bytes; stop = text.stop; left = text.left }
-begun bytes (Separator rest) text = record { bytes = []; stop = AtSeparator; left = rest }
-begun bytes Unfit text = record { bytes = []; stop = AtFault; left = bytes }
+abbrev pub read_on : List ℕ → Piece → ReadText → ReadText
+read_on bytes Nothing text = record { bytes = []; stop = AtEnd; left = [] }
+read_on bytes (Spelled byte rest) text = record { bytes = byte ∷ text.bytes; stop = text.stop; left = text.left }
+read_on bytes (Separator rest) text = record { bytes = []; stop = AtSeparator; left = rest }
+read_on bytes Unfit text = record { bytes = []; stop = AtFault; left = bytes }
 
 -- the printable form up to the end, the separator or a fault; each piece takes a byte at least, so as many pieces as bytes are enough
-unfoldable pub pieces : ℕ → List ℕ → Text
+unfoldable pub pieces : ℕ → List ℕ → ReadText
 pieces zero bytes = record { bytes = []; stop = AtEnd; left = [] }
-pieces (suc more) bytes = begun bytes (piece_at bytes) (pieces more (behind (piece_at bytes)))
+pieces (suc more) bytes = read_on bytes (piece_at bytes) (pieces more (behind (piece_at bytes)))
 
-unfoldable pub text_of : List ℕ → Text
+unfoldable pub text_of : List ℕ → ReadText
 text_of bytes = pieces (length bytes + 1) bytes
 
 -- ---- one line
@@ -119,19 +119,19 @@ abbrev pub place_of : Line → List ℕ → ℕ
 place_of line left = length line.bytes - length left
 
 -- the value goes up to the line feed; a second separator fits no rule
-abbrev pub value_at : Line → List ℕ → Stop → Text → Result Entry Flaw
+abbrev pub value_at : Line → List ℕ → Stop → ReadText → Result Entry Flaw
 value_at line key AtEnd value = if line.is_whole then pair_within key value.bytes else Err (Bad (length line.bytes))
 value_at line key AtSeparator value = Err (Bad (place_of line value.left - 2))
 value_at line key AtFault value = Err (Bad (place_of line value.left))
 
 -- the key goes up to the separator
-abbrev pub key_at : Line → Stop → Text → Result Entry Flaw
+abbrev pub key_at : Line → Stop → ReadText → Result Entry Flaw
 key_at line AtEnd key = Err (Bad (length line.bytes))
 key_at line AtSeparator key = value_at line key.bytes (text_of key.left).stop (text_of key.left)
 key_at line AtFault key = Err (Bad (place_of line key.left))
 
 -- a key that isn't less than FF is a fault at its first byte, before any fault further on
-abbrev pub fields_at : Line → Text → Result Entry Flaw
+abbrev pub fields_at : Line → ReadText → Result Entry Flaw
 fields_at line key = if key_lt key.bytes top then key_at line key.stop key else Err (Bad 2)
 
 -- a line of a pair: K, a space, and the fields

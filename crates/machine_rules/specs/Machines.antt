@@ -2,7 +2,7 @@
 use Rattle.std.specs.Prelude.{ℕ, ◌+◌, List, [], ◌∷◌, ◌++◌, Option, Some, None, Ok, Err, slice_get, codes, decimal}
 use Rattle.fdb_tuple.specs.declared.tuple.Elem.{Elem}
 use Rattle.fdb_tuple.specs.declared.tuple.Elem.TheVariants as elem
-use Rattle.fdb_tuple.specs.Tuples.{Bytes, End, Single}
+use Rattle.fdb_tuple.specs.Tuples.{Bytes, Empty, Single}
 use Rattle.fdb_tuple.specs.Spelling.{spelling}
 use Rattle.fdb_calls.specs.declared.TxnCall.{TxnCall}
 use Rattle.fdb_calls.specs.declared.Request.{Request}
@@ -137,7 +137,7 @@ result_not_present = elem.Bytes (codes "RESULT_NOT_PRESENT")
 
 -- the digits of a code, and the item that tells of it
 abbrev pub error_item : ℕ → Elem
-error_item code = elem.Bytes (spelling (Single (Bytes (codes "ERROR")) (Single (Bytes (decimal code)) End)))
+error_item code = elem.Bytes (spelling (Single (Bytes (codes "ERROR")) (Single (Bytes (decimal code)) Empty)))
 
 abbrev pub error_note : ℕ → ℕ → ErrorNote
 error_note number code = record { instruction = number; word = decimal code }

@@ -4,7 +4,7 @@ use Rattle.std.specs.List.{enumerate_from, list_all}
 use Rattle.std.specs.FinMap as finite
 use Rattle.key_bytes.specs.Keys.{within}
 use Rattle.database_rules.specs.Databases.{Database, at, last}
-use Rattle.fdb_tuple.specs.Tuples.{Bytes, End, Single}
+use Rattle.fdb_tuple.specs.Tuples.{Bytes, Empty, Single}
 use Rattle.fdb_tuple.specs.Listed.{before}
 use Rattle.fdb_tuple.specs.Spelling.{spelling}
 use Rattle.line_rules.specs.Printing.{machine_line, item_line, error_line, order_line, pair_line}
@@ -34,7 +34,7 @@ at_rest machine = rested (length machine.instructions - machine.next + 1) (silen
 
 -- the ends of the range of the tuples that begin with (prefix,)
 abbrev pub packed_prefix : List ℕ → List ℕ
-packed_prefix prefix = spelling (Single (Bytes prefix) End)
+packed_prefix prefix = spelling (Single (Bytes prefix) Empty)
 
 -- the values of the pairs in the range of a prefix, in the order of their keys
 abbrev pub instructions_in : Database → List ℕ → List (List ℕ)
@@ -132,7 +132,7 @@ end_line machine (state.Stopped (end.Underflow instruction)) = machine_line mach
 -- a machine's stack, each item with its place, the oldest at 0
 abbrev pub stack_lines : Machine → List ℕ
 stack_lines machine =
-    flat_map (λ (place, item). item_line machine.number place item.instruction (spelling (before item.element End))) (enumerate_from 0 (reverse machine.stack))
+    flat_map (λ (place, item). item_line machine.number place item.instruction (spelling (before item.element Empty))) (enumerate_from 0 (reverse machine.stack))
 
 -- the errors that a machine noted
 abbrev pub error_lines : Machine → List ℕ

@@ -9,7 +9,7 @@ use Rattle.fdb_tuple.specs.declared.tuple.Elem.TheVariants as elem
 use Rattle.fdb_tuple.specs.declared.fault.UnpackFault.{UnpackFault}
 use Rattle.fdb_tuple.specs.declared.fault.StampPackFault.{StampPackFault}
 use Rattle.fdb_tuple.specs.declared.fault.StampPackFault.TheVariants as stamp_fault
-use Rattle.fdb_tuple.specs.Tuples.{Elements, End, greatest_magnitude}
+use Rattle.fdb_tuple.specs.Tuples.{Elements, Empty, greatest_magnitude}
 use Rattle.fdb_tuple.specs.Listed.{before, elements_of}
 use Rattle.fdb_tuple.specs.Spelling.{spelling}
 use Rattle.fdb_tuple.specs.Order.{tuple_cmp}
@@ -91,15 +91,15 @@ tuple_pack number stack = do
   Ok (pushed number (elem.Bytes (spelling tuple.0) ∷ []) tuple.1)
 
 -- what is pushed of a tuple packed with the place of its incomplete versionstamp
-abbrev pub stamped : Result (List ℕ) StampPackFault → List Elem
-stamped (Ok packed) = text (codes "OK") ∷ elem.Bytes packed ∷ []
-stamped (Err stamp_fault.NoStamp) = text (codes "ERROR: NONE") ∷ []
-stamped (Err stamp_fault.ManyStamps) = text (codes "ERROR: MULTIPLE") ∷ []
-stamped (Err stamp_fault.NoMemory) = []
+abbrev pub stamp_answer : Result (List ℕ) StampPackFault → List Elem
+stamp_answer (Ok packed) = text (codes "OK") ∷ elem.Bytes packed ∷ []
+stamp_answer (Err stamp_fault.NoStamp) = text (codes "ERROR: NONE") ∷ []
+stamp_answer (Err stamp_fault.ManyStamps) = text (codes "ERROR: MULTIPLE") ∷ []
+stamp_answer (Err stamp_fault.NoMemory) = []
 
 abbrev pub pushed_stamped : ℕ → List ℕ → Elements → List Item → Operated
 pushed_stamped number prefix tuple stack =
-    if nat_lt (length prefix + length (spelling tuple)) (2 ^ 32 - 4) then Ok (pushed number (stamped (stamp_packed prefix tuple)) stack) else Err (Unfit stack)
+    if nat_lt (length prefix + length (spelling tuple)) (2 ^ 32 - 4) then Ok (pushed number (stamp_answer (stamp_packed prefix tuple)) stack) else Err (Unfit stack)
 
 -- a prefix and a tuple, whose bytes are together fewer than 2^32 - 4, so that the place has 4 bytes
 abbrev pub tuple_pack_with_versionstamp : ℕ → List Item → Operated
@@ -109,7 +109,7 @@ tuple_pack_with_versionstamp number stack = do
 
 -- an element packed alone
 abbrev pub packed_alone : Elem → Elem
-packed_alone element = elem.Bytes (spelling (before element End))
+packed_alone element = elem.Bytes (spelling (before element Empty))
 
 abbrev pub pushed_elements : ℕ → Result Elements UnpackFault → List Item → Operated
 pushed_elements number (Ok tuple) stack = Ok (pushed number (map packed_alone (elements_of tuple)) stack)

@@ -1,6 +1,5 @@
 pub mod Joined
 pub mod Lists
-pub mod Orders
 pub mod Pages
 pub mod Rising
 pub mod Selectors

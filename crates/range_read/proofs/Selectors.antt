@@ -15,7 +15,7 @@ use Rattle.range_read.specs.Selecting.{select, key_at, sorted_keys, stands_befor
 use Rattle.range_read.specs.Slices.{Entries}
 use Rattle.range_read.specs.Walks.{onward}
 use Rattle.range_read.proofs.Lists.{filter-reverse, reverse-cons}
-use Rattle.range_read.proofs.Orders.{lt_after, above_not_below, le_lt}
+use Rattle.key_bytes.proofs.Orders.{lt_after, above_not_below, le_lt}
 use Rattle.range_read.proofs.Rising.{IsBefore, Rises}
 use Rattle.range_read.proofs.Walks.{Entry, meets_first, turned_rises}
 

@@ -4,13 +4,13 @@ use Rattle.std.specs.FinMap as finite
 use Rattle.std.specs.FinMap.Entries.{below_all, is_sorted}
 use Rattle.std.specs.List.{filter}
 use Rattle.key_bytes.specs.Keys.{key_cmp, key_lt, key_le, after, within}
-use Rattle.key_bytes.specs.SuccessorLaws.{irreflexive}
+use Rattle.key_bytes.proofs.Orders.{irreflexive}
 use Rattle.key_map.specs.Ends.{first}
 use Rattle.database_rules.specs.Databases.{Database}
 use Rattle.range_read.specs.Slices.{Entries, span, turned}
 use Rattle.range_read.specs.Walks.{is_onward, onward, behind, near, begin_behind, end_behind}
 use Rattle.range_read.proofs.Lists.{filter-reverse}
-use Rattle.range_read.proofs.Orders.{lt_trans, le_lt, lt_after, above_not_below}
+use Rattle.key_bytes.proofs.Orders.{lt_trans, le_lt, lt_after, above_not_below}
 use Rattle.range_read.proofs.Rising.{IsBefore, Rises, rises_reverse, behind_first, none_stricter, first_stricter, none_above, first_passes}
 
 -- ---- the pairs of a database, in the order of a walk

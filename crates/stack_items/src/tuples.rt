@@ -8,7 +8,7 @@ ghost use Rattle.fdb_tuple.specs.Listed.{elements_of};
 ghost use Rattle.fdb_tuple.specs.Spelling.{spelling};
 ghost use Rattle.fdb_tuple.specs.Stamps.{stamp_packed};
 ghost use Rattle.machine_rules.specs.Operands.{bytes_operand, tuple_operand, byte_strings_operand, two_operands, left_of};
-ghost use Rattle.machine_rules.specs.StackOperations.{tuple_pack, tuple_pack_with_versionstamp, tuple_unpack, tuple_range, tuple_sort, pushed, packed_alone, stamped};
+ghost use Rattle.machine_rules.specs.StackOperations.{tuple_pack, tuple_pack_with_versionstamp, tuple_unpack, tuple_range, tuple_sort, pushed, packed_alone, stamp_answer};
 ghost use Rattle.stack_items.specs.Items.{EndsIn};
 ghost use Rattle.stack_items.specs.Pops.{Does};
 ghost use Rattle.stack_items.specs.Unpacked.{Unpacks, UnpacksEach};
@@ -60,7 +60,7 @@ impl Stack {
         instruction: u64,
     ) -> Result<(), StackFault>
         requires { length prefix.now + length (spelling tuple.now) + 4 < 2 ^ 32 }
-        ensures ok { OnOk result (self.new ≡ pushed instruction (stamped (stamp_packed prefix.now tuple.now)) self.old) }
+        ensures ok { OnOk result (self.new ≡ pushed instruction (stamp_answer (stamp_packed prefix.now tuple.now)) self.old) }
         ensures err { OnErr result (EndsIn self.old self.new) }
         ensures cause { IsOkUnless result StackFault.NoMemory }
     {

@@ -5,7 +5,7 @@ use Rattle.fdb_calls.specs.declared.Reply.{Reply}
 use Rattle.machine_rules.specs.declared.State.{State}
 use Rattle.machine_rules.specs.declared.State.TheVariants as state
 use Rattle.machine_rules.specs.Machines.{Machine, Progress, Act, Does, Uses, Stops, Asks, Use, Goes, Pushes, Faults, silent, acted, next_act, use_of, used, advance_by, advance, resumed, resumed_by}
-use Rattle.stack_machine.specs.Held.{Held}
+use Rattle.stack_machine.specs.MachineModel.{MachineModel}
 use Rattle.stack_machine.specs.Steps.{IsDue, MayStep, moved, answer_of, Moves}
 use Rattle.stack_machine.specs.declared.machine.Step.{Step}
 use Rattle.stack_machine.specs.declared.machine.Step.TheVariants as step
@@ -44,7 +44,7 @@ due_of true state given e may = absurd cc
 due_of false state given e may = may
 
 -- from what a step ensures where it is Ok
-pub step_again : {E : Type 0} (old new : Held) (given : Option Reply) (result : Result Step E) → MayStep old.is_out_of_memory old.machine.state given
+pub step_again : {E : Type 0} (old new : MachineModel) (given : Option Reply) (result : Result Step E) → MayStep old.is_out_of_memory old.machine.state given
     → IfOk result (λ answer. Moves old (moved old.machine given) answer new) → result ≡ Ok step.Again → new.machine.next ≡ old.machine.next + 1
 step_again old new given (Ok answer) may moves e =
     let again : answer ≡ step.Again = cc in

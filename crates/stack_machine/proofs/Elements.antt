@@ -1,6 +1,6 @@
 -- The elements of a tuple are elements.
 use Rattle.std.proofs.Common.{◌≤◌, arith}
-use Rattle.fdb_tuple.specs.Tuples.{Scalar, Null, Bytes, Text, Int, Boolean, Uuid, Stamp, Elements, End, Single, Nested, depth_of}
+use Rattle.fdb_tuple.specs.Tuples.{Scalar, Null, Bytes, Text, Int, Boolean, Uuid, Stamp, Elements, Empty, Single, Nested, depth_of}
 use Rattle.fdb_tuple.specs.Listed.{IsElement, element_of, elements_of}
 use Rattle.stack_machine.specs.Pushes.{AreElements}
 
@@ -14,6 +14,6 @@ IsElement-element_of (Uuid bytes) = tt
 IsElement-element_of (Stamp stamp user) = tt
 
 pub AreElements-elements_of : (tuple : Elements) → depth_of tuple ≤ 100 → AreElements (elements_of tuple)
-AreElements-elements_of End shallow = tt
+AreElements-elements_of Empty shallow = tt
 AreElements-elements_of (Single scalar rest) shallow = (IsElement-element_of scalar, AreElements-elements_of rest shallow)
 AreElements-elements_of (Nested inner rest) shallow = (omega arith, AreElements-elements_of rest (omega arith))

@@ -1,3 +1,3 @@
-pub mod Held
+pub mod MachineModel
 pub mod Steps
 pub mod Pushes

@@ -10,7 +10,7 @@ use Rattle.machine_rules.specs.declared.End.{End}
 use Rattle.machine_rules.specs.declared.End.TheVariants as end
 use Rattle.stack_items.specs.declared.fault.StackFault.{StackFault}
 use Rattle.stack_items.specs.declared.fault.StackFault.TheVariants as fault
-use Rattle.stack_machine.specs.Held.{Held}
+use Rattle.stack_machine.specs.MachineModel.{MachineModel}
 use Rattle.stack_machine.specs.declared.machine.Step.{Step}
 use Rattle.stack_machine.specs.declared.machine.Step.TheVariants as step
 
@@ -53,7 +53,7 @@ end_of fault.Operand number = end.BadInstruction number
 end_of fault.NoMemory number = end.BadInstruction number
 
 -- the step was made, and memory sufficed
-pub record Moves (old : Held) (progress : Progress) (answer : Step) (new : Held) : Type 0 where
+pub record Moves (old : MachineModel) (progress : Progress) (answer : Step) (new : MachineModel) : Type 0 where
   pub before : old.is_out_of_memory ≡ false
   pub after : new.is_out_of_memory ≡ false
   pub machine : new.machine ≡ progress.machine

@@ -1,7 +1,7 @@
 //! The errors that a machine notes.
 
 ghost use Rattle.std.specs.Prelude.{◌≡◌, ◌==◌, ◌<◌, [], ◌∷◌, ◌++◌, Some, length, slice_get, decimal, codes, IfOk, OnOk, OnErr};
-ghost use Rattle.fdb_tuple.specs.Tuples.{End, Single};
+ghost use Rattle.fdb_tuple.specs.Tuples.{Empty, Single};
 ghost use Rattle.fdb_tuple.specs.Tuples as scalar;
 ghost use Rattle.fdb_tuple.specs.Listed.{elements_of};
 ghost use Rattle.machine_rules.specs.Machines.{error_item};
@@ -94,7 +94,7 @@ pub fn error_item(alloc: Global, code: u16) -> Result<Elem, AllocError>
 }
 
 fn error_tuple(alloc: Global, digits: Bytes) -> Result<Tuple, AllocError>
-    ensures { IfOk result (λ tuple. tuple ≡ Single (scalar.Bytes (codes "ERROR")) (Single (scalar.Bytes digits) End)) }
+    ensures { IfOk result (λ tuple. tuple ≡ Single (scalar.Bytes (codes "ERROR")) (Single (scalar.Bytes digits) Empty)) }
 {
     let mut tuple = Tuple::new(alloc);
     add(&mut tuple, Bytes::from_slice(alloc, b"ERROR")?)?;

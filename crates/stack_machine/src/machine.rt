@@ -51,9 +51,9 @@ pub struct Machine {
 
 impl Model for Machine {
     ghost use Rattle.std.specs.Prelude.{map, length};
-    ghost use Rattle.stack_machine.specs.Held.{Held, IsInside, values_of};
+    ghost use Rattle.stack_machine.specs.MachineModel.{MachineModel, IsInside, values_of};
 
-    ghost Value = { Held };
+    ghost Value = { MachineModel };
 
     ghost use Rattle.machine_rules.specs.contracts.Item as item;
     ghost use Rattle.std.specs.Coded.{codes};
@@ -78,7 +78,7 @@ impl Model for Machine {
 }
 
 impl Machine {
-    ghost use Rattle.stack_machine.specs.Held.{Held, values_of};
+    ghost use Rattle.stack_machine.specs.MachineModel.{MachineModel, values_of};
     ghost use Rattle.stack_machine.specs.Steps.{MayStep, moved, Moves, end_of};
 
     /// A machine before its first instruction, under a number and a prefix, with the values of these pairs as

@@ -4,7 +4,7 @@ use Rattle.std.specs.Prelude.{IsTrue}
 use Rattle.std.specs.List.{flat_map}
 use Rattle.std.proofs.lemmas.List.{append-nil}
 use Rattle.std.proofs.lemmas.List.Concat.{flat_map-cons}
-use Rattle.client_core.specs.Stands.{Kept, StandsFor}
+use Rattle.client_core.specs.Stands.{CoreModel, StandsFor}
 use Rattle.machine_rules.specs.declared.State.{State}
 use Rattle.machine_rules.specs.declared.State.TheVariants as state
 use Rattle.std.specs.FinMap as finite
@@ -21,10 +21,10 @@ use Rattle.tester_run.specs.Rendered.{Renders}
 use Rattle.tester_run.specs.declared.running.Rendered.{Rendered}
 
 -- the map at the last version that a core keeps
-abbrev pub kept_map : Kept → Database
+abbrev pub kept_map : CoreModel → Database
 kept_map core = at core.store (last_of core.store)
 
-pub kept_newest : (core : Kept) (world : World) → StandsFor core world → kept_map core ≡ newest world
+pub kept_newest : (core : CoreModel) (world : World) → StandsFor core world → kept_map core ≡ newest world
 kept_newest core world stands = ap (at core.store) stands.keeps.last_is ∙ stands.keeps.at_is (last world.history) (omega arith)
 
 -- machine 0 as it is started
@@ -32,7 +32,7 @@ abbrev pub first_machine : Database → List ℕ → Machine
 first_machine database prefix = record { number = 0; prefix = prefix; instructions = instructions_in database prefix; next = 0; name = prefix; stack = []; errors = []; state = state.Running }
 
 -- before any request the empty order leads to the start
-pub begins : (pairs : List (List ℕ × List ℕ)) (prefix : List ℕ) (core : Kept) (words : ℕ → ℕ) (machine : Machine) → StandsFor core (begun pairs words_of_run)
+pub begins : (pairs : List (List ℕ × List ℕ)) (prefix : List ℕ) (core : CoreModel) (words : ℕ → ℕ) (machine : Machine) → StandsFor core (begun pairs words_of_run)
     → HasWords (begun pairs words_of_run) words → machine ≡ first_machine (kept_map core) prefix → Leads pairs prefix core words machine []
 unfolding run_from started
 begins pairs prefix core words machine stands has_words is =
@@ -70,7 +70,7 @@ status_alone : (world : World) (machine : Machine) → status_of (record { world
 status_alone world machine = ap (λ b. cond b 0 3) (and_true (has_ended machine.state))
 
 -- where the order leads to a machine that has stopped, what was rendered is what the run leaves
-pub finishes : (pairs : List (List ℕ × List ℕ)) (prefix : List ℕ) (core : Kept) (words : ℕ → ℕ) (machine : Machine) (rendered : Rendered) → Leads pairs prefix core words machine rendered.order → has_stopped machine.state ≡ true
+pub finishes : (pairs : List (List ℕ × List ℕ)) (prefix : List ℕ) (core : CoreModel) (words : ℕ → ℕ) (machine : Machine) (rendered : Rendered) → Leads pairs prefix core words machine rendered.order → has_stopped machine.state ≡ true
     → rendered.dump ≡ machine_dump machine rendered.order (finite.entries (kept_map core)) → rendered.status ≡ cond (has_ended machine.state) 0 3 → Renders pairs prefix rendered
 finishes pairs prefix core words machine rendered leads stopped dump_is status_is = record {
   run = record { world = leads.world; machines = silent machine ∷ [] };

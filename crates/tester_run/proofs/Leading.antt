@@ -4,8 +4,8 @@ use Rattle.std.specs.Prelude.{option_and_then, option_map}
 use Rattle.fdb_calls.specs.declared.Request.{Request}
 use Rattle.fdb_calls.specs.declared.Reply.{Reply}
 use Rattle.fdb_calls.specs.declared.Reply.TheVariants as reply
-use Rattle.client_core.specs.Stands.{Kept, StandsFor, Answers}
-use Rattle.stack_machine.specs.Held.{Held}
+use Rattle.client_core.specs.Stands.{CoreModel, StandsFor, Answers}
+use Rattle.stack_machine.specs.MachineModel.{MachineModel}
 use Rattle.stack_machine.specs.Steps.{answer_in, answer_by, answer_of, Moves}
 use Rattle.stack_machine.specs.declared.machine.Step.{Step}
 use Rattle.stack_machine.specs.declared.machine.Step.TheVariants as step
@@ -48,7 +48,7 @@ stopped_state None (state.Stopped its_end) end e = (refl, refl, refl)
 
 -- ---- leading
 
-same_stand : (pairs : List (List ℕ × List ℕ)) (prefix : List ℕ) (core : Kept) (words : ℕ → ℕ) (machine after : Machine) (order : List ℕ)
+same_stand : (pairs : List (List ℕ × List ℕ)) (prefix : List ℕ) (core : CoreModel) (words : ℕ → ℕ) (machine after : Machine) (order : List ℕ)
     → at_rest machine ≡ at_rest after → Leads pairs prefix core words machine order → Leads pairs prefix core words after order
 same_stand pairs prefix core words machine after order same leads = record {
   world = leads.world;
@@ -64,7 +64,7 @@ pub record Quiet (before after : Machine) : Type 0 where
   pub same : at_rest before ≡ at_rest after
   pub silent_after : is_awaiting after.state ≡ false
 
-still_step : (old new : Held) (answer : Step) → Moves old (advance old.machine) answer new → is_running old.machine.state ≡ false → (answer ≡ answer_in old.machine.state) × (new.machine ≡ old.machine)
+still_step : (old new : MachineModel) (answer : Step) → Moves old (advance old.machine) answer new → is_running old.machine.state ≡ false → (answer ≡ answer_in old.machine.state) × (new.machine ≡ old.machine)
 still_step old new answer moves still =
     let same : advance old.machine ≡ silent old.machine = advance_still old.machine still in
     (moves.answer_is ∙ ap answer_of same, moves.machine ∙ ap (λ (p : Progress). p.machine) same)
@@ -75,7 +75,7 @@ still_stopped (state.Awaiting awaits) e f = absurd cc
 still_stopped (state.Stopped end) e f = (λ h. cc, λ request h. cc)
 
 -- a step that answers Again was of a running machine, and one that asks too
-was_running : (old new : Held) (answer : Step) → Moves old (advance old.machine) answer new → is_awaiting old.machine.state ≡ false → (answer ≡ step.Again → is_running old.machine.state ≡ true) × ((request : Request) → answer ≡ step.Ask request → is_running old.machine.state ≡ true)
+was_running : (old new : MachineModel) (answer : Step) → Moves old (advance old.machine) answer new → is_awaiting old.machine.state ≡ false → (answer ≡ step.Again → is_running old.machine.state ≡ true) × ((request : Request) → answer ≡ step.Ask request → is_running old.machine.state ≡ true)
 was_running old new answer moves silent_before = by (is_running old.machine.state) refl
   where
     by : (b : Bool) → is_running old.machine.state ≡ b → (answer ≡ step.Again → is_running old.machine.state ≡ true) × ((request : Request) → answer ≡ step.Ask request → is_running old.machine.state ≡ true)
@@ -104,7 +104,7 @@ less_left before after was same next inside =
     by false e =
         subst (λ n. n < length before.instructions - before.next + 1) (sym (ap (λ b. cond b (length after.instructions - after.next + 1) 0) e)) (above_none (length before.instructions - before.next))
 
-pub turn_again : (old new : Held) (answer : Step) → Moves old (advance old.machine) answer new → is_awaiting old.machine.state ≡ false → answer ≡ step.Again → Quiet old.machine new.machine × (work_left new.machine < work_left old.machine)
+pub turn_again : (old new : MachineModel) (answer : Step) → Moves old (advance old.machine) answer new → is_awaiting old.machine.state ≡ false → answer ≡ step.Again → Quiet old.machine new.machine × (work_left new.machine < work_left old.machine)
 turn_again old new answer moves silent_before e =
     let was = (was_running old new answer moves silent_before).0 e in
     let told : answer_of (advance old.machine) ≡ step.Again = sym moves.answer_is ∙ e in
@@ -119,7 +119,7 @@ turn_again old new answer moves silent_before e =
           (λ h. ap (λ (m : Machine). m.next) moves.machine ∙ finishes.next) finishes.inside,
     )
 
-pub turn_stopped : (old new : Held) (answer : Step) (end : End) → Moves old (advance old.machine) answer new → is_awaiting old.machine.state ≡ false → answer ≡ step.Stopped end → Quiet old.machine new.machine
+pub turn_stopped : (old new : MachineModel) (answer : Step) (end : End) → Moves old (advance old.machine) answer new → is_awaiting old.machine.state ≡ false → answer ≡ step.Stopped end → Quiet old.machine new.machine
 turn_stopped old new answer end moves silent_before e = by (is_running old.machine.state) refl
   where
     by : (b : Bool) → is_running old.machine.state ≡ b → Quiet old.machine new.machine
@@ -138,7 +138,7 @@ turn_stopped old new answer end moves silent_before e = by (is_running old.machi
           silent_after = ap (λ (m : Machine). is_awaiting m.state) told.1 ∙ silent_before;
         }
 
-pub turn_asks : (old new : Held) (answer : Step) (request : Request) → Moves old (advance old.machine) answer new → is_awaiting old.machine.state ≡ false → answer ≡ step.Ask request → ComesToAsk old.machine new.machine request × (is_awaiting new.machine.state ≡ true)
+pub turn_asks : (old new : MachineModel) (answer : Step) (request : Request) → Moves old (advance old.machine) answer new → is_awaiting old.machine.state ≡ false → answer ≡ step.Ask request → ComesToAsk old.machine new.machine request × (is_awaiting new.machine.state ≡ true)
 turn_asks old new answer request moves silent_before e =
     let was = (was_running old new answer moves silent_before).1 request e in
     let told : answer_of (advance old.machine) ≡ step.Ask request = sym moves.answer_is ∙ e in
@@ -146,12 +146,12 @@ turn_asks old new answer request moves silent_before e =
     (record { was_running = was; asks = asks; machine = moves.machine }, ap (λ (m : Machine). is_awaiting m.state) moves.machine ∙ advance_asks old.machine request asks)
 
 -- a machine that stands as before leads as before
-pub quiet_goes_on : (core : Kept) (words : ℕ → ℕ) (before after : Machine) (order : List ℕ) → Quiet before after → GoesOn core words before order core words after order
+pub quiet_goes_on : (core : CoreModel) (words : ℕ → ℕ) (before after : Machine) (order : List ℕ) → Quiet before after → GoesOn core words before order core words after order
 quiet_goes_on core words before after order quiet pairs prefix leads = same_stand pairs prefix core words before after order quiet.same leads
 
 -- ---- a reply
 
-stands_after : (given : Reply) (core : Kept) (words : ℕ → ℕ) (stepped : Stepped) → given ≢ reply.NoMemory → Answers given core words stepped
+stands_after : (given : Reply) (core : CoreModel) (words : ℕ → ℕ) (stepped : Stepped) → given ≢ reply.NoMemory → Answers given core words stepped
     → (stepped.reply ≡ given) × StandsFor core stepped.world × HasWords stepped.world words
 stands_after reply.Done core words stepped is answers = answers
 stands_after (reply.Value value) core words stepped is answers = answers
@@ -173,7 +173,7 @@ one_more run = by (take_place 0 run)
     by (Some next) = refl
 
 -- a request that is taken is one more place of the order
-pub taken_goes_on : (core core_after : Kept) (words words_after : ℕ → ℕ) (asking after : Machine) (order order_after : List ℕ) (request : Request)
+pub taken_goes_on : (core core_after : CoreModel) (words words_after : ℕ → ℕ) (asking after : Machine) (order order_after : List ℕ) (request : Request)
     → Takes core words asking order request core_after words_after after order_after
     → GoesOnFromAsking core words asking order request core_after words_after after order_after
 taken_goes_on core core_after words words_after asking after order order_after request takes before comes pairs prefix leads =

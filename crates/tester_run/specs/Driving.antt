@@ -3,7 +3,7 @@ use Rattle.std.specs.Prelude.{◌≡◌, ◌≢◌, ℕ, ◌+◌, ◌-◌, ◌<�
 use Rattle.fdb_calls.specs.declared.Request.{Request}
 use Rattle.fdb_calls.specs.declared.Reply.{Reply}
 use Rattle.fdb_calls.specs.declared.Reply.TheVariants as reply
-use Rattle.client_core.specs.Stands.{Kept, StandsFor, Answers}
+use Rattle.client_core.specs.Stands.{CoreModel, StandsFor, Answers}
 use Rattle.machine_rules.specs.Worlds.{World, HasWords, step}
 use Rattle.machine_rules.specs.Machines.{Machine, advance, resumed}
 use Rattle.machine_rules.specs.Runs.{Run, start, at_rest, run_from, is_running}
@@ -14,14 +14,14 @@ run_of world machine = record { world = world; machines = at_rest machine ∷ []
 
 -- The order so far leads from the start to a run: the core stands for its world, the random words still to come are that
 -- world's, and its one machine is this one come to rest.
-pub record Leads (pairs : List (List ℕ × List ℕ)) (prefix : List ℕ) (core : Kept) (words : ℕ → ℕ) (machine : Machine) (order : List ℕ) : Type 0 where
+pub record Leads (pairs : List (List ℕ × List ℕ)) (prefix : List ℕ) (core : CoreModel) (words : ℕ → ℕ) (machine : Machine) (order : List ℕ) : Type 0 where
   pub world : World
   pub stands : StandsFor core world
   pub has_words : HasWords world words
   pub runs : run_from order (start pairs prefix) ≡ Some (run_of world machine)
 
 -- wherever the order led before, it leads now
-abbrev pub GoesOn : Kept → (ℕ → ℕ) → Machine → List ℕ → Kept → (ℕ → ℕ) → Machine → List ℕ → Type 0
+abbrev pub GoesOn : CoreModel → (ℕ → ℕ) → Machine → List ℕ → CoreModel → (ℕ → ℕ) → Machine → List ℕ → Type 0
 GoesOn core words machine order core_after words_after machine_after order_after =
     (pairs : List (List ℕ × List ℕ)) (prefix : List ℕ) → Leads pairs prefix core words machine order → Leads pairs prefix core_after words_after machine_after order_after
 
@@ -36,7 +36,7 @@ abbrev pub work_left : Machine → ℕ
 work_left machine = cond (is_running machine.state) (length machine.instructions - machine.next + 1) 0
 
 -- a request was taken: the core answered it by the step of each world for which it stood, and the machine used the reply
-pub record Takes (core : Kept) (words : ℕ → ℕ) (machine : Machine) (order : List ℕ) (request : Request) (core_after : Kept) (words_after : ℕ → ℕ) (machine_after : Machine) (order_after : List ℕ) : Type 0 where
+pub record Takes (core : CoreModel) (words : ℕ → ℕ) (machine : Machine) (order : List ℕ) (request : Request) (core_after : CoreModel) (words_after : ℕ → ℕ) (machine_after : Machine) (order_after : List ℕ) : Type 0 where
   pub given : Reply
   pub is_given : given ≢ reply.NoMemory
   pub answers : (world : World) → StandsFor core world → HasWords world words → Answers given core_after words_after (step world request)
@@ -44,7 +44,7 @@ pub record Takes (core : Kept) (words : ℕ → ℕ) (machine : Machine) (order 
   pub order_is : order_after ≡ order ++ 0 ∷ []
 
 -- wherever the order led with a machine that comes to ask, it leads with the machine that has its reply
-abbrev pub GoesOnFromAsking : Kept → (ℕ → ℕ) → Machine → List ℕ → Request → Kept → (ℕ → ℕ) → Machine → List ℕ → Type 0
+abbrev pub GoesOnFromAsking : CoreModel → (ℕ → ℕ) → Machine → List ℕ → Request → CoreModel → (ℕ → ℕ) → Machine → List ℕ → Type 0
 GoesOnFromAsking core words asking order request core_after words_after machine_after order_after =
     (before : Machine) → ComesToAsk before asking request → GoesOn core words before order core_after words_after machine_after order_after
 

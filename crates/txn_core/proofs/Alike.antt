@@ -7,8 +7,8 @@ use Rattle.database_rules.specs.declared.Phase.{Phase}
 use Rattle.database_rules.specs.declared.Phase.TheVariants as phase
 use Rattle.database_rules.specs.declared.AtomicOp.{AtomicOp}
 use Rattle.database_rules.specs.Atomics.{atomic_named}
-use Rattle.database_rules.specs.Databases.{Database, Operation, Set, Clear, ClearRange, Atomic, Commit, History, do_all, after_commits, at, last}
-use Rattle.database_rules.specs.Transactions.{Transaction, fresh, first_failing, after_phase, get_code, set_code, clear_code, clear_range_code, atomic_code, commit_code, is_read_only, is_cancelled, is_tried, is_retryable, grown, bytes_of, size_limit, transaction_too_large, version_in, view, with_version, with_operation, with_phase, cancelled}
+use Rattle.database_rules.specs.Databases.{Database, Mutation, Set, Clear, ClearRange, Atomic, Commit, History, do_all, after_commits, at, last}
+use Rattle.database_rules.specs.Transactions.{Transaction, fresh, first_failing, after_phase, get_code, set_code, clear_code, clear_range_code, atomic_code, commit_code, is_read_only, is_cancelled, is_tried, is_retryable, grown, mutation_size, size_limit, transaction_too_large, version_in, view, with_version, with_mutation, with_phase, cancelled}
 use Rattle.fdb_calls.specs.declared.fault.TrFault.{TrFault}
 use Rattle.fdb_calls.specs.declared.fault.TrFault.TheVariants as fault
 use Rattle.fdb_calls.specs.declared.Reply.{Reply}
@@ -22,10 +22,10 @@ use Rattle.txn_core.specs.StandLaws.{stands_itself}
 use Rattle.txn_core.specs.Stands.{StandsFor, Keeps, Answers, Does}
 use Rattle.txn_core.proofs.States.{SameMaps, same_maps, same_more}
 
--- ---- edits
+-- ---- mutations
 
-one_more : (operations : List Operation) (operation : Operation) → nat_lt (length (operations ++ operation ∷ [])) 1 ≡ false
-one_more operations operation = le-ltb (length (operations ++ operation ∷ [])) 1 (omega (arith, length-append operations (operation ∷ [])))
+one_more : (mutations : List Mutation) (mutation : Mutation) → nat_lt (length (mutations ++ mutation ∷ [])) 1 ≡ false
+one_more mutations mutation = le-ltb (length (mutations ++ mutation ∷ [])) 1 (omega (arith, length-append mutations (mutation ∷ [])))
 
 -- ---- commits
 
@@ -34,7 +34,7 @@ pub SameCommits : List Commit → List Commit → Type 0
 SameCommits [] [] = Unit {0}
 SameCommits [] (other ∷ others) = ⊥
 SameCommits (commit ∷ commits) [] = ⊥
-SameCommits (commit ∷ commits) (other ∷ others) = SameMaps commit.operations other.operations × SameCommits commits others
+SameCommits (commit ∷ commits) (other ∷ others) = SameMaps commit.mutations other.mutations × SameCommits commits others
 
 same_length : (commits others : List Commit) → SameCommits commits others → length commits ≡ length others
 unfolding SameCommits
@@ -51,13 +51,13 @@ same_after (suc version) [] [] same database = refl
 same_after (suc version) [] (other ∷ others) same database = absurd same
 same_after (suc version) (commit ∷ commits) [] same database = absurd same
 same_after (suc version) (commit ∷ commits) (other ∷ others) same database =
-    same_after version commits others same.1 (do_all commit.operations database) ∙ ap (after_commits (take version others)) (same.0 database)
+    same_after version commits others same.1 (do_all commit.mutations database) ∙ ap (after_commits (take version others)) (same.0 database)
 
 same_at : (version : ℕ) (history : History) (commits others : List Commit) → SameCommits commits others → (database : Database)
     → after_commits (take version (history ++ commits)) database ≡ after_commits (take version (history ++ others)) database
 same_at version [] commits others same database = same_after version commits others same database
 same_at zero (commit ∷ history) commits others same database = refl
-same_at (suc version) (commit ∷ history) commits others same database = same_at version history commits others same (do_all commit.operations database)
+same_at (suc version) (commit ∷ history) commits others same database = same_at version history commits others same (do_all commit.mutations database)
 
 -- ---- calls
 
@@ -95,7 +95,7 @@ version_alike history kept transaction stands = ap (λ v. unwrap_or v (last hist
 
 pub versioned : (history : History) (kept transaction : Transaction) → StandsFor kept transaction → StandsFor (with_version history kept) (with_version history transaction)
 versioned history kept transaction stands = record {
-  edits = stands.edits;
+  mutations = stands.mutations;
   writes = stands.writes;
   life = stands.life;
   version = ap (λ v. Some v) (version_alike history kept transaction stands);
@@ -106,7 +106,7 @@ versioned history kept transaction stands = record {
 
 pub phased : (now : Phase) (kept transaction : Transaction) → StandsFor kept transaction → StandsFor (with_phase kept now) (with_phase transaction now)
 phased now kept transaction stands = record {
-  edits = stands.edits;
+  mutations = stands.mutations;
   writes = stands.writes;
   life = stands.life;
   version = stands.version;
@@ -115,22 +115,22 @@ phased now kept transaction stands = record {
   phase = refl;
 }
 
-written : (operation : Operation) (kept transaction : Transaction) → StandsFor kept transaction → StandsFor (with_operation kept operation) (with_operation transaction operation)
-written operation kept transaction stands = record {
-  edits = same_more kept.operations transaction.operations (operation ∷ []) stands.edits;
-  writes = one_more kept.operations operation ∙ sym (one_more transaction.operations operation);
+written : (mutation : Mutation) (kept transaction : Transaction) → StandsFor kept transaction → StandsFor (with_mutation kept mutation) (with_mutation transaction mutation)
+written mutation kept transaction stands = record {
+  mutations = same_more kept.mutations transaction.mutations (mutation ∷ []) stands.mutations;
+  writes = one_more kept.mutations mutation ∙ sym (one_more transaction.mutations mutation);
   life = stands.life;
   version = stands.version;
   reads = stands.reads;
-  size = ap (λ n. grown n (bytes_of operation)) stands.size;
+  size = ap (λ n. grown n (mutation_size mutation)) stands.size;
   phase = stands.phase;
 }
 
 -- two transactions see the same map
 view_alike : (history : History) (kept transaction : Transaction) → StandsFor kept transaction → view history kept ≡ view history transaction
 view_alike history kept transaction stands =
-    ap (λ v. do_all kept.operations (at history v)) (version_alike history kept transaction stands)
-    ∙ same_maps kept.operations transaction.operations stands.edits (at history (version_in history transaction))
+    ap (λ v. do_all kept.mutations (at history v)) (version_alike history kept transaction stands)
+    ∙ same_maps kept.mutations transaction.mutations stands.mutations (at history (version_in history transaction))
 
 get_alike : (code : Option ℕ) (history : History) (kept transaction : Transaction) (key : List ℕ) → StandsFor kept transaction → Alike (get_by code history kept key) (get_by code history transaction key)
 unfolding SameCommits
@@ -142,9 +142,9 @@ get_alike None history kept transaction key stands = record {
   commits = tt;
 }
 
-write_alike : (code : Option ℕ) (kept transaction : Transaction) (operation : Operation) → StandsFor kept transaction → Alike (write_by code kept operation) (write_by code transaction operation)
-write_alike (Some code) kept transaction operation stands = answers_of kept transaction _ stands
-write_alike None kept transaction operation stands = answers_of _ _ _ (written operation kept transaction stands)
+write_alike : (code : Option ℕ) (kept transaction : Transaction) (mutation : Mutation) → StandsFor kept transaction → Alike (write_by code kept mutation) (write_by code transaction mutation)
+write_alike (Some code) kept transaction mutation stands = answers_of kept transaction _ stands
+write_alike None kept transaction mutation stands = answers_of _ _ _ (written mutation kept transaction stands)
 
 atomic_alike : (code : Option ℕ) (op : Option AtomicOp) (kept transaction : Transaction) (key operand : List ℕ) → StandsFor kept transaction → Alike (atomic_by code op kept key operand) (atomic_by code op transaction key operand)
 atomic_alike code None kept transaction key operand stands = answers_of kept transaction _ stands
@@ -162,7 +162,7 @@ allowed_alike false history kept transaction stands = record {
   reply = refl;
   lives = refl;
   stands = phased _ _ _ (versioned history kept transaction stands);
-  commits = (same_maps kept.operations transaction.operations stands.edits, tt);
+  commits = (same_maps kept.mutations transaction.mutations stands.mutations, tt);
 }
 
 commit_alike : (code : Option ℕ) (history : History) (kept transaction : Transaction) → StandsFor kept transaction → Alike (commit_by code history kept) (commit_by code history transaction)
@@ -261,9 +261,9 @@ get_in_place history transaction key = by (get_code transaction key)
     by (Some code) = record { commits = refl; lives = refl }
     by None = record { commits = refl; lives = refl }
 
-pub write_in_place : (code : Option ℕ) (transaction : Transaction) (operation : Operation) → IsInPlace (write_by code transaction operation)
-write_in_place (Some code) transaction operation = record { commits = refl; lives = refl }
-write_in_place None transaction operation = record { commits = refl; lives = refl }
+pub write_in_place : (code : Option ℕ) (transaction : Transaction) (mutation : Mutation) → IsInPlace (write_by code transaction mutation)
+write_in_place (Some code) transaction mutation = record { commits = refl; lives = refl }
+write_in_place None transaction mutation = record { commits = refl; lives = refl }
 
 pub atomic_in_place : (transaction : Transaction) (name key operand : List ℕ) → IsInPlace (named_atomic_called transaction name key operand)
 atomic_in_place transaction name key operand = by (atomic_code transaction name key operand) (atomic_named name)

@@ -12,7 +12,7 @@ use Rattle.database_rules.specs.Databases.{Database}
 use Rattle.key_bytes.specs.Keys.{key_cmp, key_lt, key_le, after}
 use Rattle.key_map.specs.Ends.{first}
 use Rattle.txn_core.specs.Touched.{entries_from, IsNextInside, HasNoneInside}
-use Rattle.txn_core.proofs.Orders.{less, lt_le, lt_trans, below_after}
+use Rattle.key_bytes.proofs.Orders.{less, lt_le, lt_trans, below_after}
 
 abbrev Entries : Type 0
 Entries = List (List ℕ × List ℕ)

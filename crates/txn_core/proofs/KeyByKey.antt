@@ -1,4 +1,4 @@
--- What operations make of a map, key by key.
+-- What mutations make of a map, key by key.
 use Rattle.std.proofs.Common.{◌≡◌, ℕ, Bool, true, false, cond, List, [], ◌∷◌, ◌++◌, Option, Some, None, refl, sym, ap, ◌∙◌}
 use Rattle.std.specs.Prelude.{not, bytes_eq}
 use Rattle.std.specs.Cmp.Lexicographic.{nat_list_cmp_total, texts_ties, same_text}
@@ -8,7 +8,7 @@ use Rattle.key_bytes.specs.Keys.{within}
 use Rattle.database_rules.specs.declared.AtomicOp.{AtomicOp}
 use Rattle.database_rules.specs.declared.AtomicOp.TheVariants as atomic
 use Rattle.database_rules.specs.Atomics.{atom, is_versionstamped}
-use Rattle.database_rules.specs.Databases.{Database, Operation, Set, Clear, ClearRange, Atomic, put, do_one, do_all}
+use Rattle.database_rules.specs.Databases.{Database, Mutation, Set, Clear, ClearRange, Atomic, put, do_one, do_all}
 use Rattle.txn_core.specs.KeyByKey.{at_key, at_keys}
 
 pub get-put : (m : Database) (key : List ℕ) (value : Option (List ℕ)) (q : List ℕ) → finite.get (put m key value) q ≡ cond (bytes_eq q key) value (finite.get m q)
@@ -19,7 +19,7 @@ cond_not : (b : Bool) (old : Option (List ℕ)) → cond (not b) old None ≡ co
 cond_not true old = refl
 cond_not false old = refl
 
-pub get-do_one : (operation : Operation) (m : Database) (q : List ℕ) → finite.get (do_one operation m) q ≡ at_key operation q (finite.get m q)
+pub get-do_one : (mutation : Mutation) (m : Database) (q : List ℕ) → finite.get (do_one mutation m) q ≡ at_key mutation q (finite.get m q)
 get-do_one (Set key value) m q = get-put m key (Some value) q
 get-do_one (Clear key) m q = get-put m key None q
 get-do_one (ClearRange begin end) m q =
@@ -32,16 +32,16 @@ get-do_one (Atomic op key operand) m q =
       | false ↦ λ other. refl
     ] refl
 
--- a map after operations has at a key what they make of its value there
-pub get-do_all : (operations : List Operation) (m : Database) (q : List ℕ) → finite.get (do_all operations m) q ≡ at_keys operations q (finite.get m q)
+-- a map after mutations has at a key what they make of its value there
+pub get-do_all : (mutations : List Mutation) (m : Database) (q : List ℕ) → finite.get (do_all mutations m) q ≡ at_keys mutations q (finite.get m q)
 get-do_all [] m q = refl
-get-do_all (operation ∷ operations) m q = get-do_all operations (do_one operation m) q ∙ ap (at_keys operations q) (get-do_one operation m q)
+get-do_all (mutation ∷ mutations) m q = get-do_all mutations (do_one mutation m) q ∙ ap (at_keys mutations q) (get-do_one mutation m q)
 
-pub at_keys-append : (first second : List Operation) (q : List ℕ) (old : Option (List ℕ)) → at_keys (first ++ second) q old ≡ at_keys second q (at_keys first q old)
+pub at_keys-append : (first second : List Mutation) (q : List ℕ) (old : Option (List ℕ)) → at_keys (first ++ second) q old ≡ at_keys second q (at_keys first q old)
 at_keys-append [] second q old = refl
-at_keys-append (operation ∷ first) second q old = at_keys-append first second q (at_key operation q old)
+at_keys-append (mutation ∷ first) second q old = at_keys-append first second q (at_key mutation q old)
 
--- an operation with a versionstamp changes nothing
+-- a mutation with a versionstamp changes nothing
 pub versionstamped_same : (op : AtomicOp) (old : Option (List ℕ)) (operand : List ℕ) → is_versionstamped op ≡ true → atom op old operand ≡ old
 unfolding atom
 versionstamped_same atomic.SetVersionstampedKey None operand is = refl

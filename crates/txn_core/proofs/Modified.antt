@@ -1,4 +1,4 @@
--- Keys that no operation changes have no change, and the state of a changed key is another.
+-- Keys that no mutation changes have no change, and the state of a changed key is another.
 use Rattle.std.proofs.Common.{◌≡◌, ℕ, Bool, true, false, cond, List, [], ◌∷◌, Option, Some, None, refl, sym, ap, ◌∙◌}
 use Rattle.std.specs.Prelude.{not, ◌&&◌, ◌||◌, bytes_eq, is_some}
 use Rattle.std.specs.List.{All}
@@ -12,13 +12,13 @@ use Rattle.std.proofs.lemmas.List.Elements.{All-nil, All-cons, All-weaker}
 use Rattle.key_bytes.specs.Keys.{key_cmp, within}
 use Rattle.database_rules.specs.declared.AtomicOp.{AtomicOp}
 use Rattle.database_rules.specs.Atomics.{is_versionstamped}
-use Rattle.database_rules.specs.Databases.{Operation, Set, Clear, ClearRange, Atomic}
+use Rattle.database_rules.specs.Databases.{Mutation, Set, Clear, ClearRange, Atomic}
 use Rattle.database_rules.specs.States.{KeyState, Unmodified, Decided, Depends, after_atomic, state_after, states_after, state_under, is_unmodified}
 use Rattle.txn_core.specs.KeyByKey.{modifies, is_modified_by}
-use Rattle.txn_core.specs.Stands.{SameEdits}
+use Rattle.txn_core.specs.Stands.{SameMutations}
 use Rattle.txn_core.specs.Touched.{Touched}
 
--- where an operation without a versionstamp doesn't change a key, the key is another
+-- where a mutation without a versionstamp doesn't change a key, the key is another
 pub plain_apart : (same stamped : Bool) → stamped ≡ false → (same && not stamped) ≡ false → same ≡ false
 plain_apart true true plain apart = plain
 plain_apart true false plain apart = apart
@@ -37,10 +37,10 @@ still_cond false value state h = h
 modified_atomic : (op : AtomicOp) (operand : List ℕ) (state : KeyState) → is_unmodified (after_atomic op operand state) ≡ false
 modified_atomic op operand Unmodified = refl
 modified_atomic op operand (Decided old) = refl
-modified_atomic op operand (Depends edits) = refl
+modified_atomic op operand (Depends mutations) = refl
 
--- an operation that changes a key leaves it in another state
-modified_once : (operation : Operation) (q : List ℕ) (state : KeyState) → modifies q operation ≡ true → is_unmodified (state_after operation q state) ≡ false
+-- a mutation that changes a key leaves it in another state
+modified_once : (mutation : Mutation) (q : List ℕ) (state : KeyState) → modifies q mutation ≡ true → is_unmodified (state_after mutation q state) ≡ false
 modified_once (Set key value) q state h = unmodified_cond (bytes_eq q key) (Some value) state h
 modified_once (Clear key) q state h = unmodified_cond (bytes_eq q key) None state h
 modified_once (ClearRange begin end) q state h = unmodified_cond (within begin end q) None state h
@@ -50,8 +50,8 @@ modified_once (Atomic op key operand) q state h = by (bytes_eq q key && not (is_
     by true h = modified_atomic op operand state
     by false h = absurd (false≢true h)
 
--- and no operation undoes that
-modified_still : (operation : Operation) (q : List ℕ) (state : KeyState) → is_unmodified state ≡ false → is_unmodified (state_after operation q state) ≡ false
+-- and no mutation undoes that
+modified_still : (mutation : Mutation) (q : List ℕ) (state : KeyState) → is_unmodified state ≡ false → is_unmodified (state_after mutation q state) ≡ false
 modified_still (Set key value) q state h = still_cond (bytes_eq q key) (Some value) state h
 modified_still (Clear key) q state h = still_cond (bytes_eq q key) None state h
 modified_still (ClearRange begin end) q state h = still_cond (within begin end q) None state h
@@ -61,22 +61,22 @@ modified_still (Atomic op key operand) q state h = by (bytes_eq q key && not (is
     by true = modified_atomic op operand state
     by false = h
 
-modified_after : (operations : List Operation) (q : List ℕ) (state : KeyState) → is_unmodified state ≡ false → is_unmodified (states_after operations q state) ≡ false
+modified_after : (mutations : List Mutation) (q : List ℕ) (state : KeyState) → is_unmodified state ≡ false → is_unmodified (states_after mutations q state) ≡ false
 modified_after [] q state h = h
-modified_after (operation ∷ operations) q state h = modified_after operations q (state_after operation q state) (modified_still operation q state h)
+modified_after (mutation ∷ mutations) q state h = modified_after mutations q (state_after mutation q state) (modified_still mutation q state h)
 
-modified_among : (operations : List Operation) (q : List ℕ) (state : KeyState) → is_modified_by operations q ≡ true → is_unmodified (states_after operations q state) ≡ false
+modified_among : (mutations : List Mutation) (q : List ℕ) (state : KeyState) → is_modified_by mutations q ≡ true → is_unmodified (states_after mutations q state) ≡ false
 modified_among [] q state h = absurd (false≢true h)
-modified_among (operation ∷ operations) q state h = by (modifies q operation) refl h (λ later. modified_among operations q (state_after operation q state) later)
+modified_among (mutation ∷ mutations) q state h = by (modifies q mutation) refl h (λ later. modified_among mutations q (state_after mutation q state) later)
   where
-    by : (b : Bool) → modifies q operation ≡ b → (b || is_modified_by operations q) ≡ true
-        → (is_modified_by operations q ≡ true → is_unmodified (states_after operations q (state_after operation q state)) ≡ false)
-        → is_unmodified (states_after operations q (state_after operation q state)) ≡ false
-    by true is h among = modified_after operations q (state_after operation q state) (modified_once operation q state is)
+    by : (b : Bool) → modifies q mutation ≡ b → (b || is_modified_by mutations q) ≡ true
+        → (is_modified_by mutations q ≡ true → is_unmodified (states_after mutations q (state_after mutation q state)) ≡ false)
+        → is_unmodified (states_after mutations q (state_after mutation q state)) ≡ false
+    by true is h among = modified_after mutations q (state_after mutation q state) (modified_once mutation q state is)
     by false is h among = among h
 
-pub modified_state : (operations : List Operation) (q : List ℕ) → is_modified_by operations q ≡ true → is_unmodified (state_under operations q) ≡ false
-modified_state operations q h = modified_among operations q Unmodified h
+pub modified_state : (mutations : List Mutation) (q : List ℕ) → is_modified_by mutations q ≡ true → is_unmodified (state_under mutations q) ≡ false
+modified_state mutations q h = modified_among mutations q Unmodified h
 
 -- ---- entries
 
@@ -92,19 +92,19 @@ each_found P (entry ∷ entries) found =
     by q true later = refl
     by q false later = later
 
--- where a key that no operation changes is not touched, each touched key is changed by one
-pub touched_modified : (operations : List Operation) (touched : Touched) → ((q : List ℕ) → is_modified_by operations q ≡ false → finite.get touched q ≡ None)
-    → All (λ entry. is_modified_by operations entry.0 ≡ true) (finite.entries touched)
-touched_modified operations touched only =
-    each_found (λ key. is_modified_by operations key ≡ true) (finite.entries touched) (λ q there. by q (is_modified_by operations q) refl there)
+-- where a key that no mutation changes is not touched, each touched key is changed by one
+pub touched_modified : (mutations : List Mutation) (touched : Touched) → ((q : List ℕ) → is_modified_by mutations q ≡ false → finite.get touched q ≡ None)
+    → All (λ entry. is_modified_by mutations entry.0 ≡ true) (finite.entries touched)
+touched_modified mutations touched only =
+    each_found (λ key. is_modified_by mutations key ≡ true) (finite.entries touched) (λ q there. by q (is_modified_by mutations q) refl there)
   where
-    by : (q : List ℕ) (b : Bool) → is_modified_by operations q ≡ b → is_some (find key_cmp q (finite.entries touched)) ≡ true → is_modified_by operations q ≡ true
+    by : (q : List ℕ) (b : Bool) → is_modified_by mutations q ≡ b → is_some (find key_cmp q (finite.entries touched)) ≡ true → is_modified_by mutations q ≡ true
     by q true is there = is
     by q false is there = absurd (false≢true (sym (ap is_some (sym (finite.get-entries touched q) ∙ only q is)) ∙ there))
 
--- each changed key has another state under operations that the edits agree with
-pub each_modified : (kept : List Operation) (changes : List (List ℕ × Option (List ℕ))) (operations : List Operation) → SameEdits kept operations
-    → All (λ change. is_modified_by kept change.0 ≡ true) changes → All (λ change. is_unmodified (state_under operations change.0) ≡ false) changes
-each_modified kept changes operations same only =
-    All-weaker (λ change. is_modified_by kept change.0 ≡ true) (λ change. is_unmodified (state_under operations change.0) ≡ false)
+-- each changed key has another state under mutations that the mutations agree with
+pub each_modified : (kept : List Mutation) (changes : List (List ℕ × Option (List ℕ))) (mutations : List Mutation) → SameMutations kept mutations
+    → All (λ change. is_modified_by kept change.0 ≡ true) changes → All (λ change. is_unmodified (state_under mutations change.0) ≡ false) changes
+each_modified kept changes mutations same only =
+    All-weaker (λ change. is_modified_by kept change.0 ≡ true) (λ change. is_unmodified (state_under mutations change.0) ≡ false)
     (λ change is. ap is_unmodified (sym (same.state_same change.0)) ∙ modified_state kept change.0 is) changes only

@@ -13,11 +13,11 @@ use Rattle.database_rules.specs.declared.AtomicOp.{AtomicOp}
 use Rattle.database_rules.specs.Atomics.{atom, is_versionstamped}
 use Rattle.database_rules.specs.Databases.{Database, Atomic}
 use Rattle.key_bytes.specs.Keys.{key_cmp, key_lt, after, within}
-use Rattle.key_bytes.specs.SuccessorLaws.{irreflexive}
+use Rattle.key_bytes.proofs.Orders.{irreflexive}
 use Rattle.txn_core.specs.KeyByKey.{at_key}
 use Rattle.txn_core.specs.Touched.{Touched, stands_at, IsNextInside, HasNoneInside}
 use Rattle.txn_core.proofs.KeyByKey.{versionstamped_same}
-use Rattle.txn_core.proofs.Orders.{le_lt, lt_trans, lt_after, above_not_below, below_after}
+use Rattle.key_bytes.proofs.Orders.{le_lt, lt_trans, lt_after, above_not_below, below_after}
 
 pub stands_at-empty : (database : Database) (q : List ℕ) → stands_at finite.empty database q ≡ finite.get database q
 stands_at-empty database q = ap (λ o. unwrap_or o (finite.get database q)) (finite.get-empty key_cmp q)

@@ -1,36 +1,36 @@
--- What operations make of the value of one key.
+-- What mutations make of the value of one key.
 use Rattle.std.specs.Prelude.{ℕ, Bool, true, not, ◌&&◌, if◌then◌else◌, List, [], ◌∷◌, Option, Some, None}
 use Rattle.std.specs.List.{list_any}
 use Rattle.database_rules.specs.Atomics.{atom, is_versionstamped}
-use Rattle.database_rules.specs.Databases.{Operation, Set, Clear, ClearRange, Atomic}
+use Rattle.database_rules.specs.Databases.{Mutation, Set, Clear, ClearRange, Atomic}
 use Rattle.database_rules.specs.States.{touches}
 
 -- what it makes of the value of a key that it touches
-abbrev pub made_of : Operation → Option (List ℕ) → Option (List ℕ)
+abbrev pub made_of : Mutation → Option (List ℕ) → Option (List ℕ)
 made_of (Set key value) old = Some value
 made_of (Clear key) old = None
 made_of (ClearRange begin end) old = None
 made_of (Atomic op key operand) old = atom op old operand
 
-abbrev pub at_key : Operation → List ℕ → Option (List ℕ) → Option (List ℕ)
-at_key operation asked old = if touches operation asked then made_of operation old else old
+abbrev pub at_key : Mutation → List ℕ → Option (List ℕ) → Option (List ℕ)
+at_key mutation asked old = if touches mutation asked then made_of mutation old else old
 
--- what operations make of the value of a key, in their order
-abbrev pub at_keys : List Operation → List ℕ → Option (List ℕ) → Option (List ℕ)
+-- what mutations make of the value of a key, in their order
+abbrev pub at_keys : List Mutation → List ℕ → Option (List ℕ) → Option (List ℕ)
 at_keys [] asked old = old
-at_keys (operation ∷ operations) asked old = at_keys operations asked (at_key operation asked old)
+at_keys (mutation ∷ mutations) asked old = at_keys mutations asked (at_key mutation asked old)
 
 -- it has no versionstamp, which would leave the key as it is
-abbrev pub is_plain : Operation → Bool
+abbrev pub is_plain : Mutation → Bool
 is_plain (Set key value) = true
 is_plain (Clear key) = true
 is_plain (ClearRange begin end) = true
 is_plain (Atomic op key operand) = not (is_versionstamped op)
 
 -- it changes the state of the key
-abbrev pub modifies : List ℕ → Operation → Bool
-modifies asked operation = touches operation asked && is_plain operation
+abbrev pub modifies : List ℕ → Mutation → Bool
+modifies asked mutation = touches mutation asked && is_plain mutation
 
--- some operation changes the state of the key
-abbrev pub is_modified_by : List Operation → List ℕ → Bool
-is_modified_by operations asked = list_any (modifies asked) operations
+-- some mutation changes the state of the key
+abbrev pub is_modified_by : List Mutation → List ℕ → Bool
+is_modified_by mutations asked = list_any (modifies asked) mutations

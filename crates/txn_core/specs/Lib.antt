@@ -1,4 +1,4 @@
-pub mod Edits
+pub mod Mutations
 pub mod KeyByKey
 pub mod Seen
 pub mod Stands

@@ -5,7 +5,7 @@ use Rattle.txn_core.specs.Stands.{StandsFor}
 
 pub stands_itself : (transaction : Transaction) → StandsFor transaction transaction
 stands_itself transaction = record {
-  edits = record { unreadable_same = λ key. refl; state_same = λ key. refl; filled_same = λ stamp key ten. refl };
+  mutations = record { unreadable_same = λ key. refl; state_same = λ key. refl; filled_same = λ stamp key ten. refl };
   writes = refl;
   life = refl;
   version = refl;

@@ -1,7 +1,7 @@
 -- What a transaction of the code, and a store, stand for.
 use Rattle.std.specs.Prelude.{◌≡◌, ℕ, ◌≤◌, List, ◌++◌, length, if◌then◌else◌}
 use Rattle.database_rules.specs.declared.Code.{Code}
-use Rattle.database_rules.specs.Databases.{Operation, History, at, last}
+use Rattle.database_rules.specs.Databases.{Mutation, History, at, last}
 use Rattle.database_rules.specs.States.{covers, state_under, all_filled, unreadable}
 use Rattle.database_rules.specs.Transactions.{Transaction, is_read_only}
 use Rattle.fdb_calls.specs.Calling.{Called}
@@ -9,18 +9,18 @@ use Rattle.version_store.specs.Versions.{Versions, last_of}
 use Rattle.version_store.specs.Versions as versions
 use Rattle.txn_core.specs.declared.answer.Answer.{Answer}
 
--- Two lists of operations agree: the same keys are unreadable under both, and each key has the same state under both,
+-- Two lists of mutations agree: the same keys are unreadable under both, and each key has the same state under both,
 -- those with a versionstamp left out, and with any one versionstamp filled in.
-pub record SameEdits (kept operations : List Operation) : Type 0 where
-  pub unreadable_same : (key : List ℕ) → covers (unreadable kept) key ≡ covers (unreadable operations) key
-  pub state_same : (key : List ℕ) → state_under kept key ≡ state_under operations key
-  pub filled_same : (stamp key : List ℕ) → length stamp ≡ 10 → state_under (all_filled stamp kept) key ≡ state_under (all_filled stamp operations) key
+pub record SameMutations (kept mutations : List Mutation) : Type 0 where
+  pub unreadable_same : (key : List ℕ) → covers (unreadable kept) key ≡ covers (unreadable mutations) key
+  pub state_same : (key : List ℕ) → state_under kept key ≡ state_under mutations key
+  pub filled_same : (stamp key : List ℕ) → length stamp ≡ 10 → state_under (all_filled stamp kept) key ≡ state_under (all_filled stamp mutations) key
 
--- A transaction of the code stands for each one that its edits and its fields agree with: the edits agree, it had an
--- operation in this life exactly where the other had one, and its other fields are the same; ranges are read by which
+-- A transaction of the code stands for each one that its mutations and its fields agree with: the mutations agree, it had a
+-- mutation in this life exactly where the other had one, and its other fields are the same; ranges are read by which
 -- keys they have.
 pub record StandsFor (kept transaction : Transaction) : Type 0 where
-  pub edits : SameEdits kept.operations transaction.operations
+  pub mutations : SameMutations kept.mutations transaction.mutations
   pub writes : is_read_only kept ≡ is_read_only transaction
   pub life : kept.life ≡ transaction.life
   pub version : kept.version ≡ transaction.version

@@ -119,7 +119,7 @@ impl Txn {
         }
     }
 
-    /// The operation of this name, or the code of the first check of an atomic operation that fails. It takes no memory.
+    /// The mutation of this name, or the code of the first check of an atomic operation that fails. It takes no memory.
     #[tactic(auto, unfolding(database_rules::specs::Transactions::atomic_code))]
     pub(crate) fn atomic_op(
         &self,
@@ -148,7 +148,7 @@ impl Txn {
     {
         if let Some(code) = phase_code(self.phase) {
             Some(code)
-        } else if !self.edits.is_empty() && SIZE_LIMIT < self.size {
+        } else if !self.mutations.is_empty() && SIZE_LIMIT < self.size {
             Some(Code(TRANSACTION_TOO_LARGE))
         } else {
             None

@@ -28,7 +28,7 @@ impl Txn {
         if let Some(code) = self.commit_code() {
             return Err(TrFault::Code(code));
         }
-        if self.edits.is_empty() {
+        if self.mutations.is_empty() {
             return Ok(Verdict::ReadOnly);
         }
         self.version = Some(self.read_version(store));

@@ -9,12 +9,12 @@ ghost use Rattle.fdb_calls.specs.declared.Reply.TheVariants as reply;
 ghost use Rattle.fdb_calls.specs.Answers.{Answered};
 ghost use Rattle.fdb_calls.specs.Calling.{get_called};
 ghost use Rattle.version_store.specs.Versions.{at, last_of};
-ghost use Rattle.txn_core.specs.Edits.{operation_of, operations_of};
+ghost use Rattle.txn_core.specs.Mutations.{mutation_of, mutations_of};
 ghost use Rattle.txn_core.specs.KeyByKey.{at_key, at_keys};
 ghost use Rattle.txn_core.specs.Seen.{seen_value};
 ghost use Rattle.txn_core.specs.Stands.{Keeps};
 
-use crate::edit::{Edit, is_versionstamped};
+use crate::mutation::{Mutation, is_versionstamped};
 use crate::txn::Txn;
 use database_rules::AtomicOp;
 use fdb_calls::TrFault;
@@ -88,16 +88,16 @@ impl<'a> Seen<'a> {
     }
 
     // What is seen after a write.
-    fn after(self, alloc: Global, edit: &'a Edit, key: &Key) -> Result<Seen<'a>, AllocError>
-        ensures { IfOk result (λ seen. seen_value seen ≡ at_key (operation_of edit.now) key.now (seen_value self.entry)) }
+    fn after(self, alloc: Global, mutation: &'a Mutation, key: &Key) -> Result<Seen<'a>, AllocError>
+        ensures { IfOk result (λ seen. seen_value seen ≡ at_key (mutation_of mutation.now) key.now (seen_value self.entry)) }
     {
-        if !edit.touches(key) {
+        if !mutation.touches(key) {
             return Ok(self);
         }
-        match edit {
-            Edit::Set { value, .. } => Ok(Seen::Lent(value.as_slice())),
-            Edit::Clear { .. } | Edit::ClearRange { .. } => Ok(Seen::Nothing),
-            Edit::Atomic { op, operand, .. } => self.after_atomic(alloc, *op, operand),
+        match mutation {
+            Mutation::Set { value, .. } => Ok(Seen::Lent(value.as_slice())),
+            Mutation::Clear { .. } | Mutation::ClearRange { .. } => Ok(Seen::Nothing),
+            Mutation::Atomic { op, operand, .. } => self.after_atomic(alloc, *op, operand),
         }
     }
 }
@@ -116,12 +116,12 @@ impl Txn {
     // The value of a key that the transaction sees at a version: that of the store, after the transaction's writes.
     fn value(&self, store: &Store, version: u64, key: &Key) -> Result<Option<Bytes>, AllocError>
         ensures { IfOk result (λ value. value
-            ≡ at_keys self.now.operations key.now (finite.get (at store.now (min version (last_of store.now))) key.now)) }
+            ≡ at_keys self.now.mutations key.now (finite.get (at store.now (min version (last_of store.now))) key.now)) }
     {
         let alloc = self.allocator();
         let mut seen = Seen::of(stored(store, version, key));
-        for edit in self.edits.as_slice() {
-            seen = seen.after(alloc, edit, key)?;
+        for mutation in self.mutations.as_slice() {
+            seen = seen.after(alloc, mutation, key)?;
         }
         seen.into_value(alloc)
     }

@@ -6,15 +6,15 @@ ghost use Rattle.std.specs.FinMap as finite;
 ghost use Rattle.std.specs.Option.{option_map};
 ghost use Rattle.key_bytes.specs.Keys.{within};
 ghost use Rattle.key_map.specs.Ends.{first};
-ghost use Rattle.database_rules.specs.Databases as operation;
+ghost use Rattle.database_rules.specs.Databases as database;
 ghost use Rattle.database_rules.specs.Databases.{Database, do_all};
 ghost use Rattle.version_store.specs.Changed.{changed};
 ghost use Rattle.version_store.specs.Versions.{at, last_of};
-ghost use Rattle.txn_core.specs.Edits.{operation_of};
+ghost use Rattle.txn_core.specs.Mutations.{mutation_of};
 ghost use Rattle.txn_core.specs.KeyByKey.{at_key, at_keys, modifies, is_modified_by};
 ghost use Rattle.txn_core.specs.Touched.{stands_at, entries_from, IsNextInside, HasNoneInside};
 
-use crate::edit::{Edit, is_versionstamped};
+use crate::mutation::{Mutation, is_versionstamped};
 use crate::reading::stored;
 use crate::txn::Txn;
 use database_rules::AtomicOp;
@@ -104,8 +104,8 @@ fn touch_atomic(
     store: &Store,
 ) -> Result<(), AllocError>
     ensures stands { OnOk result ((q : List ℕ) → stands_at touched.new (at store.now (last_of store.now)) q
-        ≡ at_key (operation.Atomic op key.now operand.now) q (stands_at touched.old (at store.now (last_of store.now)) q)) }
-    ensures others { OnOk result ((q : List ℕ) → modifies q (operation.Atomic op key.now operand.now) ≡ false
+        ≡ at_key (database.Atomic op key.now operand.now) q (stands_at touched.old (at store.now (last_of store.now)) q)) }
+    ensures others { OnOk result ((q : List ℕ) → modifies q (database.Atomic op key.now operand.now) ≡ false
         → finite.get touched.new q ≡ finite.get touched.old q) }
 {
     if is_versionstamped(op) {
@@ -119,19 +119,19 @@ fn touch_atomic(
 fn touch(
     alloc: Global,
     touched: &mut KeyMap<Option<Bytes>>,
-    edit: &Edit,
+    mutation: &Mutation,
     store: &Store,
 ) -> Result<(), AllocError>
     ensures stands { OnOk result ((q : List ℕ) → stands_at touched.new (at store.now (last_of store.now)) q
-        ≡ at_key (operation_of edit.now) q (stands_at touched.old (at store.now (last_of store.now)) q)) }
-    ensures others { OnOk result ((q : List ℕ) → modifies q (operation_of edit.now) ≡ false
+        ≡ at_key (mutation_of mutation.now) q (stands_at touched.old (at store.now (last_of store.now)) q)) }
+    ensures others { OnOk result ((q : List ℕ) → modifies q (mutation_of mutation.now) ≡ false
         → finite.get touched.new q ≡ finite.get touched.old q) }
 {
-    match edit {
-        Edit::Set { key, value } => put(touched, key, Some(value.copy()?)),
-        Edit::Clear { key } => put(touched, key, None),
-        Edit::ClearRange { range } => touch_range(touched, range, store),
-        Edit::Atomic { op, key, operand } => touch_atomic(alloc, touched, *op, key, operand, store),
+    match mutation {
+        Mutation::Set { key, value } => put(touched, key, Some(value.copy()?)),
+        Mutation::Clear { key } => put(touched, key, None),
+        Mutation::ClearRange { range } => touch_range(touched, range, store),
+        Mutation::Atomic { op, key, operand } => touch_atomic(alloc, touched, *op, key, operand, store),
     }
 }
 
@@ -150,23 +150,23 @@ impl Txn {
     // The keys that the writes touch, over the map at the last version.
     fn touched(&self, store: &Store) -> Result<KeyMap<Option<Bytes>>, AllocError>
         ensures stands { IfOk result (λ touched. (q : List ℕ) → stands_at touched (at store.now (last_of store.now)) q
-            ≡ at_keys self.now.operations q (finite.get (at store.now (last_of store.now)) q)) }
-        ensures only { IfOk result (λ touched. (q : List ℕ) → is_modified_by self.now.operations q ≡ false
+            ≡ at_keys self.now.mutations q (finite.get (at store.now (last_of store.now)) q)) }
+        ensures only { IfOk result (λ touched. (q : List ℕ) → is_modified_by self.now.mutations q ≡ false
             → finite.get touched q ≡ None) }
     {
         let alloc = self.allocator();
         let mut touched = KeyMap::new(alloc);
-        for edit in self.edits.as_slice() {
-            touch(alloc, &mut touched, edit, store)?;
+        for mutation in self.mutations.as_slice() {
+            touch(alloc, &mut touched, mutation, store)?;
         }
         Ok(touched)
     }
 
     /// What leads from the map at the last version to that map after the writes. It names only keys that a write touches.
     pub(crate) fn changes(&self, store: &Store) -> Result<Changes, AllocError>
-        ensures only { IfOk result (λ changes. All (λ change. is_modified_by self.now.operations change.0 ≡ true) changes) }
+        ensures only { IfOk result (λ changes. All (λ change. is_modified_by self.now.mutations change.0 ≡ true) changes) }
         ensures leads { IfOk result (λ changes. changed changes (at store.now (last_of store.now))
-            ≡ do_all self.now.operations (at store.now (last_of store.now))) }
+            ≡ do_all self.now.mutations (at store.now (last_of store.now))) }
     {
         changes_of(self.allocator(), self.touched(store)?)
     }

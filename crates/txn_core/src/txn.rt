@@ -7,19 +7,19 @@ ghost use Rattle.fdb_calls.specs.Calling.{called, on_error_called, cancel_called
 ghost use Rattle.version_store.specs.Versions.{Versions, last_of};
 
 use crate::answer::Answer;
-use crate::edit::Edit;
+use crate::mutation::Mutation;
 use database_rules::{Code, Phase};
 use fdb_calls::TxnCall;
 use std::alloc::{AllocError, Global};
 use std::marker::Model;
 use version_store::Store;
 
-/// A transaction. Contracts see the transaction of the definitions that has its very edits.
+/// A transaction. Contracts see the transaction of the definitions that has its very mutations.
 #[derive(Debug, Drop)]
 pub struct Txn {
     pub(crate) life: u64,
     pub(crate) version: Option<u64>,
-    pub(crate) edits: Vec<Edit>,
+    pub(crate) mutations: Vec<Mutation>,
     pub(crate) size: u64,
     pub(crate) phase: Phase,
 }
@@ -27,14 +27,14 @@ pub struct Txn {
 impl Model for Txn {
     ghost use Rattle.std.specs.Prelude.{◌≤◌, []};
     ghost use Rattle.database_rules.specs.Transactions as rules;
-    ghost use Rattle.txn_core.specs.Edits.{operations_of};
+    ghost use Rattle.txn_core.specs.Mutations.{mutations_of};
 
     ghost Value = { rules.Transaction };
 
     ghost view = { λ t. record {
       life = t.life;
       version = t.version;
-      operations = operations_of t.edits.items;
+      mutations = mutations_of t.mutations.items;
       read_ranges = [];
       size = t.size;
       phase = t.phase;
@@ -53,7 +53,7 @@ impl Txn {
         Txn {
             life,
             version: None,
-            edits: Vec::new(alloc),
+            mutations: Vec::new(alloc),
             size: 0,
             phase: Phase::Active,
         }
@@ -73,7 +73,7 @@ impl Txn {
 
     // The allocator that it keeps.
     pub(crate) fn allocator(&self) -> Global {
-        *self.edits.allocator()
+        *self.mutations.allocator()
     }
 
     /// One call, over a store; `life` is the number of the life that a call draws which begins anew. A commit adds one

@@ -42,13 +42,13 @@ impl TxnOn<'_> {
         self.txn.judge(self.store)
     }
 
-    /// What leads from the map at the store's last version to that map after the transaction's operations. It names only
-    /// keys that an operation touches. No operation takes the commit's versionstamp yet.
+    /// What leads from the map at the store's last version to that map after the transaction's mutations. It names only
+    /// keys that a mutation touches. No mutation takes the commit's versionstamp yet.
     pub fn changes(&self, _stamp: &[u8; 10]) -> Result<Changes, AllocError>
         ensures leads { IfOk result (λ changes. (t : Transaction) → StandsFor self.now.txn.now t
-            → changed changes (at self.now.store.now (last_of self.now.store.now)) ≡ do_all t.operations (at self.now.store.now (last_of self.now.store.now))) }
+            → changed changes (at self.now.store.now (last_of self.now.store.now)) ≡ do_all t.mutations (at self.now.store.now (last_of self.now.store.now))) }
         ensures only { IfOk result (λ changes. (t : Transaction) → StandsFor self.now.txn.now t
-            → All (λ change. is_unmodified (state_under t.operations change.0) ≡ false) changes) }
+            → All (λ change. is_unmodified (state_under t.mutations change.0) ≡ false) changes) }
     {
         self.txn.changes(self.store)
     }

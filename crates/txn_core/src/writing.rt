@@ -1,15 +1,15 @@
 //! Writes: each is refused by its code, or kept.
 
 ghost use Rattle.std.specs.Prelude.{◌≡◌, ◌≤◌, OnOk, OnErr};
-ghost use Rattle.database_rules.specs.Databases as operation;
+ghost use Rattle.database_rules.specs.Databases as database;
 ghost use Rattle.database_rules.specs.Transactions as rules;
 ghost use Rattle.fdb_calls.specs.declared.Reply.TheVariants as reply;
 ghost use Rattle.fdb_calls.specs.Answers.{Answered};
 ghost use Rattle.fdb_calls.specs.Calling.{set_called, clear_called, clear_range_called, atomic_called, named_atomic_called};
-ghost use Rattle.txn_core.specs.Edits.{operation_of};
+ghost use Rattle.txn_core.specs.Mutations.{mutation_of};
 
 use crate::codes::SIZE_LIMIT;
-use crate::edit::Edit;
+use crate::mutation::Mutation;
 use crate::txn::Txn;
 use database_rules::AtomicOp;
 use fdb_calls::TrFault;
@@ -26,25 +26,25 @@ fn grown(size: u64, bytes: u64) -> u64
 // Each write is exact: a refused one changes nothing, and after want of memory the transaction is unchanged too.
 impl Txn {
     // Keeps a write that no check refuses. After a refusal the transaction is unchanged.
-    fn add(&mut self, edit: Edit) -> Result<(), AllocError>
-        ensures ok { OnOk result (self.new ≡ rules.with_operation self.old (operation_of edit)) }
+    fn add(&mut self, mutation: Mutation) -> Result<(), AllocError>
+        ensures ok { OnOk result (self.new ≡ rules.with_mutation self.old (mutation_of mutation)) }
         ensures err { OnErr result (self.new ≡ self.old) }
     {
-        let bytes = edit.bytes();
-        self.edits.push(edit)?;
+        let bytes = mutation.bytes();
+        self.mutations.push(mutation)?;
         self.size = grown(self.size, bytes);
         Ok(())
     }
 
     // Keeps an atomic operation that no check refuses. After a refusal the transaction is unchanged.
     fn add_atomic(&mut self, op: AtomicOp, key: &[u8], operand: &[u8]) -> Result<(), AllocError>
-        ensures ok { OnOk result (self.new ≡ rules.with_operation self.old (operation.Atomic op key.now operand.now)) }
+        ensures ok { OnOk result (self.new ≡ rules.with_mutation self.old (database.Atomic op key.now operand.now)) }
         ensures err { OnErr result (self.new ≡ self.old) }
     {
         let alloc = self.allocator();
         let key = Bytes::from_slice(alloc, key)?;
         let operand = Bytes::from_slice(alloc, operand)?;
-        self.add(Edit::Atomic { op, key, operand })
+        self.add(Mutation::Atomic { op, key, operand })
     }
 
     /// A set.
@@ -57,7 +57,7 @@ impl Txn {
         let alloc = self.allocator();
         let key = Bytes::from_slice(alloc, key)?;
         let value = Bytes::from_slice(alloc, value)?;
-        self.add(Edit::Set { key, value })?;
+        self.add(Mutation::Set { key, value })?;
         Ok(())
     }
 
@@ -69,7 +69,7 @@ impl Txn {
             return Err(TrFault::Code(code));
         }
         let key = Bytes::from_slice(self.allocator(), key)?;
-        self.add(Edit::Clear { key })?;
+        self.add(Mutation::Clear { key })?;
         Ok(())
     }
 
@@ -85,7 +85,7 @@ impl Txn {
             begin: range.begin.copy()?,
             end: range.end.copy()?,
         };
-        self.add(Edit::ClearRange { range })?;
+        self.add(Mutation::ClearRange { range })?;
         Ok(())
     }
 

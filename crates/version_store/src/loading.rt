@@ -25,7 +25,7 @@ pub(crate) fn load_heads(
     ensures sound { IfOk result (λ tree. Sound nodes.new.slots (slab_len nodes.new) 1 tree.entries) }
     ensures empty { IfOk result (λ tree. database_of 0 nodes.new.slots tree.entries ≡ finite.empty) }
     ensures first { IfOk result (λ tree. database_of 1 nodes.new.slots tree.entries
-        ≡ do_all (loaded pairs).operations finite.empty) }
+        ≡ do_all (loaded pairs).mutations finite.empty) }
 {
     let heads = place_all(alloc, nodes, pairs)?;
     sorted(alloc, heads)

@@ -73,7 +73,7 @@ impl Store {
         ensures oldest { IfOk result (λ store. oldest_of store ≡ 0) }
         ensures empty { IfOk result (λ store. at store 0 ≡ finite.empty) }
         ensures first { IfOk result (λ store. at store 1
-            ≡ do_all (loaded pairs).operations finite.empty) }
+            ≡ do_all (loaded pairs).mutations finite.empty) }
     {
         let mut nodes = Slab::with_capacity(alloc, pairs.len())?;
         let tree = load_heads(alloc, &mut nodes, pairs)?;

@@ -1,5 +1,5 @@
 use Rattle.std.proofs.Common.{◌≡◌, length, ℕ, List, arith, ap, refl, subst, []}
-use Rattle.line_rules.specs.Reading.{piece_at, text_of, Text}
+use Rattle.line_rules.specs.Reading.{piece_at, text_of, ReadText}
 use Rattle.dump_text.proofs.Runs.{length-run}
 use Rattle.dump_text.proofs.Pieces.{text_run, text_step, step_within, none_read, IsSpelled}
 use Rattle.std.proofs.lemmas.List.{length-append}
@@ -18,7 +18,7 @@ ended pieces.Unfit bytes e h = none_read bytes (subst (λ p. IsSpelled p → ⊥
 
 pub loop-rest-init : goal.loop-rest-init
 loop-rest-init c =
-    let e = ap (λ (t : Text). length t.bytes) (text_run c.args.bytes.now) in
+    let e = ap (λ (t : ReadText). length t.bytes) (text_run c.args.bytes.now) in
     record {
       counted = rw (c.split_plain.ensures.front, c.split_plain.ensures.rest, e, length-append) refl;
       within = rw (c.split_plain.ensures.front, c.split_plain.ensures.rest, length-run) (omega arith);
@@ -33,7 +33,7 @@ pub loop-rest-preserved : goal.loop-rest-preserved
 loop-rest-preserved c =
     let s = c.split_plain-in-Spelled in
     let less = step_within c.loop-rest.left.now c.in-Spelled.rest.now s.result.0.now s.result.1.now c.in-Spelled.field-0 c.in-Spelled.ensures s.ensures.front s.ensures.rest in
-    let e = ap (λ (t : Text). length t.bytes) (text_step c.loop-rest.left.now c.in-Spelled.rest.now s.result.0.now s.result.1.now c.in-Spelled.field-0 c.in-Spelled.ensures s.ensures.front s.ensures.rest) in
+    let e = ap (λ (t : ReadText). length t.bytes) (text_step c.loop-rest.left.now c.in-Spelled.rest.now s.result.0.now s.result.1.now c.in-Spelled.field-0 c.in-Spelled.ensures s.ensures.front s.ensures.rest) in
     record {
       counted = omega (arith, e, length-append s.result.0.now (text_of s.result.1.now).bytes);
       within = omega arith;

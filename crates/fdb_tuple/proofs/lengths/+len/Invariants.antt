@@ -1,5 +1,5 @@
 use Rattle.std.proofs.Common.{◌≡◌, ◌+◌, ◌-◌, ◌*◌, ◌^◌, min, length, take}
-use Rattle.fdb_tuple.specs.Tuples.{End, weight}
+use Rattle.fdb_tuple.specs.Tuples.{Empty, weight}
 use Rattle.fdb_tuple.specs.Listed.{before, tuple_of}
 use Rattle.fdb_tuple.specs.Spelling.{spelled_in}
 use Rattle.fdb_tuple.proofs.lengths.+len.Given as goal
@@ -12,4 +12,4 @@ abbrev pub decreases-tuple_len : goal.decreases-tuple_len
 decreases-tuple_len l = 2 * weight l.tuple.now + 1
 
 abbrev pub decreases-element_len : goal.decreases-element_len
-decreases-element_len l = 2 * weight (before l.element.now End)
+decreases-element_len l = 2 * weight (before l.element.now Empty)

@@ -1,5 +1,5 @@
 use Rattle.std.proofs.Common.{◌≡◌, ◌+◌, ◌*◌, ◌++◌, take}
-use Rattle.fdb_tuple.specs.Tuples.{End, weight}
+use Rattle.fdb_tuple.specs.Tuples.{Empty, weight}
 use Rattle.fdb_tuple.specs.Listed.{before, tuple_of}
 use Rattle.fdb_tuple.specs.Spelling.{spelled_in}
 use Rattle.fdb_tuple.proofs.putting.+put.Given as goal
@@ -15,4 +15,4 @@ abbrev pub decreases-put_tuple : goal.decreases-put_tuple
 decreases-put_tuple l = 3 * weight l.tuple.now + 1
 
 abbrev pub decreases-put_element : goal.decreases-put_element
-decreases-put_element l = 3 * weight (before l.element.now End)
+decreases-put_element l = 3 * weight (before l.element.now Empty)

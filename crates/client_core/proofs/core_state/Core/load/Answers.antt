@@ -1,12 +1,12 @@
 use Rattle.std.proofs.Common.{ℕ, refl, arith}
 use Rattle.machine_rules.specs.Worlds.{begun}
 use Rattle.client_core.specs.Stands.{StandsFor}
-use Rattle.client_core.specs.Contents.{kept_of}
+use Rattle.client_core.specs.Contents.{model_of}
 use Rattle.client_core.proofs.Loads.{first_kept, begun_stands}
 use Rattle.client_core.proofs.core_state.Core.load.Goals as goal
 use Rattle.client_core.proofs.core_state.Core.load.Goals.{After-new}
 
-first : (c : After-new) (words : ℕ → ℕ) → StandsFor (kept_of record { alloc = c.args.alloc; store = c.in_ok-store.store; transactions = c.new.result; next_life = 0; applied = 0 }) (begun c.args.pairs words)
+first : (c : After-new) (words : ℕ → ℕ) → StandsFor (model_of record { alloc = c.args.alloc; store = c.in_ok-store.store; transactions = c.new.result; next_life = 0; applied = 0 }) (begun c.args.pairs words)
 first c words =
     begun_stands _ c.args.pairs words
     (first_kept c.in_ok-store.store c.args.pairs c.in_ok-store.ensures.last c.in_ok-store.ensures.empty c.in_ok-store.ensures.first)

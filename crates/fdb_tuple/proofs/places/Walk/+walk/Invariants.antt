@@ -1,6 +1,6 @@
 use Rattle.std.proofs.Common.{◌≡◌, ◌+◌, ◌*◌, ◌++◌, length, drop}
 use Rattle.std.specs.Option.{option_to_list}
-use Rattle.fdb_tuple.specs.Tuples.{End, weight}
+use Rattle.fdb_tuple.specs.Tuples.{Empty, weight}
 use Rattle.fdb_tuple.specs.Listed.{before, tuple_of}
 use Rattle.fdb_tuple.specs.Spelling.{spelled_in}
 use Rattle.fdb_tuple.specs.Stamps.{stamp_places}
@@ -20,4 +20,4 @@ abbrev pub decreases-over_tuple : goal.decreases-over_tuple
 decreases-over_tuple l = 3 * weight l.tuple.now + 1
 
 abbrev pub decreases-over_element : goal.decreases-over_element
-decreases-over_element l = 3 * weight (before l.element.now End)
+decreases-over_element l = 3 * weight (before l.element.now Empty)

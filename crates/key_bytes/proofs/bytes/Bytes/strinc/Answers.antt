@@ -2,7 +2,7 @@ use Rattle.std.proofs.Common.{◌≡◌, ℕ, ◌+◌, ◌<◌, ◌≤◌, List,
 use Rattle.std.proofs.lemmas.List.{drop_more}
 use Rattle.std.proofs.lemmas.List.Elements.{All-from_get_or}
 use Rattle.key_bytes.specs.Successors.{strinc}
-use Rattle.key_bytes.specs.SuccessorLaws.{strinc-append, none_from_tops, strinc-IsLeastAbove}
+use Rattle.key_bytes.proofs.SuccessorLaws.{strinc-append, none_from_tops, strinc-IsLeastAbove}
 use Rattle.key_bytes.proofs.bytes.Bytes.strinc.Goals as goal
 
 -- all bytes are FF

@@ -13,10 +13,10 @@ use Rattle.txn_core.proofs.txn.Txn.changes.Goals as goal
 pub returns-clause-leads : goal.returns-clause-leads
 returns-clause-leads c = IfOk-weaker c.changes_of.result _ _ (λ changes is.
     ap (λ cs. changed cs (at c.args.store.now (last_of c.args.store.now))) is
-    ∙ changed_is c.in_ok-touched.field-0 (at c.args.store.now (last_of c.args.store.now)) (do_all c.args.self.now.operations (at c.args.store.now (last_of c.args.store.now)))
-    (λ q. (c.in_ok-touched.ensures {u = tt}).stands q ∙ sym (get-do_all c.args.self.now.operations (at c.args.store.now (last_of c.args.store.now)) q))) c.changes_of.ensures
+    ∙ changed_is c.in_ok-touched.field-0 (at c.args.store.now (last_of c.args.store.now)) (do_all c.args.self.now.mutations (at c.args.store.now (last_of c.args.store.now)))
+    (λ q. (c.in_ok-touched.ensures {u = tt}).stands q ∙ sym (get-do_all c.args.self.now.mutations (at c.args.store.now (last_of c.args.store.now)) q))) c.changes_of.ensures
 
 pub returns-clause-only : goal.returns-clause-only
 returns-clause-only c = IfOk-weaker c.changes_of.result _ _ (λ changes is.
-    subst (All (λ change. is_modified_by c.args.self.now.operations change.0 ≡ true)) (sym is)
-    (touched_modified c.args.self.now.operations c.in_ok-touched.field-0 (c.in_ok-touched.ensures {u = tt}).only)) c.changes_of.ensures
+    subst (All (λ change. is_modified_by c.args.self.now.mutations change.0 ≡ true)) (sym is)
+    (touched_modified c.args.self.now.mutations c.in_ok-touched.field-0 (c.in_ok-touched.ensures {u = tt}).only)) c.changes_of.ensures

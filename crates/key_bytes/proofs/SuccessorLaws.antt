@@ -7,38 +7,8 @@ use Rattle.std.proofs.lemmas.Cmp.{nat_list_cmp_total, tied_itself}
 use Rattle.std.proofs.lemmas.List.Elements.{All-nil, All-cons, All-head, All-tail, All-weaker}
 use Rattle.std.proofs.lemmas.Option.{same_Some, none-some}
 use Rattle.key_bytes.specs.Keys.{IsByteString, begins_with, key_lt, within}
+use Rattle.key_bytes.proofs.Orders.{lt_first, lt_later, lt_rest, not_below_alone, below_alone, irreflexive, head_le, head_ge}
 use Rattle.key_bytes.specs.Successors.{raised, strinc, IsAboveEach, IsLeastAbove}
-
--- ---- the order, by the first bytes
-
-pub lt_first : (a c : ℕ) (x y : List ℕ) → a < c → key_lt (a ∷ x) (c ∷ y) ≡ true
-lt_first a c x y h = grind (arith, nat_tests)
-
-pub lt_later : (a c : ℕ) (x y : List ℕ) → c < a → key_lt (a ∷ x) (c ∷ y) ≡ false
-lt_later a c x y h = grind (arith, nat_tests)
-
-pub lt_rest : (a c : ℕ) (x y : List ℕ) → a ≡ c → key_lt (a ∷ x) (c ∷ y) ≡ key_lt x y
-lt_rest a c x y h = grind (arith, nat_tests)
-
--- one byte alone is not above a key whose first byte is as great
-pub not_below_alone : (a c : ℕ) (x : List ℕ) → a ≤ c → key_lt (c ∷ x) (a ∷ []) ≡ false
-not_below_alone a c [] h = grind (arith, nat_tests)
-not_below_alone a c (d ∷ x) h = grind (arith, nat_tests)
-
-below_alone : (a c : ℕ) (x : List ℕ) → key_lt (c ∷ x) (a ∷ []) ≡ true → c < a
-below_alone a c [] h = grind (arith, nat_tests)
-below_alone a c (d ∷ x) h = grind (arith, nat_tests)
-
--- nothing is below itself
-pub irreflexive : (k : List ℕ) → key_lt k k ≡ false
-irreflexive k = ap is_lt (tied_itself nat_list_cmp_total k)
-
--- the first bytes of two keys are in the order of the keys, or the same
-head_le : (a c : ℕ) (x y : List ℕ) → key_lt (a ∷ x) (c ∷ y) ≡ true → a ≤ c
-head_le a c x y h = grind (arith, nat_tests)
-
-head_ge : (a c : ℕ) (x y : List ℕ) → key_lt (a ∷ x) (c ∷ y) ≡ false → c ≤ a
-head_ge a c x y h = grind (arith, nat_tests)
 
 -- ---- what begins with a byte and more
 

@@ -5,7 +5,7 @@ use Rattle.machine_rules.specs.declared.State.TheVariants as state
 use Rattle.machine_rules.specs.Machines.{Machine}
 
 -- the machine of the definitions, and whether it ran out of memory, after which it does nothing more
-pub record Held : Type 0 where
+pub record MachineModel : Type 0 where
   pub machine : Machine
   pub is_out_of_memory : Bool
 

@@ -3,7 +3,7 @@
 ghost use Rattle.std.specs.Prelude.{◌≡◌};
 ghost use Rattle.database_rules.specs.Atomics.{is_versionstamped};
 ghost use Rattle.database_rules.specs.Transactions as rules;
-ghost use Rattle.txn_core.specs.Edits.{operation_of};
+ghost use Rattle.txn_core.specs.Mutations.{mutation_of};
 ghost use Rattle.database_rules.specs.States.{touches};
 
 use database_rules::AtomicOp;
@@ -11,7 +11,7 @@ use key_bytes::{Bytes, Key, KeyRange};
 
 /// A write that a transaction keeps until its commit.
 #[derive(Debug, Drop)]
-pub enum Edit {
+pub enum Mutation {
     Set {
         key: Key,
         value: Bytes,
@@ -29,30 +29,30 @@ pub enum Edit {
     },
 }
 
-impl Edit {
+impl Mutation {
     /// How many bytes it counts. It takes no memory.
     pub(crate) fn bytes(&self) -> u64
-        ensures { result ≡ rules.bytes_of (operation_of self.now) }
+        ensures { result ≡ rules.mutation_size (mutation_of self.now) }
     {
         match self {
-            Edit::Set { key, value } => key.as_slice().len() as u64 + value.as_slice().len() as u64,
-            Edit::Clear { key } => 2 * key.as_slice().len() as u64 + 1,
-            Edit::ClearRange { range } => range.begin.as_slice().len() as u64
+            Mutation::Set { key, value } => key.as_slice().len() as u64 + value.as_slice().len() as u64,
+            Mutation::Clear { key } => 2 * key.as_slice().len() as u64 + 1,
+            Mutation::ClearRange { range } => range.begin.as_slice().len() as u64
                 + range.end.as_slice().len() as u64,
-            Edit::Atomic { key, operand, .. } => key.as_slice().len() as u64
+            Mutation::Atomic { key, operand, .. } => key.as_slice().len() as u64
                 + operand.as_slice().len() as u64,
         }
     }
 
     /// Whether it may change the value of `key`. It takes no memory.
     pub(crate) fn touches(&self, key: &Key) -> bool
-        ensures { result ≡ touches (operation_of self.now) key.now }
+        ensures { result ≡ touches (mutation_of self.now) key.now }
     {
         match self {
-            Edit::Set { key: own, .. } => key == own,
-            Edit::Clear { key: own } => key == own,
-            Edit::ClearRange { range } => range.has(key.as_slice()),
-            Edit::Atomic { key: own, .. } => key == own,
+            Mutation::Set { key: own, .. } => key == own,
+            Mutation::Clear { key: own } => key == own,
+            Mutation::ClearRange { range } => range.has(key.as_slice()),
+            Mutation::Atomic { key: own, .. } => key == own,
         }
     }
 }

@@ -1,12 +1,46 @@
--- The order of keys.
+-- Laws of the order of keys.
 use Rattle.std.proofs.Common.{◌≡◌, ℕ, ◌<◌, ◌≤◌, ◌⊎◌, inl, inr, true, false, not, List, [], ◌∷◌, refl, sym, ap, ◌∙◌, true≢false, arith}
 use Rattle.std.proofs.lemmas.Bool.{false≢true, cases_lt}
+use Rattle.std.proofs.lemmas.Bool.Decides.{nat_tests}
+use Rattle.std.proofs.lemmas.Cmp.{tied_itself}
 use Rattle.std.specs.declared.cmp.Ordering.{Ordering}
 use Rattle.std.specs.declared.cmp.Ordering.TheVariants.{Less, Equal, Greater}
 use Rattle.std.specs.Cmp.Lexicographic.{nat_list_cmp_total}
 use Rattle.std.specs.Ordering.{is_lt, ordering_reverse}
 use Rattle.key_bytes.specs.Keys.{key_cmp, key_lt, key_le, after}
-use Rattle.key_bytes.specs.SuccessorLaws.{lt_first, lt_later, lt_rest, not_below_alone, irreflexive}
+
+-- ---- the order, by the first bytes
+
+pub lt_first : (a c : ℕ) (x y : List ℕ) → a < c → key_lt (a ∷ x) (c ∷ y) ≡ true
+lt_first a c x y h = grind (arith, nat_tests)
+
+pub lt_later : (a c : ℕ) (x y : List ℕ) → c < a → key_lt (a ∷ x) (c ∷ y) ≡ false
+lt_later a c x y h = grind (arith, nat_tests)
+
+pub lt_rest : (a c : ℕ) (x y : List ℕ) → a ≡ c → key_lt (a ∷ x) (c ∷ y) ≡ key_lt x y
+lt_rest a c x y h = grind (arith, nat_tests)
+
+-- one byte alone is not above a key whose first byte is as great
+pub not_below_alone : (a c : ℕ) (x : List ℕ) → a ≤ c → key_lt (c ∷ x) (a ∷ []) ≡ false
+not_below_alone a c [] h = grind (arith, nat_tests)
+not_below_alone a c (d ∷ x) h = grind (arith, nat_tests)
+
+pub below_alone : (a c : ℕ) (x : List ℕ) → key_lt (c ∷ x) (a ∷ []) ≡ true → c < a
+below_alone a c [] h = grind (arith, nat_tests)
+below_alone a c (d ∷ x) h = grind (arith, nat_tests)
+
+-- nothing is below itself
+pub irreflexive : (k : List ℕ) → key_lt k k ≡ false
+irreflexive k = ap is_lt (tied_itself nat_list_cmp_total k)
+
+-- the first bytes of two keys are in the order of the keys, or the same
+pub head_le : (a c : ℕ) (x y : List ℕ) → key_lt (a ∷ x) (c ∷ y) ≡ true → a ≤ c
+head_le a c x y h = grind (arith, nat_tests)
+
+pub head_ge : (a c : ℕ) (x y : List ℕ) → key_lt (a ∷ x) (c ∷ y) ≡ false → c ≤ a
+head_ge a c x y h = grind (arith, nat_tests)
+
+-- ---- three keys
 
 pub less : (o : Ordering) → is_lt o ≡ true → o ≡ Less
 less Less h = refl
