@@ -1,2 +1,4 @@
 pub mod Orders
+pub mod Ranges
 pub mod SuccessorLaws
+pub mod Words

@@ -1,9 +1,7 @@
 -- Laws of strinc: it is the least key above every key that begins with a prefix, and ends the range of these keys.
 use Rattle.std.proofs.Common.{◌≡◌, ℕ, ◌+◌, ◌<◌, ◌≤◌, ◌⊎◌, ◌↔◌, Bool, true, false, cond, not, ◌&&◌, List, [], ◌∷◌, ◌++◌, Option, Some, None, All, IsTrue, nat_lt, inl, inr, refl, sym, ap, subst, ◌∙◌, true≢false, arith, lt-ltb, ltb-true, ltb-false, eq-eqb, le-ltb, le_antisymm, eq-or-lt_of_le}
 use Rattle.std.specs.Option.{option_map_or}
-use Rattle.std.specs.Ordering.{is_lt}
 use Rattle.std.proofs.lemmas.Bool.Decides.{nat_tests}
-use Rattle.std.proofs.lemmas.Cmp.{nat_list_cmp_total, tied_itself}
 use Rattle.std.proofs.lemmas.List.Elements.{All-nil, All-cons, All-head, All-tail, All-weaker}
 use Rattle.std.proofs.lemmas.Option.{same_Some, none-some}
 use Rattle.key_bytes.specs.Keys.{IsByteString, begins_with, key_lt, within}

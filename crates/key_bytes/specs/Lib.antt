@@ -2,3 +2,5 @@ pub mod Keys
 pub mod Successors
 pub mod Ranges
 pub mod Entries
+pub mod Rooms
+pub mod Forms

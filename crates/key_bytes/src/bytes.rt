@@ -8,14 +8,18 @@ ghost use Rattle.std.proofs.Common.{rules};
 ghost use Rattle.key_bytes.specs.Keys.{IsByteString, key_cmp, key_lt, after, begins_with};
 ghost use Rattle.key_bytes.specs.Successors.{strinc, IsLeastAbove};
 
+use crate::form::Form;
+use crate::short::Short;
 use std::alloc::{AllocError, Global};
 use std::cmp::Ordering;
 use std::marker::Model;
 
-/// A byte string. Contracts see the list of its bytes.
+/// A byte string. Contracts see the list of its bytes. Up to 22 bytes lie in place; more lie in memory that copies
+/// share, or, once bytes were added to them, in memory of their own.
 #[derive(Debug, Drop)]
 pub struct Bytes {
-    items: Vec<u8>,
+    alloc: Global,
+    form: Form,
 }
 
 /// A key of the database: a byte string.
@@ -27,9 +31,11 @@ impl Model for Bytes {
 
     ghost Value = { List ℕ };
 
-    ghost view = { λ bytes. bytes.items.items };
+    ghost use Rattle.key_bytes.specs.Forms.{items_of};
 
-    ghost invariant = { λ bytes. IsByteString bytes.items.items };
+    ghost view = { λ bytes. items_of bytes.form };
+
+    ghost invariant = { λ bytes. IsByteString (items_of bytes.form) };
 }
 
 impl Bytes {
@@ -38,76 +44,74 @@ impl Bytes {
         ensures { result ≡ [] }
     {
         Bytes {
-            items: Vec::new(alloc),
+            alloc,
+            form: Form::InPlace(Short::new()),
         }
     }
 
-    /// A copy of `bytes`.
+    /// A copy of `bytes`. Up to 22 of them take no memory.
     pub fn from_slice(alloc: Global, bytes: &[u8]) -> Result<Bytes, AllocError>
         ensures { IfOk result (λ copy. copy ≡ bytes.now) }
     {
         Ok(Bytes {
-            items: Vec::from_slice(alloc, bytes)?,
+            alloc,
+            form: Form::from_slice(alloc, bytes)?,
         })
     }
 
-    /// The byte string that holds these items. It takes no memory.
-    pub fn from_vec(items: Vec<u8>) -> Bytes
-        ensures { result ≡ items.items }
+    /// The byte string that holds these items. Where there are more than 22 they stay where they are.
+    pub fn from_vec(items: Vec<u8>) -> Result<Bytes, AllocError>
+        ensures { IfOk result (λ bytes. bytes ≡ items.items) }
     {
-        Bytes { items }
+        Ok(Bytes {
+            alloc: *items.allocator(),
+            form: Form::from_vec(items)?,
+        })
     }
 
-    /// A copy of this byte string, in the same allocator.
+    /// A copy of this byte string. Up to 22 bytes take no memory, and those that are shared none but a count.
     pub fn copy(&self) -> Result<Bytes, AllocError>
         ensures { IfOk result (λ copy. copy ≡ self.now) }
     {
-        Bytes::from_slice(*self.items.allocator(), self.items.as_slice())
+        Ok(Bytes {
+            alloc: self.alloc,
+            form: self.form.copy(self.alloc)?,
+        })
+    }
+
+    /// The allocator that this byte string was made with. It takes no memory.
+    pub fn allocator(&self) -> Global {
+        self.alloc
     }
 
     /// The bytes. It takes no memory.
     pub fn as_slice(&self) -> &[u8]
         ensures { result.now ≡ self.now }
     {
-        self.items.as_slice()
+        self.form.as_slice()
     }
 
     /// How many bytes there are. It takes no memory.
     pub fn len(&self) -> usize
         ensures { result ≡ length self.now }
     {
-        self.items.len()
+        self.as_slice().len()
     }
 
     /// Whether there is no byte. It takes no memory.
     pub fn is_empty(&self) -> bool
         ensures { result ≡ (length self.now == 0) }
     {
-        self.items.is_empty()
+        self.as_slice().is_empty()
     }
 
-    /// Keeps the first `len` bytes, or all where there are no more. It takes no memory.
-    pub fn truncate(&mut self, len: usize)
-        ensures { self.new ≡ take len self.old }
-    {
-        self.items.truncate(len);
-    }
-
-    /// Adds one byte at the end. After a refusal this byte string is unchanged.
-    pub fn push(&mut self, byte: u8) -> Result<(), AllocError>
-        ensures ok { OnOk result (self.new ≡ self.old ++ byte ∷ []) }
-        ensures err { OnErr result (self.new ≡ self.old) }
-    {
-        self.items.push(byte)?;
-        Ok(())
-    }
-
-    /// Adds `bytes` at the end. After a refusal this byte string is unchanged.
+    /// Adds `bytes` at the end. After a refusal this byte string is unchanged. Many additions in a row take time in
+    /// proportion to the bytes that were added.
     pub fn extend(&mut self, bytes: &[u8]) -> Result<(), AllocError>
         ensures ok { OnOk result (self.new ≡ self.old ++ bytes.now) }
         ensures err { OnErr result (self.new ≡ self.old) }
     {
-        self.items.extend_from_slice(bytes)
+        self.form.extend(self.alloc, bytes)
     }
 
     /// The least byte string above this one: this one followed by a `00`.
@@ -127,11 +131,12 @@ impl Bytes {
         ensures above { IfOk result (λ next. IfSome next (IsLeastAbove self.now)) }
         ensures none { IfOk result (λ next. (next ≡ None) ↔ All (λ byte. byte ≡ 255) self.now) }
     {
-        match self.items.iter().rposition(|&byte| byte < 255) {
+        let bytes = self.as_slice();
+        match bytes.iter().rposition(|&byte| byte < 255) {
             None => Ok(None),
             Some(last) => {
-                let mut next = Bytes::from_slice(*self.items.allocator(), &self.items[..last])?;
-                next.push(self.items[last] + 1)?;
+                let mut next = Bytes::from_slice(self.alloc, &bytes[..last])?;
+                next.extend(&[bytes[last] + 1])?;
                 Ok(Some(next))
             }
         }
@@ -141,14 +146,14 @@ impl Bytes {
     pub fn starts_with(&self, prefix: &[u8]) -> bool
         ensures { result ≡ begins_with self.now prefix.now }
     {
-        self.items.as_slice().starts_with(prefix)
+        self.as_slice().starts_with(prefix)
     }
 
-    /// That contracts see numbers from 0 to 255. It does nothing when it runs.
-    pub fn is_byte_string(&self)
+    /// For proofs: that contracts see numbers from 0 to 255. It does nothing when it runs.
+    pub fn shows_bytes(&self)
         ensures { IsByteString self.now }
     {
-        let _items = &self.items;
+        let _form = &self.form;
     }
 }
 
@@ -193,6 +198,6 @@ impl Ord for Bytes {
     ghost matches_eq = { texts_ties };
 
     fn cmp(&self, other: &Bytes) -> Ordering {
-        self.as_slice().cmp(other.as_slice())
+        self.form.cmp(&other.form)
     }
 }

@@ -8,8 +8,10 @@
 #![tactic(auto)]
 
 mod bytes;
+mod form;
 mod pairs;
 mod range;
+mod short;
 
 pub use bytes::{Bytes, Key, is_below};
 pub use pairs::{Pair, Pairs};

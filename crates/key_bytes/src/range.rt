@@ -1,6 +1,6 @@
 //! A range of keys.
 
-ghost use Rattle.std.specs.Prelude.{◌≡◌, not, IfOk};
+ghost use Rattle.std.specs.Prelude.{◌≡◌, ◌↔◌, ℕ, List, not, IfOk, IsTrue};
 
 use crate::bytes::{Bytes, Key, is_below};
 use std::alloc::{AllocError, Global};
@@ -14,7 +14,7 @@ pub struct KeyRange {
 
 impl KeyRange {
     ghost use Rattle.key_bytes.specs.Keys.{after, key_lt};
-    ghost use Rattle.key_bytes.specs.Ranges.{has, meets};
+    ghost use Rattle.key_bytes.specs.Ranges.{has, meets, IsInBoth};
 
     /// The range of the one key `key`: from it to the key after it.
     pub fn single(alloc: Global, key: &Key) -> Result<KeyRange, AllocError>
@@ -42,8 +42,11 @@ impl KeyRange {
 
     /// Whether some key is in both ranges: the greater begin is less than the lesser end. It takes no memory.
     pub fn meets(&self, other: &KeyRange) -> bool
-        ensures { result ≡ meets self.now other.now }
+        ensures value { result ≡ meets self.now other.now }
+        ensures common { IsTrue result ↔ ((key : List ℕ) × IsInBoth self.now other.now key) }
     {
+        self.begin.shows_bytes();
+        other.begin.shows_bytes();
         greater_of(&self.begin, &other.begin)
             .cmp(lesser_of(&self.end, &other.end))
             .is_lt()

@@ -25,13 +25,13 @@ pub returns-in-None-clause-value : goal.returns-in-None-clause-value
 returns-in-None-clause-value c = sym (none_is c.args.self.now (search rules))
 
 -- what the code makes
-made : (c : goal.In_ok-push-in-Some) → strinc c.args.self.now ≡ Some c.push.new.self
+made : (c : goal.In_ok-extend-in-Some) → strinc c.args.self.now ≡ Some c.extend.new.self
 made c =
     some_is c.args.self.now c.in-Some.last (search rules) (search rules) (search rules)
     ∙ ap Some (search rules)
 
-pub returns-in_ok-push-in-Some-clause-value : goal.returns-in_ok-push-in-Some-clause-value
-returns-in_ok-push-in-Some-clause-value c = sym (made c)
+pub returns-in_ok-extend-in-Some-clause-value : goal.returns-in_ok-extend-in-Some-clause-value
+returns-in_ok-extend-in-Some-clause-value c = sym (made c)
 
-pub returns-in_ok-push-in-Some-clause-above : goal.returns-in_ok-push-in-Some-clause-above
-returns-in_ok-push-in-Some-clause-above c = strinc-IsLeastAbove c.args.self.now c.push.new.self (search rules) (made c)
+pub returns-in_ok-extend-in-Some-clause-above : goal.returns-in_ok-extend-in-Some-clause-above
+returns-in_ok-extend-in-Some-clause-above c = strinc-IsLeastAbove c.args.self.now c.extend.new.self (search rules) (made c)

@@ -1,0 +1,54 @@
+use Rattle.std.proofs.Common.{◌≡◌, ◌≢◌, true, false, refl, sym, ap, ◌∙◌, true≢false}
+use Rattle.std.specs.Ordering.{is_ne}
+use Rattle.std.specs.declared.cmp.Ordering.{Ordering}
+use Rattle.std.specs.declared.cmp.Ordering.TheVariants.{Less, Equal, Greater}
+use Rattle.key_bytes.proofs.Words.{HasWords, first_words_decide, second_words_decide}
+use Rattle.key_bytes.proofs.short.Short.cmp.Goals as goal
+
+differs : (o : Ordering) → is_ne o ≡ true → o ≢ Equal
+differs o is e = true≢false (sym is ∙ ap is_ne e)
+
+ties : (o : Ordering) → is_ne o ≡ false → o ≡ Equal
+ties Less is = absurd (true≢false is)
+ties Equal is = refl
+ties Greater is = absurd (true≢false is)
+
+pub returns-then-is_ne : goal.returns-then-is_ne
+returns-then-is_ne c =
+    let words : HasWords 0 c.word_at.result c.word_at-2.result c.self.inside.room c.other.inside.room = record {
+      first_is = c.word_at.ensures.word;
+      second_is = c.word_at-2.ensures.word;
+      first_bytes = c.word_at.ensures.bytes;
+      second_bytes = c.word_at-2.ensures.bytes;
+      first_eight = c.word_at.ensures.eight;
+      second_eight = c.word_at-2.ensures.eight;
+    } in
+    rw (sym c.self.view_is, sym c.other.view_is) (
+    first_words_decide c.self.inside.len c.other.inside.len c.word_at.result c.word_at-2.result c.self.inside.room c.other.inside.room c.cmp-first.result
+    (c.word_at.ensures.whole ∙ sym c.word_at-2.ensures.whole) c.self.invariant.zeros c.other.invariant.zeros words c.cmp-first.ensures
+    (differs c.cmp-first.result (sym c.is_ne.ensures ∙ c.if-is_ne.true)))
+
+pub returns-then-is_ne-2 : goal.returns-then-is_ne-2
+returns-then-is_ne-2 c =
+    let words : HasWords 0 c.word_at.result c.word_at-2.result c.self.inside.room c.other.inside.room = record {
+      first_is = c.word_at.ensures.word;
+      second_is = c.word_at-2.ensures.word;
+      first_bytes = c.word_at.ensures.bytes;
+      second_bytes = c.word_at-2.ensures.bytes;
+      first_eight = c.word_at.ensures.eight;
+      second_eight = c.word_at-2.ensures.eight;
+    } in
+    let later : HasWords 8 c.word_at-3.result c.word_at-4.result c.self.inside.room c.other.inside.room = record {
+      first_is = c.word_at-3.ensures.word;
+      second_is = c.word_at-4.ensures.word;
+      first_bytes = c.word_at-3.ensures.bytes;
+      second_bytes = c.word_at-4.ensures.bytes;
+      first_eight = c.word_at-3.ensures.eight;
+      second_eight = c.word_at-4.ensures.eight;
+    } in
+    let same = sym c.cmp-first.ensures ∙ ties c.cmp-first.result (sym c.is_ne.ensures ∙ c.if-is_ne.false) in
+    rw (sym c.self.view_is, sym c.other.view_is) (
+    second_words_decide c.self.inside.len c.other.inside.len c.word_at.result c.word_at-2.result c.word_at-3.result c.word_at-4.result
+    c.self.inside.room c.other.inside.room c.cmp-second.result
+    (c.word_at.ensures.whole ∙ sym c.word_at-2.ensures.whole) c.self.invariant.zeros c.other.invariant.zeros words same later c.cmp-second.ensures
+    (differs c.cmp-second.result (sym c.is_ne-2.ensures ∙ c.if-is_ne-2.true)))

@@ -1,0 +1,119 @@
+//! A byte string of at most 22 bytes, kept where it is.
+
+ghost use Rattle.std.specs.Prelude.{◌≡◌, ◌+◌, ◌<◌, ◌≤◌, ◌++◌, [], length, take, drop};
+ghost use Rattle.std.specs.Int.{w64, from_be_bytes};
+ghost use Rattle.key_bytes.specs.Keys.{IsByteString, key_cmp};
+
+use std::cmp::Ordering;
+use std::marker::Model;
+
+// How many bytes there is room for.
+pub(crate) const SHORT_LIMIT: usize = 22;
+
+// A byte string of at most 22 bytes. Contracts see the list of its bytes. The room behind them is zero, so that two
+// are compared by whole words.
+#[derive(Debug)]
+pub(crate) struct Short {
+    len: u8,
+    room: [u8; 22],
+}
+
+impl Model for Short {
+    ghost use Rattle.std.specs.Prelude.{ℕ, List, take};
+    ghost use Rattle.key_bytes.specs.Rooms.{IsPadded};
+
+    ghost Value = { List ℕ };
+
+    ghost view = { λ short. take short.len short.room };
+
+    ghost invariant = { λ short. IsPadded short.len short.room };
+}
+
+impl Drop for Short {
+    fn drop(self) {
+        let Short { len: _, room: _ } = self;
+    }
+}
+
+impl Short {
+    // The empty byte string.
+    pub(crate) fn new() -> Short
+        ensures { result ≡ [] }
+    {
+        Short {
+            len: 0,
+            room: [0; SHORT_LIMIT],
+        }
+    }
+
+    // These bytes.
+    pub(crate) fn from_slice(bytes: &[u8]) -> Short
+        requires { length bytes.now ≤ SHORT_LIMIT }
+        ensures { result ≡ bytes.now }
+    {
+        Short::joined(&[], bytes)
+    }
+
+    // The first bytes with the others behind them.
+    pub(crate) fn joined(first: &[u8], second: &[u8]) -> Short
+        requires { length first.now + length second.now ≤ SHORT_LIMIT }
+        ensures { result ≡ first.now ++ second.now }
+    {
+        let len = first.len() + second.len();
+        let mut room = [0; SHORT_LIMIT];
+        room[..first.len()].copy_from_slice(first);
+        room[first.len()..len].copy_from_slice(second);
+        Short {
+            len: len as u8,
+            room,
+        }
+    }
+
+    // A copy.
+    pub(crate) fn copy(&self) -> Short
+        ensures { result ≡ self.now }
+    {
+        Short {
+            len: self.len,
+            room: self.room,
+        }
+    }
+
+    // The bytes.
+    pub(crate) fn as_slice(&self) -> &[u8]
+        ensures value { result.now ≡ self.now }
+        ensures short { length self.now ≤ SHORT_LIMIT }
+    {
+        &self.room[..usize::from(self.len)]
+    }
+
+    // Which of two stands first in the order of keys.
+    pub(crate) fn cmp(&self, other: &Short) -> Ordering
+        ensures { result ≡ key_cmp self.now other.now }
+    {
+        let first = word_at(&self.room, 0).cmp(&word_at(&other.room, 0));
+        if first.is_ne() {
+            return first;
+        }
+        let second = word_at(&self.room, 8).cmp(&word_at(&other.room, 8));
+        if second.is_ne() {
+            return second;
+        }
+        self.as_slice().cmp(other.as_slice())
+    }
+}
+
+// The eight bytes from a place on as one number, the highest first.
+#[inline(always)]
+fn word_at(room: &[u8; 22], at: usize) -> u64
+    requires { at ≤ 14 }
+    ensures word { result ≡ from_be_bytes w64 (take 8 (drop at room.now)) }
+    ensures bytes { IsByteString (take 8 (drop at room.now)) }
+    ensures eight { length (take 8 (drop at room.now)) ≡ 8 }
+    ensures whole { length room.now ≡ 22 }
+{
+    match room[at..].first_chunk::<8>() {
+        Some(chunk) => u64::from_be_bytes(*chunk),
+        None => 0,
+    }
+}
