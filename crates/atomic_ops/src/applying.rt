@@ -96,7 +96,7 @@ fn appended(alloc: Global, old: &[u8], operand: &[u8]) -> Result<Bytes, AllocErr
     let mut value = Vec::with_capacity(alloc, old.len() + operand.len())?;
     value.extend_from_slice(old)?;
     value.extend_from_slice(operand)?;
-    Ok(Bytes::from_vec(value))
+    Bytes::from_vec(value)
 }
 
 // No value where the old one is the operand, else the old one.

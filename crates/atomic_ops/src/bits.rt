@@ -40,5 +40,5 @@ pub(crate) fn bytewise(
     for (place, byte) in operand.iter().enumerate() {
         bits.push(joined(joining, byte_at(old, place), *byte))?;
     }
-    Ok(Bytes::from_vec(bits))
+    Bytes::from_vec(bits)
 }

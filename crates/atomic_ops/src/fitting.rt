@@ -20,5 +20,5 @@ pub(crate) fn fitted(alloc: Global, old: &[u8], operand: &[u8]) -> Result<Bytes,
     let mut kept = Vec::with_capacity(alloc, operand.len())?;
     kept.extend_from_slice(&old[..old.len().min(operand.len())])?;
     kept.resize(operand.len(), 0)?;
-    Ok(Bytes::from_vec(kept))
+    Bytes::from_vec(kept)
 }

@@ -18,7 +18,7 @@ pub(crate) fn sum(alloc: Global, old: &[u8], operand: &[u8]) -> Result<Bytes, Al
         sum.push((total % 256) as u8)?;
         carry = total / 256;
     }
-    Ok(Bytes::from_vec(sum))
+    Bytes::from_vec(sum)
 }
 
 // Whether the old value, as wide as the operand, is less: the highest byte in which the two differ decides.

@@ -23,9 +23,9 @@ impl Subspace {
     pub fn pack(&self, tuple: &Tuple) -> Result<Bytes, AllocError>
         ensures { IfOk result (λ key. key ≡ self.now.prefix ++ spelling tuple.now) }
     {
-        let mut key = self.prefix.copy()?;
+        let mut key = Vec::from_slice(self.prefix.allocator(), self.prefix.as_slice())?;
         pack_into(&mut key, tuple)?;
-        Ok(key)
+        Bytes::from_vec(key)
     }
 
     /// The tuple whose key this is. NotInside comes exactly where the key doesn't begin with the prefix; Unpack is the
@@ -49,8 +49,8 @@ impl Subspace {
     {
         let mut begin = self.pack(tuple)?;
         let mut end = begin.copy()?;
-        begin.push(0x00)?;
-        end.push(0xFF)?;
+        begin.extend(&[0x00])?;
+        end.extend(&[0xFF])?;
         Ok(KeyRange { begin, end })
     }
 

@@ -7,7 +7,7 @@ use Rattle.fdb_tuple.specs.declared.tuple.Elem.TheVariants as elem
 use Rattle.fdb_tuple.specs.Tuples.{Elements, Empty}
 use Rattle.fdb_tuple.specs.Listed.{before, tuple_of}
 use Rattle.fdb_tuple.specs.Order.{tuple_cmp}
-use Rattle.fdb_tuple.specs.BytesOrder.{nat_cmp-less, nat_cmp-equal, nat_cmp-greater}
+use Rattle.key_bytes.proofs.Orders.{nat_cmp-less, nat_cmp-equal, nat_cmp-greater}
 
 end_before : (y : Elem) (ys : Elements) → tuple_cmp Empty (before y ys) ≡ Less
 end_before (elem.Nested b) ys = refl

@@ -39,11 +39,15 @@ string_open whole [] h = refl
 string_open whole (zero ∷ rest) h = absurd (h.0 refl)
 string_open whole (suc b ∷ rest) h = ap (after_run (suc b ∷ [])) (string_open whole rest h.1)
 
+-- a run up to a 00 that no FF follows
+pub string_plain : (whole : ℕ) (bytes run after : List ℕ) → HasNoZero run → bytes ≡ run ++ 0 ∷ after → IsNoEscape after → string_at whole bytes ≡ Ok (run, after)
+string_plain whole bytes run after h split end =
+    ap (string_at whole) split ∙ string_run whole run (0 ∷ after) h ∙ ap (after_run run) (string_end whole after end) ∙ ap (λ (s : List ℕ). Ok (s, after)) (append-nil run)
+
 -- The steps of a loop that has read `out` before `rest`, where a run up to a 00 comes next.
 pub read_last : (whole : ℕ) (bytes out rest run after read : List ℕ) → after_run out (string_at whole rest) ≡ string_at whole bytes → HasNoZero run → rest ≡ run ++ 0 ∷ after → IsNoEscape after → read ≡ out ++ run → string_at whole bytes ≡ Ok (read, after)
 read_last whole bytes out rest run after read so_far h split end e =
-    let one : string_at whole rest ≡ Ok (run, after) = ap (string_at whole) split ∙ string_run whole run (0 ∷ after) h ∙ ap (after_run run) (string_end whole after end) ∙ ap (λ (s : List ℕ). Ok (s, after)) (append-nil run) in
-    sym so_far ∙ ap (after_run out) one ∙ ap (λ (s : List ℕ). Ok (s, after)) (sym e)
+    sym so_far ∙ ap (after_run out) (string_plain whole rest run after h split end) ∙ ap (λ (s : List ℕ). Ok (s, after)) (sym e)
 
 pub read_more : (whole : ℕ) (bytes out rest run after others read : List ℕ) → after_run out (string_at whole rest) ≡ string_at whole bytes → HasNoZero run → rest ≡ run ++ 0 ∷ after → after ≡ 0xFF ∷ others → read ≡ out ++ run ++ 0 ∷ [] → after_run read (string_at whole others) ≡ string_at whole bytes
 read_more whole bytes out rest run after others read so_far h split escape e =

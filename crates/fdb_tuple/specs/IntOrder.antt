@@ -12,7 +12,7 @@ use Rattle.std.proofs.lemmas.List.{reverse-append, length-reverse, map-append}
 use Rattle.std.proofs.lemmas.Bool.Decides.{nat_tests}
 use Rattle.key_bytes.specs.Keys.{key_cmp}
 use Rattle.fdb_tuple.specs.Spelling.{low_first, least_bytes, signed_byte, with_sign, int_code, signed_spelled, int_spelled}
-use Rattle.fdb_tuple.specs.BytesOrder.{ordering_then-assoc, nat_cmp-less, nat_cmp-greater, key_cmp-first_less, key_cmp-first_greater, key_cmp-same_front}
+use Rattle.key_bytes.proofs.Orders.{ordering_then-assoc, nat_cmp-less, nat_cmp-greater, key_cmp-first_less, key_cmp-first_greater, key_cmp-same_front}
 
 -- the order of the bytes of two magnitudes
 abbrev magnitude_cmp : Bool → ℕ → ℕ → Ordering

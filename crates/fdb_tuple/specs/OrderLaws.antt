@@ -13,7 +13,8 @@ use Rattle.key_bytes.specs.Keys.{key_cmp}
 use Rattle.fdb_tuple.specs.Tuples.{Scalar, Null, Bytes, Text, Int, Boolean, Uuid, Stamp, Elements, Empty, Single, Nested, greatest_magnitude, IsScalar, AreElements, IsTuple}
 use Rattle.fdb_tuple.specs.Spelling.{escaped, string_spelled, with_sign, int_code, signed_spelled, scalar_spelled, spelled_in, spelling}
 use Rattle.fdb_tuple.specs.Order.{rank, nested_rank, value_cmp, scalar_cmp, tuple_cmp}
-use Rattle.fdb_tuple.specs.BytesOrder.{ordering_then-assoc, ordering_then-equal, ordering_then-differ, nat_cmp-less, nat_cmp-equal, nat_cmp-greater, key_cmp-first_less, key_cmp-append, key_cmp-escaped, key_cmp-below_escape, IsBelowEscape}
+use Rattle.key_bytes.proofs.Orders.{ordering_then-assoc, ordering_then-equal, ordering_then-differ, nat_cmp-less, nat_cmp-equal, nat_cmp-greater, key_cmp-first_less, key_cmp-append}
+use Rattle.fdb_tuple.specs.BytesOrder.{key_cmp-escaped, key_cmp-below_escape, IsBelowEscape}
 use Rattle.fdb_tuple.specs.IntOrder.{key_cmp-int_spelled, nat_cmp-digits}
 
 -- ---- elements of different kinds: the first bytes decide

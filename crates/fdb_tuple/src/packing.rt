@@ -1,6 +1,6 @@
 //! Tuples as byte strings.
 
-ghost use Rattle.std.specs.Prelude.{◌≡◌, ◌+◌, ◌^◌, ◌<◌, [], ◌∷◌, ◌++◌, length, IfOk, OnOk, OnErr};
+ghost use Rattle.std.specs.Prelude.{◌≡◌, ◌+◌, ◌^◌, ◌<◌, [], ◌∷◌, ◌++◌, length, take, IfOk, OnOk, OnErr};
 ghost use Rattle.fdb_tuple.specs.Tuples.{Empty};
 ghost use Rattle.fdb_tuple.specs.Listed.{before};
 ghost use Rattle.fdb_tuple.specs.Spelling.{spelling};
@@ -18,24 +18,33 @@ use std::alloc::{AllocError, Global};
 pub fn pack(alloc: Global, tuple: &Tuple) -> Result<Bytes, AllocError>
     ensures { IfOk result (λ packed. packed ≡ spelling tuple.now) }
 {
-    let mut packed = with_room(alloc, packed_len(tuple))?;
+    let mut packed = Vec::with_capacity(alloc, packed_len(tuple))?;
     put_tuple(&mut packed, tuple, false)?;
-    Ok(packed)
+    Bytes::from_vec(packed)
 }
 
 /// The spelling of the tuple of this one element.
 pub fn pack_element(alloc: Global, element: &Elem) -> Result<Bytes, AllocError>
     ensures { IfOk result (λ packed. packed ≡ spelling (before element.now Empty)) }
 {
-    let mut packed = with_room(alloc, element_len(element, false))?;
+    let mut packed = Vec::with_capacity(alloc, element_len(element, false))?;
     put_element(&mut packed, element, false)?;
-    Ok(packed)
+    Bytes::from_vec(packed)
+}
+
+/// Adds the spelling of the tuple of this one element behind these bytes. After a refusal a part of it may stand behind
+/// what `to` held.
+pub fn pack_element_into(to: &mut Vec<u8>, element: &Elem) -> Result<(), AllocError>
+    ensures ok { OnOk result (to.new.items ≡ to.old.items ++ spelling (before element.now Empty)) }
+    ensures err { OnErr result (take (length to.old.items) to.new.items ≡ to.old.items) }
+{
+    put_element(to, element, false)
 }
 
 /// Adds the spelling of the tuple behind these bytes. After a refusal they are unchanged.
-pub fn pack_into(to: &mut Bytes, tuple: &Tuple) -> Result<(), AllocError>
-    ensures ok { OnOk result (to.new ≡ to.old ++ spelling tuple.now) }
-    ensures err { OnErr result (to.new ≡ to.old) }
+pub fn pack_into(to: &mut Vec<u8>, tuple: &Tuple) -> Result<(), AllocError>
+    ensures ok { OnOk result (to.new.items ≡ to.old.items ++ spelling tuple.now) }
+    ensures err { OnErr result (to.new.items ≡ to.old.items) }
 {
     let len = to.len();
     let put = put_tuple(to, tuple, false);
@@ -50,13 +59,10 @@ pub fn pack_into(to: &mut Bytes, tuple: &Tuple) -> Result<(), AllocError>
 pub fn range(alloc: Global, tuple: &Tuple) -> Result<KeyRange, AllocError>
     ensures { IfOk result (λ range. (range.begin ≡ spelling tuple.now ++ 0 ∷ []) × (range.end ≡ spelling tuple.now ++ 255 ∷ [])) }
 {
-    let room = packed_len(tuple).saturating_add(1);
-    let mut begin = with_room(alloc, room)?;
-    let mut end = with_room(alloc, room)?;
-    put_tuple(&mut begin, tuple, false)?;
-    end.extend(begin.as_slice())?;
-    begin.push(0x00)?;
-    end.push(0xFF)?;
+    let mut begin = pack(alloc, tuple)?;
+    let mut end = begin.copy()?;
+    begin.extend(&[0x00])?;
+    end.extend(&[0xFF])?;
     Ok(KeyRange { begin, end })
 }
 
@@ -68,16 +74,9 @@ pub fn pack_with_stamp(alloc: Global, prefix: &[u8], tuple: &Tuple) -> Result<By
     ensures { GivesPacked result (stamp_packed prefix.now tuple.now) }
 {
     let place = stamp_place(prefix.len(), tuple)?;
-    let mut packed = with_room(alloc, prefix.len() + packed_len(tuple) + 4)?;
-    packed.extend(prefix)?;
+    let mut packed = Vec::with_capacity(alloc, prefix.len() + packed_len(tuple) + 4)?;
+    packed.extend_from_slice(prefix)?;
     put_tuple(&mut packed, tuple, false)?;
-    packed.extend(&place.to_le_bytes())?;
-    Ok(packed)
-}
-
-// No bytes, with room for so many.
-fn with_room(alloc: Global, room: usize) -> Result<Bytes, AllocError>
-    ensures { IfOk result (λ bytes. bytes ≡ []) }
-{
-    Ok(Bytes::from_vec(Vec::with_capacity(alloc, room)?))
+    packed.extend_from_slice(&place.to_le_bytes())?;
+    Ok(Bytes::from_vec(packed)?)
 }

@@ -10,18 +10,17 @@ use std::marker::Model;
 /// A Unicode string. Contracts see the list of the bytes of its UTF-8.
 #[derive(Debug, Drop)]
 pub struct Text {
-    content: String,
+    content: Bytes,
 }
 
 impl Model for Text {
     ghost use Rattle.std.specs.Prelude.{ℕ, List, IsUtf8};
-    ghost use Rattle.std.specs.String.{string_bytes};
 
     ghost Value = { List ℕ };
 
-    ghost view = { λ text. string_bytes text.content };
+    ghost view = { λ text. text.content };
 
-    ghost invariant = { λ text. IsUtf8 (string_bytes text.content) };
+    ghost invariant = { λ text. IsUtf8 text.content };
 }
 
 impl Text {
@@ -30,23 +29,26 @@ impl Text {
         ensures { IfOk result (λ text. text ≡ s.now) }
     {
         Ok(Text {
-            content: String::from_str(alloc, s)?,
+            content: Bytes::from_slice(alloc, s.as_bytes())?,
         })
     }
 
     // The text with these bytes, if they are UTF-8. It takes no memory.
-    pub(crate) fn from_utf8(bytes: Vec<u8>) -> Option<Text>
-        ensures { MatchOption result (IsFalse (is_utf8 bytes.items)) (λ text. (text ≡ bytes.items) × IsTrue (is_utf8 bytes.items)) }
+    pub(crate) fn from_utf8(content: Bytes) -> Option<Text>
+        ensures { MatchOption result (IsFalse (is_utf8 content)) (λ text. (text ≡ content) × IsTrue (is_utf8 content)) }
     {
-        let content = String::from_utf8(bytes).ok()?;
-        Some(Text { content })
+        match str::from_utf8(content.as_slice()) {
+            Ok(_) => Some(Text { content }),
+            Err(_) => None,
+        }
     }
 
     /// The text. It takes no memory.
     pub fn as_str(&self) -> &str
         ensures { result.now ≡ self.now }
     {
-        self.content.as_str()
+        // The bytes are UTF-8, as the type's invariant says.
+        unsafe { str::from_utf8_unchecked(self.content.as_slice()) }
     }
 
     /// The bytes of the text's UTF-8. It takes no memory.
@@ -54,14 +56,14 @@ impl Text {
         ensures value { result.now ≡ self.now }
         ensures utf8 { IsUtf8 self.now }
     {
-        self.content.as_bytes()
+        self.content.as_slice()
     }
 
     /// The bytes of the text's UTF-8 themselves. It takes no memory.
     pub fn into_bytes(self) -> Bytes
         ensures { result ≡ self }
     {
-        Bytes::from_vec(self.content.into_bytes())
+        self.content
     }
 
     /// Adds another text at the end. After a refusal this text is unchanged.
@@ -69,7 +71,9 @@ impl Text {
         ensures ok { OnOk result (self.new ≡ self.old ++ other.now) }
         ensures err { OnErr result (self.new ≡ self.old) }
     {
-        self.content.push_str(other.as_str())
+        let bytes = other.as_bytes();
+        self.content.extend(bytes)?;
+        Ok(())
     }
 
     /// A copy of this Unicode string.
@@ -77,7 +81,7 @@ impl Text {
         ensures { IfOk result (λ copy. copy ≡ self.now) }
     {
         Ok(Text {
-            content: self.content.clone()?,
+            content: self.content.copy()?,
         })
     }
 }

@@ -114,7 +114,7 @@ impl Elem {
     {
         match self {
             Elem::Null | Elem::Bool(_) => {}
-            Elem::Bytes(bytes) => bytes.is_byte_string(),
+            Elem::Bytes(bytes) => bytes.shows_bytes(),
             Elem::Text(text) => {
                 let _bytes = text.as_bytes();
             }

@@ -1,6 +1,6 @@
 //! Byte strings as tuples.
 
-ghost use Rattle.std.specs.Prelude.{◌≡◌, ◌≢◌, suc, ◌≤◌, ◌<◌, [], ◌∷◌, ◌++◌, Ok, Err, length, Result, List, ℕ, IfOk, IfErr, OnOk, MatchOption, IsFalse};
+ghost use Rattle.std.specs.Prelude.{◌≡◌, ◌≢◌, suc, ◌≤◌, ◌<◌, [], ◌∷◌, ◌++◌, Ok, Err, length, Result, List, ℕ, IfOk, IfErr, IfSome, OnOk, MatchOption, IsFalse};
 ghost use Rattle.fdb_tuple.specs.declared.fault.UnpackFault.{UnpackFault};
 ghost use Rattle.fdb_tuple.specs.declared.tuple.Elem.{Elem};
 ghost use Rattle.fdb_tuple.specs.Tuples.{Elements, IsTuple, greatest_magnitude};
@@ -166,7 +166,7 @@ fn byte_string_of(alloc: Global, whole: usize, rest: &[u8]) -> Result<(Elem, &[u
     ensures { Gives (λ x. (x.0, x.1.now)) result (bytes_at whole rest.now) }
 {
     let (string, after) = string_of(alloc, whole, rest)?;
-    Ok((Elem::Bytes(Bytes::from_vec(string)), after))
+    Ok((Elem::Bytes(string), after))
 }
 
 #[tactic(auto, unfolding(crate::specs::Reading::text_at))]
@@ -186,7 +186,33 @@ fn text_of(
 }
 
 // The string up to its end.
-fn string_of(alloc: Global, whole: usize, bytes: &[u8]) -> Result<(Vec<u8>, &[u8]), UnpackFault>
+fn string_of(alloc: Global, whole: usize, bytes: &[u8]) -> Result<(Bytes, &[u8]), UnpackFault>
+    ensures { Gives (λ x. (x.0, x.1.now)) result (string_at whole bytes.now) }
+{
+    if let Some((run, after)) = unescaped_string(bytes) {
+        return Ok((Bytes::from_slice(alloc, run)?, after));
+    }
+    let (string, after) = escaped_string_of(alloc, whole, bytes)?;
+    Ok((Bytes::from_vec(string)?, after))
+}
+
+// The string up to its end, where no 00 stands in it.
+fn unescaped_string(bytes: &[u8]) -> Option<(&[u8], &[u8])>
+    ensures { IfSome result (λ found. (whole : ℕ) → string_at whole bytes.now ≡ Ok (found.0.now, found.1.now)) }
+{
+    let (run, after) = split_at_zero(bytes)?;
+    match after_escape(after) {
+        Some(_) => None,
+        None => Some((run, after)),
+    }
+}
+
+// The string up to its end, read run by run.
+fn escaped_string_of(
+    alloc: Global,
+    whole: usize,
+    bytes: &[u8],
+) -> Result<(Vec<u8>, &[u8]), UnpackFault>
     ensures { Gives (λ x. (x.0.items, x.1.now)) result (string_at whole bytes.now) }
 {
     let mut string = Vec::new(alloc);

@@ -1,5 +1,5 @@
 use Rattle.std.proofs.Common.{◌≡◌, ◌+◌, ◌/◌, ◌<◌, get_or, sym, ◌∙◌, subst, arith}
-use Rattle.database_rules.specs.Atomics.{fitted}
+use Rattle.database_rules.specs.Atomics.{fitted, little_sum}
 use Rattle.atomic_ops.proofs.Fitted.{length-fitted, get_or-fitted}
 use Rattle.atomic_ops.proofs.Little.{IsSummed, IsSummed-none, IsSummed-more, IsSummed-all}
 use Rattle.atomic_ops.proofs.numbers.sum.Goals as goal
@@ -26,5 +26,6 @@ pub returns : goal.returns
 returns c =
     let old = c.args.old.now in
     let operand = c.args.operand.now in
-    c.from_vec.ensures
-    ∙ IsSummed-all (fitted old operand) operand c.loop-place.place c.loop-place.carry c.loop-place.sum.items c.loop-place.invariant (omega (arith, length-fitted old operand)) (omega arith)
+    let summed : c.loop-place.sum.items ≡ little_sum (fitted old operand) operand =
+    IsSummed-all (fitted old operand) operand c.loop-place.place c.loop-place.carry c.loop-place.sum.items c.loop-place.invariant (omega (arith, length-fitted old operand)) (omega arith) in
+    rw (← summed) c.from_vec.ensures

@@ -6,7 +6,7 @@ use Rattle.fdb_tuple.proofs.putting.+put.Given as goal
 
 -- the elements so far are spelled
 abbrev pub invariant-put_tuple-loop-element : goal.invariant-put_tuple-loop-element
-invariant-put_tuple-loop-element l = l.out ≡ l.initial.out ++ spelled_in l.nested (tuple_of (take l.element-index l.element-items))
+invariant-put_tuple-loop-element l = l.out.items ≡ l.initial.out.items ++ spelled_in l.nested (tuple_of (take l.element-index l.element-items))
 
 abbrev pub decreases-put_nested : goal.decreases-put_nested
 decreases-put_nested l = 3 * weight l.tuple.now + 2

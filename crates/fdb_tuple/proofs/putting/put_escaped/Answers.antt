@@ -5,13 +5,13 @@ use Rattle.fdb_tuple.proofs.putting.put_escaped.Goals as goal
 
 pub loop-run-preserved : goal.loop-run-preserved
 loop-run-preserved c =
-    let out = c.loop-run.out in
+    let out = c.loop-run.out.items in
     let run' = c.in-Some.run'.now in
     let split = c.in-Some.ensures in
-    let written = c.in_ok-extend-2.ensures.ok ∙ ap (λ out. out ++ 0 ∷ 0xFF ∷ []) c.in_ok-extend.ensures.ok in
+    let written = c.in_ok-extend_from_slice-2.ensures.items ∙ ap (λ out. out ++ 0 ∷ 0xFF ∷ []) c.in_ok-extend_from_slice.ensures.items in
     record {
-      whole = escaped_more _ out c.loop-run.rest.now run' c.in-Some.after.now c.extend-in-Some.new.self c.loop-run.invariant.whole split.0 split.1 written;
-      front = rw (written, append_assoc) (front_more c.args.out.now out (run' ++ 0 ∷ 0xFF ∷ []) c.loop-run.invariant.front);
+      whole = escaped_more _ out c.loop-run.rest.now run' c.in-Some.after.now c.extend_from_slice-in-Some.new.self.items c.loop-run.invariant.whole split.0 split.1 written;
+      front = rw (written, append_assoc) (front_more c.args.out.now.items out (run' ++ 0 ∷ 0xFF ∷ []) c.loop-run.invariant.front);
     }
 
 pub returns-clause-ok : goal.returns-clause-ok

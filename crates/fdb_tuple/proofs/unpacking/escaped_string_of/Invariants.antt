@@ -1,6 +1,6 @@
 use Rattle.std.proofs.Common.{◌≡◌, length}
 use Rattle.fdb_tuple.specs.Reading.{after_run, string_at}
-use Rattle.fdb_tuple.proofs.unpacking.string_of.Given as goal
+use Rattle.fdb_tuple.proofs.unpacking.escaped_string_of.Given as goal
 
 -- what is read so far and what is left to read make the string
 abbrev pub invariant-loop-run : goal.invariant-loop-run

@@ -1,6 +1,6 @@
 use Rattle.std.proofs.Common.{◌++◌, ◌∷◌, [], ap, ◌∙◌}
 use Rattle.fdb_tuple.proofs.Strings.{read_last, read_more, read_open}
-use Rattle.fdb_tuple.proofs.unpacking.string_of.Goals as goal
+use Rattle.fdb_tuple.proofs.unpacking.escaped_string_of.Goals as goal
 
 pub returns-in_default-after_escape : goal.returns-in_default-after_escape
 returns-in_default-after_escape c =
