@@ -1,18 +1,18 @@
 //! The chain of each key, in the nodes of one slab.
 
-ghost use Rattle.std.specs.Prelude.{◌≡◌, ◌+◌, ◌-◌, ◌<◌, ◌≤◌, ℕ, length, option_copied, IsSome, IfOk, OnOk};
+ghost use Rattle.std.specs.Prelude.{◌≡◌, ◌+◌, ◌-◌, ◌<◌, ◌≤◌, ℕ, length, option_copied, IsSome, OnOk};
 ghost use Rattle.std.specs.BTreeMap.{IsOrdered};
 ghost use Rattle.std.specs.Map.Iter.{deref_pair};
 ghost use Rattle.std.specs.Option.{option_map};
 ghost use Rattle.key_bytes.specs.Keys.{key_cmp};
-ghost use Rattle.key_map.specs.Ends.{first, last};
+ghost use Rattle.key_map.specs.Ends.{last};
 ghost use Rattle.slab.specs.Slab.{slab_len, HasRoomFor};
 ghost use Rattle.version_store.specs.Changed.{change_of, changes_of, changed, changed_by};
 ghost use Rattle.version_store.specs.Chains.{chain_of, chains_of, head_of, database_of, AddsKeys, HaveHeads, KeepsKeys, Sound};
 ghost use Rattle.version_store.specs.Versions.{holding, present};
 
 use crate::changes::Change;
-use key_bytes::{Bytes, Key, Pair, Pairs};
+use key_bytes::{Bytes, Key};
 use slab::Slab;
 use std::alloc::{AllocError, Global};
 use std::collections::BTreeMap;
@@ -50,23 +50,6 @@ pub(crate) fn value_at<'a>(nodes: &'a Slab<Node>, head: Head, version: u64) -> O
     None
 }
 
-// The first key of a span that holds something at a version, and what it holds.
-pub(crate) fn first_present<'a>(
-    nodes: &'a Slab<Node>,
-    span: Range<'a, Bytes, Head>,
-    version: u64,
-) -> Option<(&'a Key, &'a Bytes)>
-    ensures { option_map deref_pair result
-        ≡ first (present version (chains_of nodes.now.slots span.entry)) }
-{
-    for (key, head) in span {
-        if let Some(value) = value_at(nodes, *head, version) {
-            return Some((key, value));
-        }
-    }
-    None
-}
-
 // The last key of a span that holds something at a version, and what it holds.
 pub(crate) fn last_present<'a>(
     nodes: &'a Slab<Node>,
@@ -82,29 +65,6 @@ pub(crate) fn last_present<'a>(
         }
     }
     None
-}
-
-// A copy of the pairs of a span at a version.
-pub(crate) fn copied(
-    alloc: Global,
-    nodes: &Slab<Node>,
-    span: Range<'_, Bytes, Head>,
-    version: u64,
-) -> Result<Pairs, AllocError>
-    ensures { IfOk result (λ pairs. pairs
-        ≡ present version (chains_of nodes.now.slots span.entry)) }
-{
-    let mut pairs = Pairs::new(alloc);
-    for (key, head) in span {
-        if let Some(value) = value_at(nodes, *head, version) {
-            let pair = Pair {
-                key: key.copy()?,
-                value: value.copy()?,
-            };
-            pairs.push(pair)?;
-        }
-    }
-    Ok(pairs)
 }
 
 // Gives a key a chain, which is empty, where it has none.

@@ -11,12 +11,11 @@ ghost use Rattle.database_rules.specs.Databases.{loaded, do_all};
 ghost use Rattle.version_store.specs.Versions.{at, last_of, oldest_of, IsReadable, IsFaultAt, IsReadyFor};
 ghost use Rattle.version_store.specs.Changed.{changed};
 
-use crate::chains::{
-    Head, Node, add_keys, copied, first_present, last_present, put_changes, value_at,
-};
+use crate::chains::{Head, Node, add_keys, last_present, put_changes, value_at};
 use crate::changes::Changes;
 use crate::fault::VersionFault;
 use crate::loading::load_heads;
+use crate::pairs_left::{PairsLeft, copied};
 use key_bytes::{Bytes, Key, Pairs};
 use slab::Slab;
 use std::alloc::{AllocError, Global};
@@ -142,7 +141,7 @@ impl Store {
         ensures err { IfErr result (IsFaultAt self.now version) }
     {
         self.check(version)?;
-        Ok(first_present(&self.nodes, self.tree.range(key..), version))
+        Ok(PairsLeft::new(&self.nodes, self.tree.range(key..), version).next())
     }
 
     /// The last pair at a version with a key that is less than `key`. TooOld exactly where the version is less than the
@@ -185,10 +184,18 @@ impl Store {
         self.last = version;
     }
 
+    /// The pairs at the last version, in the order of their keys, for a loop over them. It copies none, and takes no
+    /// memory.
+    pub fn pairs_left(&self) -> PairsLeft<'_>
+        ensures { result ≡ finite.entries (at self.now (last_of self.now)) }
+    {
+        PairsLeft::new(&self.nodes, self.tree.range(..), self.last)
+    }
+
     /// A copy of the pairs at the last version, in the order of their keys.
     pub fn pairs(&self) -> Result<Pairs, AllocError>
         ensures { IfOk result (λ pairs. pairs ≡ finite.entries (at self.now (last_of self.now))) }
     {
-        copied(self.alloc, &self.nodes, self.tree.range(..), self.last)
+        copied(self.alloc, self.pairs_left())
     }
 }

@@ -1,4 +1,6 @@
-ghost use Rattle.std.specs.Prelude.{◌≡◌, ℕ, ◌+◌, ◌^◌, ◌<◌, OnOk, OnErr};
+ghost use Rattle.std.specs.Prelude.{◌≡◌, ℕ, ◌+◌, ◌^◌, ◌<◌, [], ◌∷◌, length, IfOk, OnOk, OnErr};
+ghost use Rattle.std.specs.FinMap as finite;
+ghost use Rattle.std.specs.List.{flat_map};
 ghost use Rattle.version_store.specs.Changed.{changed};
 ghost use Rattle.version_store.specs.Versions.{at, last_of};
 
@@ -18,6 +20,20 @@ fn commit(store: &mut Store, changes: Changes) -> Result<(), AllocError>
     store.reserve(&changes)?;
     store.install(changes);
     Ok(())
+}
+
+// A caller, whose proof uses the contracts alone: the lengths of all keys and values, as a dump goes over them.
+fn lengths(alloc: Global, store: &Store) -> Result<Vec<usize>, AllocError>
+    ensures { IfOk result (λ lengths. lengths.items
+        ≡ flat_map (λ e. length e.0 ∷ length e.1 ∷ [])
+        (finite.entries (at store.now (last_of store.now)))) }
+{
+    let mut lengths = Vec::new(alloc);
+    for (key, value) in store.pairs_left() {
+        lengths.push(key.as_slice().len())?;
+        lengths.push(value.as_slice().len())?;
+    }
+    Ok(lengths)
 }
 
 // Commits where there is a version left.
