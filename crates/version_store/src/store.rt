@@ -5,7 +5,7 @@ ghost use Rattle.std.specs.FinMap as finite;
 ghost use Rattle.std.specs.List.{filter};
 ghost use Rattle.std.specs.Map.Iter.{deref_pair};
 ghost use Rattle.std.specs.Option.{option_map};
-ghost use Rattle.key_bytes.specs.Keys.{key_le, key_lt};
+ghost use Rattle.key_bytes.specs.Keys.{key_le, key_lt, within};
 ghost use Rattle.key_map.specs.Ends.{first, last};
 ghost use Rattle.database_rules.specs.Databases.{loaded, do_all};
 ghost use Rattle.version_store.specs.Versions.{at, last_of, oldest_of, IsReadable, IsFaultAt, IsReadyFor};
@@ -197,5 +197,18 @@ impl Store {
         ensures { IfOk result (λ pairs. pairs ≡ finite.entries (at self.now (last_of self.now))) }
     {
         copied(self.alloc, self.pairs_left())
+    }
+    /// A copy of the pairs at the last version with keys from `begin` up to `end`, `end` left out, in the order of their
+    /// keys. There is none where `begin` isn't less than `end`. It goes over that range of the tree alone.
+    pub fn pairs_between(&self, begin: &Key, end: &Key) -> Result<Pairs, AllocError>
+        ensures { IfOk result (λ pairs. pairs
+            ≡ filter (λ e. within begin.now end.now e.0)
+            (finite.entries (at self.now (last_of self.now)))) }
+    {
+        if !begin.cmp(end).is_lt() {
+            return Ok(Pairs::new(self.alloc));
+        }
+        let left = PairsLeft::new(&self.nodes, self.tree.range(begin..end), self.last);
+        copied(self.alloc, left)
     }
 }
