@@ -11,7 +11,7 @@ ghost use Rattle.database_rules.specs.Databases.{loaded, do_all};
 ghost use Rattle.version_store.specs.Versions.{at, last_of, oldest_of, IsReadable, IsFaultAt, IsReadyFor};
 ghost use Rattle.version_store.specs.Changed.{changed};
 
-use crate::chains::{Head, Node, add_keys, last_present, put_changes, value_at};
+use crate::chains::{Head, Node, add_keys, add_room, last_present, put_changes, value_at};
 use crate::changes::Changes;
 use crate::fault::VersionFault;
 use crate::loading::load_heads;
@@ -32,17 +32,16 @@ pub struct Store {
 }
 
 impl Model for Store {
-    ghost use Rattle.std.specs.Prelude.{◌-◌};
     ghost use Rattle.slab.specs.Slab.{slab_len};
     ghost use Rattle.version_store.specs.Versions.{Versions};
-    ghost use Rattle.version_store.specs.Chains.{chains_of, Sound};
+    ghost use Rattle.version_store.specs.Chains.{chains_of, room_of, Sound};
 
     ghost Value = { Versions };
 
     ghost view = { λ store. record {
       last = store.last;
       chains = chains_of store.nodes.slots store.tree.entries;
-      room = store.nodes.capacity - slab_len store.nodes;
+      room = room_of store.nodes;
     } };
 
     ghost invariant = { λ store. Sound store.nodes.slots (slab_len store.nodes) store.last store.tree.entries };
@@ -156,14 +155,15 @@ impl Store {
         Ok(last_present(&self.nodes, self.tree.range(..key), version))
     }
 
-    /// Takes the memory that installing these changes needs. Reads are as before, also after a refusal.
+    /// Takes the memory that installing these changes needs. Reads are as before, also after a refusal. More nodes than
+    /// 32 bits count are refused like want of memory.
     pub fn reserve(&mut self, changes: &Changes) -> Result<(), AllocError>
         ensures last { last_of self.new ≡ last_of self.old }
         ensures oldest { oldest_of self.new ≡ oldest_of self.old }
         ensures reads { (version : ℕ) → at self.new version ≡ at self.old version }
         ensures ready { OnOk result (IsReadyFor self.new changes.now) }
     {
-        self.nodes.reserve(changes.len())?;
+        add_room(&mut self.nodes, changes.len())?;
         add_keys(&mut self.tree, changes.as_slice())
     }
 
