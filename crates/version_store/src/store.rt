@@ -73,7 +73,10 @@ impl Store {
         ensures first { IfOk result (λ store. at store 1
             ≡ do_all (loaded pairs).mutations finite.empty) }
     {
-        let mut nodes = Slab::with_capacity(alloc, pairs.len())?;
+        // Half as much room again, so that the first commit finds room and need not move what was loaded. The system
+        // gives memory for a page of it when the page is first written.
+        let room = pairs.len().saturating_add(pairs.len() / 2);
+        let mut nodes = Slab::with_capacity(alloc, room)?;
         let tree = load_heads(alloc, &mut nodes, pairs)?;
         Ok(Store {
             alloc,
