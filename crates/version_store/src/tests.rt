@@ -183,11 +183,9 @@ fn shows_no_reserved_key(rt: HostRuntime) -> Result<(), Fail> {
     let alloc = rt.alloc();
     let mut store = Store::new(alloc);
     let mut changes = Changes::new(alloc);
-    assert!(rt; changes.is_empty());
     add(alloc, &mut changes, b"a", Some(b"1"))?;
     add(alloc, &mut changes, b"a", Some(b"2"))?;
     add(alloc, &mut changes, b"b", None)?;
-    changes.is_rising();
     assert_eq!(rt; changes.len(), 2);
     for change in changes.as_slice() {
         assert_eq!(rt; change.key.len(), 1);

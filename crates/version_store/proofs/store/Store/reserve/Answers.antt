@@ -49,7 +49,7 @@ unfolding IsReadyFor
 returns-clause-ready c =
     on_ok_weaker c.add_keys.result
     (λ added. (
-      omega (arith, c.in_ok-add_room.ensures.room, c.len.ensures),
+      omega (arith, c.in_ok-add_room.ensures.room, c.len.ensures.value),
       subst (All (λ change. HasKey (chains_of c.add_room.new.nodes.slots c.add_keys.new.tree.entries) change.0)) c.as_slice.ensures
           (HasKey-from_heads c.add_room.new.nodes.slots c.add_keys.new.tree.entries c.as_slice.result.now added),
     ))
