@@ -1,4 +1,3 @@
 pub mod Ends
 pub mod Inserted
 pub mod Lends
-pub mod Laws

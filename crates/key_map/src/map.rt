@@ -1,6 +1,6 @@
 //! An ordered map from keys to values.
 
-ghost use Rattle.std.specs.Prelude.{◌≡◌, ◌==◌, ℕ, List, [], not, None, IfOk, OnOk, OnErr};
+ghost use Rattle.std.specs.Prelude.{◌≡◌, ℕ, List, [], not, None, IfOk, OnOk, OnErr};
 ghost use Rattle.std.specs.Bool.{OnFalse};
 ghost use Rattle.std.specs.Borrow.{sem};
 ghost use Rattle.std.specs.List.{filter};
@@ -8,7 +8,7 @@ ghost use Rattle.std.specs.List.Sorted.{IsStrictlySortedBy};
 ghost use Rattle.std.specs.Map.{keys_of};
 ghost use Rattle.std.specs.Option.{option_map, option_copied, option_copied_mut};
 ghost use Rattle.std.specs.FinMap as finite;
-ghost use Rattle.std.specs.Map.Iter.{ShowsInOrder, GivesInOrder, deref_pair};
+ghost use Rattle.std.specs.Map.Iter.{GivesInOrder, deref_pair};
 ghost use Rattle.key_bytes.specs.Keys.{key_cmp, key_le, key_lt, within};
 ghost use Rattle.key_map.specs.Ends.{first, last};
 ghost use Rattle.key_map.specs.Inserted.{inserted};
@@ -16,7 +16,7 @@ ghost use Rattle.key_map.specs.Inserted.{inserted};
 use key_bytes::{Bytes, Key, Pair, Pairs};
 use std::alloc::{AllocError, Global};
 use std::collections::BTreeMap;
-use std::collections::btree_map::{IntoIter, Iter, Range};
+use std::collections::btree_map::{IntoIter, Range};
 use std::marker::Model;
 
 /// An ordered map from keys to values. Contracts see the finite map.
@@ -49,20 +49,6 @@ impl<V> KeyMap<V> {
             alloc,
             tree: BTreeMap::new(alloc),
         }
-    }
-
-    /// How many keys there are. It takes no memory.
-    pub fn len(&self) -> usize
-        ensures { result ≡ finite.len self.now }
-    {
-        self.tree.len()
-    }
-
-    /// Whether there is no key. It takes no memory.
-    pub fn is_empty(&self) -> bool
-        ensures { result ≡ (finite.len self.now == 0) }
-    {
-        self.len() == 0
     }
 
     /// The value of `key`, if it has one. It takes no memory.
@@ -135,14 +121,6 @@ impl<V> KeyMap<V> {
         self.tree.range(..key).next_back()
     }
 
-    /// The pairs in the order of their keys, for a loop over them. It takes no memory.
-    pub fn entries(&self) -> Iter<'_, Bytes, V>
-        ensures rest { result ≡ finite.entries self.now }
-        ensures runs { ShowsInOrder (deref_pair {K = List ℕ} {X = V}) }
-    {
-        self.tree.iter()
-    }
-
     /// The pairs themselves, in the order of their keys, for a loop that takes them. It takes no memory.
     pub fn into_entries(self) -> IntoIter<Bytes, V, Global>
     where
@@ -175,18 +153,6 @@ impl KeyMap<Bytes> {
         ensures { IfOk result (λ pairs. pairs ≡ finite.entries self.now) }
     {
         copied(self.alloc, self.tree.range(..))
-    }
-
-    /// A copy of the pairs with keys from `begin` up to `end`, `end` left out, in the order of their keys. There is
-    /// none where `begin` isn't less than `end`.
-    pub fn pairs_between(&self, begin: &Key, end: &Key) -> Result<Pairs, AllocError>
-        ensures { IfOk result (λ pairs. pairs
-            ≡ filter (λ e. within begin.now end.now e.0) (finite.entries self.now)) }
-    {
-        if !begin.cmp(end).is_lt() {
-            return Ok(Pairs::new(self.alloc));
-        }
-        copied(self.alloc, self.tree.range(begin..end))
     }
 }
 

@@ -1,5 +1,4 @@
-ghost use Rattle.std.specs.Prelude.{◌≡◌, ℕ, [], ◌∷◌, ◌++◌, length, IsSome, IfSome, IfOk, OnOk, OnErr, MatchOption};
-ghost use Rattle.std.specs.List.{flat_map};
+ghost use Rattle.std.specs.Prelude.{◌≡◌, ◌++◌, IsSome, IfSome, OnOk, OnErr, MatchOption};
 ghost use Rattle.std.specs.FinMap as finite;
 
 use super::*;
@@ -8,19 +7,6 @@ use std::alloc::{AllocError, Global};
 use std::test::Fail;
 
 // Callers, whose proofs use the contracts alone.
-
-// The lengths of all keys and values, as a dump goes over them.
-fn lengths(alloc: Global, map: &KeyMap<Bytes>) -> Result<Vec<usize>, AllocError>
-    ensures { IfOk result (λ lengths. lengths.items
-        ≡ flat_map (λ e. length e.0 ∷ length e.1 ∷ []) (finite.entries map.now)) }
-{
-    let mut lengths = Vec::new(alloc);
-    for (key, value) in map.entries() {
-        lengths.push(key.as_slice().len())?;
-        lengths.push(value.as_slice().len())?;
-    }
-    Ok(lengths)
-}
 
 // Sets a value where there is one.
 fn set_value(map: &mut KeyMap<u64>, key: &Key, value: u64) -> bool
@@ -51,14 +37,17 @@ fn key_of(alloc: Global, text: &[u8]) -> Result<Key, AllocError> {
     Bytes::from_slice(alloc, text)
 }
 
-// The pairs of these texts, `key=value` each.
+fn pair_of(alloc: Global, key: &[u8], value: &[u8]) -> Result<Pair, AllocError> {
+    Ok(Pair {
+        key: Bytes::from_slice(alloc, key)?,
+        value: Bytes::from_slice(alloc, value)?,
+    })
+}
+
 fn pairs_of(alloc: Global, texts: &[(&'static [u8], &'static [u8])]) -> Result<Pairs, AllocError> {
     let mut pairs = Pairs::new(alloc);
     for (key, value) in texts {
-        pairs.push(Pair {
-            key: Bytes::from_slice(alloc, key)?,
-            value: Bytes::from_slice(alloc, value)?,
-        })?;
+        pairs.push(pair_of(alloc, key, value)?)?;
     }
     Ok(pairs)
 }
@@ -75,25 +64,37 @@ fn shown(alloc: Global, pairs: &Pairs) -> Result<Bytes, AllocError> {
     Ok(text)
 }
 
+// What a key had before each of its inserts, what it has after it is set in its place, what is removed, and what is left.
+fn one_key(alloc: Global) -> Result<[Option<u64>; 5], AllocError> {
+    let key = key_of(alloc, b"a")?;
+    let mut map: KeyMap<u64> = KeyMap::new(alloc);
+    let first = map.insert(key.copy()?, 1)?;
+    let second = map.insert(key.copy()?, 2)?;
+    let _there = set_value(&mut map, &key, 3);
+    let set = map.get(&key).copied();
+    let removed = map.remove(&key);
+    Ok([first, second, set, removed, map.get(&key).copied()])
+}
+
 #[test]
 fn inserts_and_removes(rt: HostRuntime) -> Result<(), Fail> {
-    let key = key_of(rt.alloc(), b"a")?;
-    let mut map: KeyMap<u64> = KeyMap::new(rt.alloc());
-    assert_eq!(rt; map.insert(key.copy()?, 1)?, None);
-    assert_eq!(rt; map.insert(key.copy()?, 2)?, Some(1));
-    assert_eq!(rt; map.len(), 1);
-    assert!(rt; set_value(&mut map, &key, 3));
-    assert!(rt; map.contains_key(&key));
-    assert_eq!(rt; map.remove(&key), Some(3));
-    assert!(rt; map.is_empty());
+    assert_eq!(rt;
+        one_key(rt.alloc())?,
+        [None, Some(1), Some(3), Some(3), None]
+    );
     Ok(())
+}
+
+// The pairs of a map that was made of these.
+fn loaded(alloc: Global, texts: &[(&'static [u8], &'static [u8])]) -> Result<Bytes, AllocError> {
+    let map = KeyMap::from_pairs(alloc, pairs_of(alloc, texts)?)?;
+    shown(alloc, &map.pairs()?)
 }
 
 #[test]
 fn loads_pairs_in_any_order(rt: HostRuntime) -> Result<(), Fail> {
-    let alloc = rt.alloc();
-    let pairs = pairs_of(
-        alloc,
+    let text = loaded(
+        rt.alloc(),
         &[
             (b"b", b"1"),
             (b"", b"2"),
@@ -102,27 +103,27 @@ fn loads_pairs_in_any_order(rt: HostRuntime) -> Result<(), Fail> {
             (b"a", b"4"),
         ],
     )?;
-    let map = KeyMap::from_pairs(alloc, pairs)?;
-    let text = shown(alloc, &map.pairs()?)?;
     assert_eq!(rt; text.as_slice(), b"=2;a=4;a\0=;b=3;".as_slice());
-    assert_eq!(rt;
-        lengths(alloc, &map)?.as_slice(),
-        [0, 1, 1, 1, 2, 0, 1, 1].as_slice()
-    );
     Ok(())
 }
 
-#[test]
-fn finds_neighbours_and_ranges(rt: HostRuntime) -> Result<(), Fail> {
-    let alloc = rt.alloc();
+// Which keys of a, b and c are left where those from a to b are cleared, and whether b has one below it.
+fn neighbours(alloc: Global) -> Result<[bool; 4], AllocError> {
     let pairs = pairs_of(alloc, &[(b"a", b"1"), (b"b", b"2"), (b"c", b"3")])?;
     let mut map = KeyMap::from_pairs(alloc, pairs)?;
     let (a, b) = (key_of(alloc, b"a")?, key_of(alloc, b"b")?);
-    let text = shown(alloc, &map.pairs_between(&a, &b)?)?;
-    assert_eq!(rt; text.as_slice(), b"a=1;".as_slice());
     map.clear_range(&a, &b);
-    assert!(rt; map.prev(&b).is_none());
-    assert!(rt; map.next(&a).is_some());
+    Ok([
+        map.contains_key(&a),
+        map.contains_key(&b),
+        map.next(&a).is_some(),
+        map.prev(&b).is_some(),
+    ])
+}
+
+#[test]
+fn finds_neighbours(rt: HostRuntime) -> Result<(), Fail> {
+    assert_eq!(rt; neighbours(rt.alloc())?, [false, true, true, false]);
     Ok(())
 }
 
@@ -181,16 +182,22 @@ fn is_alike(alloc: Global, map: &KeyMap<u64>, list: &[Option<u64>]) -> Result<bo
     Ok(true)
 }
 
+// The first step after which the two differ.
+fn first_apart(alloc: Global) -> Result<Option<usize>, AllocError> {
+    let mut map = KeyMap::new(alloc);
+    let mut list = [None; 6];
+    for (i, step) in STEPS.iter().enumerate() {
+        take(alloc, &mut map, *step, i as u64)?;
+        take_naively(&mut list, *step, i as u64);
+        if !is_alike(alloc, &map, &list)? {
+            return Ok(Some(i));
+        }
+    }
+    Ok(None)
+}
+
 #[test]
 fn is_a_naive_list(rt: HostRuntime) -> Result<(), Fail> {
-    let mut map = KeyMap::new(rt.alloc());
-    let mut list = [None; 6];
-    let mut value = 0u64;
-    for step in STEPS {
-        value = value.wrapping_add(1);
-        take(rt.alloc(), &mut map, step, value)?;
-        take_naively(&mut list, step, value);
-        assert!(rt; is_alike(rt.alloc(), &map, &list)?);
-    }
+    assert_eq!(rt; first_apart(rt.alloc())?, None);
     Ok(())
 }

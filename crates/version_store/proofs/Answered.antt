@@ -7,8 +7,8 @@ use Rattle.std.specs.List.{filter}
 use Rattle.std.specs.List.Sorted.{IsStrictlySortedBy}
 use Rattle.std.specs.Map.{keys_of}
 use Rattle.std.specs.Option.{option_and_then}
-use Rattle.key_bytes.specs.Keys.{key_cmp, key_le, key_lt}
-use Rattle.key_map.proofs.Spans.{from_test, below_test}
+use Rattle.key_bytes.specs.Keys.{key_cmp, key_le, key_lt, within}
+use Rattle.key_map.proofs.Spans.{from_test, below_test, within_test}
 use Rattle.version_store.specs.declared.chains.Head.{Head}
 use Rattle.version_store.specs.Chains.{Slots, chain_of, head_of, database_of}
 use Rattle.version_store.specs.Versions.{holding}
@@ -36,3 +36,10 @@ module _ (version : ℕ) (slots : Slots) (heads : List (List ℕ × Head)) (risi
       ap (present_of version slots) (λ i. filter (λ e. below_test key e.0 i) heads)
       ∙ sym (filter-present_of slots version (λ k. key_lt k key) heads)
       ∙ ap (filter (λ e. key_lt e.0 key)) (sym (entries-database_of slots version heads rising))
+
+  -- the keys from one up to another
+  pub present_within : (end : List ℕ) → present_of version slots (filter (λ e. range_contains key_cmp (Included key) (Excluded end) e.0) heads) ≡ filter (λ e. within key end e.0) (entries (database_of version slots heads))
+  present_within end =
+      ap (present_of version slots) (λ i. filter (λ e. within_test key end e.0 i) heads)
+      ∙ sym (filter-present_of slots version (within key end) heads)
+      ∙ ap (filter (λ e. within key end e.0)) (sym (entries-database_of slots version heads rising))

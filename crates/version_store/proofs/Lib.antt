@@ -5,6 +5,7 @@ pub mod Loads
 pub mod Present
 pub mod Puts
 pub mod Rising
+pub mod Rooms
 pub mod Spans
 pub mod Stays
 pub mod Walks

@@ -1,5 +1,5 @@
 -- How chains lie in nodes: a head has its newest node and how many nodes there are.
-use Rattle.std.specs.Prelude.{◌≡◌, ℕ, zero, suc, ◌≤◌, List, [], ◌∷◌, Option, Some, None, slice_index_or, map}
+use Rattle.std.specs.Prelude.{◌≡◌, ℕ, zero, suc, ◌-◌, ◌^◌, ◌≤◌, List, [], ◌∷◌, Option, Some, None, slice_index_or, map, if◌then◌else◌, nat_lt}
 use Rattle.std.specs.BTreeMap.{is_at}
 use Rattle.std.specs.List.{All}
 use Rattle.std.specs.List.Sorted.{IsStrictlySortedBy}
@@ -7,6 +7,7 @@ use Rattle.std.specs.Map.{keys_of, lookup}
 use Rattle.std.specs.Option.{IfSome, IsSome}
 use Rattle.database_rules.specs.Databases.{Database}
 use Rattle.key_bytes.specs.Keys.{key_cmp}
+use Rattle.slab.specs.Slab.{Slab, slab_len}
 use Rattle.version_store.specs.declared.changes.Change.{Change}
 use Rattle.version_store.specs.declared.chains.Node.{Node}
 use Rattle.version_store.specs.declared.chains.Head.{Head}
@@ -15,6 +16,10 @@ use Rattle.version_store.specs.Versions.{Chain, database_at}
 -- the node or nothing at each place
 abbrev pub Slots : Type 0
 Slots = List (Option Node)
+
+-- how many nodes may come in: where 32 bits hold each place of the slab, as many as there is room for
+abbrev pub room_of : Slab Node → ℕ
+room_of nodes = if nat_lt nodes.capacity (2 ^ 32) then nodes.capacity - slab_len nodes else 0
 
 -- a node before what the chain from its older node on spells
 abbrev pub before_older : Option Node → (ℕ → Chain) → Chain

@@ -1,18 +1,18 @@
 //! The chain of each key, in the nodes of one slab.
 
-ghost use Rattle.std.specs.Prelude.{◌≡◌, ◌+◌, ◌-◌, ◌<◌, ◌≤◌, ℕ, length, option_copied, IsSome, IfOk, OnOk};
+ghost use Rattle.std.specs.Prelude.{◌≡◌, ◌+◌, ◌^◌, ◌<◌, ◌≤◌, ℕ, length, option_copied, IsSome, OnOk};
 ghost use Rattle.std.specs.BTreeMap.{IsOrdered};
 ghost use Rattle.std.specs.Map.Iter.{deref_pair};
 ghost use Rattle.std.specs.Option.{option_map};
 ghost use Rattle.key_bytes.specs.Keys.{key_cmp};
-ghost use Rattle.key_map.specs.Ends.{first, last};
+ghost use Rattle.key_map.specs.Ends.{last};
 ghost use Rattle.slab.specs.Slab.{slab_len, HasRoomFor};
 ghost use Rattle.version_store.specs.Changed.{change_of, changes_of, changed, changed_by};
-ghost use Rattle.version_store.specs.Chains.{chain_of, chains_of, head_of, database_of, AddsKeys, HaveHeads, KeepsKeys, Sound};
+ghost use Rattle.version_store.specs.Chains.{chain_of, chains_of, head_of, database_of, room_of, AddsKeys, HaveHeads, KeepsKeys, Sound};
 ghost use Rattle.version_store.specs.Versions.{holding, present};
 
 use crate::changes::Change;
-use key_bytes::{Bytes, Key, Pair, Pairs};
+use key_bytes::{Bytes, Key};
 use slab::Slab;
 use std::alloc::{AllocError, Global};
 use std::collections::BTreeMap;
@@ -23,15 +23,19 @@ use std::collections::btree_map::Range;
 pub(crate) struct Node {
     pub(crate) version: u64,
     pub(crate) value: Option<Bytes>,
-    pub(crate) older: usize,
+    pub(crate) older: u32,
 }
 
 // The chain of a key: the place of its newest node, and how many nodes it has. The last one's `older` says nothing.
+// Two numbers of 32 bits take 8 bytes less for each key.
 #[derive(Clone, Copy)]
 pub(crate) struct Head {
-    pub(crate) newest: usize,
-    pub(crate) len: usize,
+    pub(crate) newest: u32,
+    pub(crate) len: u32,
 }
+
+// The most room that the slab of nodes may have, so that each place, and the length of each chain, has 32 bits.
+pub(crate) const MOST_NODES: usize = u32::MAX as usize;
 
 // What a chain holds at a version.
 pub(crate) fn value_at<'a>(nodes: &'a Slab<Node>, head: Head, version: u64) -> Option<&'a Bytes>
@@ -40,29 +44,12 @@ pub(crate) fn value_at<'a>(nodes: &'a Slab<Node>, head: Head, version: u64) -> O
     let mut place = head.newest;
     let mut left = head.len;
     while left > 0 {
-        let node = nodes.get(place)?;
+        let node = nodes.get(place as usize)?;
         if node.version <= version {
             return node.value.as_ref();
         }
         place = node.older;
         left -= 1;
-    }
-    None
-}
-
-// The first key of a span that holds something at a version, and what it holds.
-pub(crate) fn first_present<'a>(
-    nodes: &'a Slab<Node>,
-    span: Range<'a, Bytes, Head>,
-    version: u64,
-) -> Option<(&'a Key, &'a Bytes)>
-    ensures { option_map deref_pair result
-        ≡ first (present version (chains_of nodes.now.slots span.entry)) }
-{
-    for (key, head) in span {
-        if let Some(value) = value_at(nodes, *head, version) {
-            return Some((key, value));
-        }
     }
     None
 }
@@ -84,27 +71,16 @@ pub(crate) fn last_present<'a>(
     None
 }
 
-// A copy of the pairs of a span at a version.
-pub(crate) fn copied(
-    alloc: Global,
-    nodes: &Slab<Node>,
-    span: Range<'_, Bytes, Head>,
-    version: u64,
-) -> Result<Pairs, AllocError>
-    ensures { IfOk result (λ pairs. pairs
-        ≡ present version (chains_of nodes.now.slots span.entry)) }
+// Makes room for so many nodes more. More than 32 bits count are refused like want of memory.
+pub(crate) fn add_room(nodes: &mut Slab<Node>, count: usize) -> Result<(), AllocError>
+    ensures room { OnOk result (count ≤ room_of nodes.new) }
+    ensures rest_kept { nodes.new ≡ record nodes.old { capacity = nodes.new.capacity } }
 {
-    let mut pairs = Pairs::new(alloc);
-    for (key, head) in span {
-        if let Some(value) = value_at(nodes, *head, version) {
-            let pair = Pair {
-                key: key.copy()?,
-                value: value.copy()?,
-            };
-            pairs.push(pair)?;
-        }
+    nodes.reserve(count)?;
+    if nodes.capacity() > MOST_NODES {
+        return Err(AllocError);
     }
-    Ok(pairs)
+    Ok(())
 }
 
 // Gives a key a chain, which is empty, where it has none.
@@ -145,6 +121,7 @@ fn put_change(
     change: Change,
 )
     requires room { HasRoomFor nodes.old 1 }
+    requires small { nodes.old.capacity < 2 ^ 32 }
     requires known { IsSome (head_of tree.old.entries change.key) }
     requires sound { Sound nodes.old.slots (slab_len nodes.old) version tree.old.entries }
     ensures sound { Sound nodes.new.slots (slab_len nodes.new) version tree.new.entries }
@@ -165,7 +142,7 @@ fn put_change(
         older: head.newest,
     });
     *head = Head {
-        newest,
+        newest: newest as u32,
         len: head.len + 1,
     };
 }
@@ -177,7 +154,7 @@ pub(crate) fn put_changes(
     version: u64,
     changes: Vec<Change>,
 )
-    requires room { length changes.items ≤ nodes.old.capacity - slab_len nodes.old }
+    requires room { length changes.items ≤ room_of nodes.old }
     requires known { HaveHeads tree.old.entries changes.items }
     requires sound { Sound nodes.old.slots (slab_len nodes.old) version tree.old.entries }
     ensures sound { Sound nodes.new.slots (slab_len nodes.new) version tree.new.entries }

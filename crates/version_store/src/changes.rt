@@ -1,6 +1,6 @@
 //! What a commit changes: keys with their values from then on.
 
-ghost use Rattle.std.specs.Prelude.{◌≡◌, ◌==◌, ◌<◌, List, [], ◌∷◌, ◌++◌, Some, length, slice_get, IfOk, OnOk, OnErr, IsTrue};
+ghost use Rattle.std.specs.Prelude.{◌≡◌, ◌<◌, List, [], ◌∷◌, ◌++◌, Some, length, slice_get, IfOk, OnOk, OnErr, IsTrue};
 ghost use Rattle.version_store.specs.Changed.{change_of, changes_of, is_above, IsRising};
 
 use key_bytes::{Bytes, Key};
@@ -41,18 +41,12 @@ impl Changes {
         }
     }
 
-    /// How many changes there are. It takes no memory.
+    /// How many changes there are, whose keys are distinct and rise. It takes no memory.
     pub fn len(&self) -> usize
-        ensures { result ≡ length self.now }
+        ensures value { result ≡ length self.now }
+        ensures rising { IsRising self.now }
     {
         self.items.len()
-    }
-
-    /// Whether there is no change. It takes no memory.
-    pub fn is_empty(&self) -> bool
-        ensures { result ≡ (length self.now == 0) }
-    {
-        self.items.is_empty()
     }
 
     /// The change at place `i`. It takes no memory.
@@ -83,22 +77,15 @@ impl Changes {
         Ok(())
     }
 
-    /// The changes in order, for a loop over them. It takes no memory.
-    pub fn as_slice(&self) -> &[Change]
+    // The changes in order, for a loop over them.
+    pub(crate) fn as_slice(&self) -> &[Change]
         ensures { changes_of result.now ≡ self.now }
     {
         self.items.as_slice()
     }
 
-    /// That the keys are distinct and rise. It does nothing when it runs.
-    pub fn is_rising(&self)
-        ensures { IsRising self.now }
-    {
-        let _items = &self.items;
-    }
-
-    /// The changes themselves, in order. It takes no memory.
-    pub fn into_vec(self) -> Vec<Change>
+    // The changes themselves, in order.
+    pub(crate) fn into_vec(self) -> Vec<Change>
         ensures { changes_of result.items ≡ self }
     {
         self.items

@@ -11,10 +11,12 @@ mod chains;
 mod changes;
 mod fault;
 mod loading;
+mod pairs_left;
 mod store;
 
 pub use changes::{Change, Changes};
 pub use fault::VersionFault;
+pub use pairs_left::PairsLeft;
 pub use store::Store;
 
 #[cfg(test)]

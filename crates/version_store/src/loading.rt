@@ -10,7 +10,7 @@ ghost use Rattle.version_store.specs.declared.chains.Head.{Head};
 ghost use Rattle.version_store.specs.Chains.{chain_of, chains_of, database_of, IsSoundHead, Sound};
 ghost use Rattle.version_store.specs.Loading.{first_chain, first_chains, AreSoundHeads};
 
-use crate::chains::{Head, Node};
+use crate::chains::{Head, MOST_NODES, Node};
 use key_bytes::{Bytes, Pairs};
 use slab::Slab;
 use std::alloc::{AllocError, Global};
@@ -48,7 +48,7 @@ fn place_all(
     Ok(heads)
 }
 
-// Puts a value into the nodes, as a chain of its own.
+// Puts a value into the nodes, as a chain of its own. A place that 32 bits don't hold is refused like want of memory.
 fn place(nodes: &mut Slab<Node>, value: Bytes) -> Result<Head, AllocError>
     ensures chain { IfOk result (λ head. chain_of nodes.new.slots head ≡ first_chain value) }
     ensures sound { IfOk result (IsSoundHead nodes.new.slots (slab_len nodes.new) 1) }
@@ -61,7 +61,13 @@ fn place(nodes: &mut Slab<Node>, value: Bytes) -> Result<Head, AllocError>
         value: Some(value),
         older: 0,
     })?;
-    Ok(Head { newest, len: 1 })
+    if newest >= MOST_NODES {
+        return Err(AllocError);
+    }
+    Ok(Head {
+        newest: newest as u32,
+        len: 1,
+    })
 }
 
 // The last head of each key.

@@ -5,18 +5,17 @@ ghost use Rattle.std.specs.FinMap as finite;
 ghost use Rattle.std.specs.List.{filter};
 ghost use Rattle.std.specs.Map.Iter.{deref_pair};
 ghost use Rattle.std.specs.Option.{option_map};
-ghost use Rattle.key_bytes.specs.Keys.{key_le, key_lt};
+ghost use Rattle.key_bytes.specs.Keys.{key_le, key_lt, within};
 ghost use Rattle.key_map.specs.Ends.{first, last};
 ghost use Rattle.database_rules.specs.Databases.{loaded, do_all};
 ghost use Rattle.version_store.specs.Versions.{at, last_of, oldest_of, IsReadable, IsFaultAt, IsReadyFor};
 ghost use Rattle.version_store.specs.Changed.{changed};
 
-use crate::chains::{
-    Head, Node, add_keys, copied, first_present, last_present, put_changes, value_at,
-};
+use crate::chains::{Head, Node, add_keys, add_room, last_present, put_changes, value_at};
 use crate::changes::Changes;
 use crate::fault::VersionFault;
 use crate::loading::load_heads;
+use crate::pairs_left::{PairsLeft, copied};
 use key_bytes::{Bytes, Key, Pairs};
 use slab::Slab;
 use std::alloc::{AllocError, Global};
@@ -33,17 +32,16 @@ pub struct Store {
 }
 
 impl Model for Store {
-    ghost use Rattle.std.specs.Prelude.{◌-◌};
     ghost use Rattle.slab.specs.Slab.{slab_len};
     ghost use Rattle.version_store.specs.Versions.{Versions};
-    ghost use Rattle.version_store.specs.Chains.{chains_of, Sound};
+    ghost use Rattle.version_store.specs.Chains.{chains_of, room_of, Sound};
 
     ghost Value = { Versions };
 
     ghost view = { λ store. record {
       last = store.last;
       chains = chains_of store.nodes.slots store.tree.entries;
-      room = store.nodes.capacity - slab_len store.nodes;
+      room = room_of store.nodes;
     } };
 
     ghost invariant = { λ store. Sound store.nodes.slots (slab_len store.nodes) store.last store.tree.entries };
@@ -75,7 +73,10 @@ impl Store {
         ensures first { IfOk result (λ store. at store 1
             ≡ do_all (loaded pairs).mutations finite.empty) }
     {
-        let mut nodes = Slab::with_capacity(alloc, pairs.len())?;
+        // Half as much room again, so that the first commit finds room and need not move what was loaded. The system
+        // gives memory for a page of it when the page is first written.
+        let room = pairs.len().saturating_add(pairs.len() / 2);
+        let mut nodes = Slab::with_capacity(alloc, room)?;
         let tree = load_heads(alloc, &mut nodes, pairs)?;
         Ok(Store {
             alloc,
@@ -142,7 +143,7 @@ impl Store {
         ensures err { IfErr result (IsFaultAt self.now version) }
     {
         self.check(version)?;
-        Ok(first_present(&self.nodes, self.tree.range(key..), version))
+        Ok(PairsLeft::new(&self.nodes, self.tree.range(key..), version).next())
     }
 
     /// The last pair at a version with a key that is less than `key`. TooOld exactly where the version is less than the
@@ -157,14 +158,15 @@ impl Store {
         Ok(last_present(&self.nodes, self.tree.range(..key), version))
     }
 
-    /// Takes the memory that installing these changes needs. Reads are as before, also after a refusal.
+    /// Takes the memory that installing these changes needs. Reads are as before, also after a refusal. More nodes than
+    /// 32 bits count are refused like want of memory.
     pub fn reserve(&mut self, changes: &Changes) -> Result<(), AllocError>
         ensures last { last_of self.new ≡ last_of self.old }
         ensures oldest { oldest_of self.new ≡ oldest_of self.old }
         ensures reads { (version : ℕ) → at self.new version ≡ at self.old version }
         ensures ready { OnOk result (IsReadyFor self.new changes.now) }
     {
-        self.nodes.reserve(changes.len())?;
+        add_room(&mut self.nodes, changes.len())?;
         add_keys(&mut self.tree, changes.as_slice())
     }
 
@@ -185,10 +187,31 @@ impl Store {
         self.last = version;
     }
 
+    /// The pairs at the last version, in the order of their keys, for a loop over them. It copies none, and takes no
+    /// memory.
+    pub fn pairs_left(&self) -> PairsLeft<'_>
+        ensures { result ≡ finite.entries (at self.now (last_of self.now)) }
+    {
+        PairsLeft::new(&self.nodes, self.tree.range(..), self.last)
+    }
+
     /// A copy of the pairs at the last version, in the order of their keys.
     pub fn pairs(&self) -> Result<Pairs, AllocError>
         ensures { IfOk result (λ pairs. pairs ≡ finite.entries (at self.now (last_of self.now))) }
     {
-        copied(self.alloc, &self.nodes, self.tree.range(..), self.last)
+        copied(self.alloc, self.pairs_left())
+    }
+    /// A copy of the pairs at the last version with keys from `begin` up to `end`, `end` left out, in the order of their
+    /// keys. There is none where `begin` isn't less than `end`. It goes over that range of the tree alone.
+    pub fn pairs_between(&self, begin: &Key, end: &Key) -> Result<Pairs, AllocError>
+        ensures { IfOk result (λ pairs. pairs
+            ≡ filter (λ e. within begin.now end.now e.0)
+            (finite.entries (at self.now (last_of self.now)))) }
+    {
+        if !begin.cmp(end).is_lt() {
+            return Ok(Pairs::new(self.alloc));
+        }
+        let left = PairsLeft::new(&self.nodes, self.tree.range(begin..end), self.last);
+        copied(self.alloc, left)
     }
 }

@@ -1,4 +1,6 @@
-ghost use Rattle.std.specs.Prelude.{◌≡◌, ℕ, ◌+◌, ◌^◌, ◌<◌, OnOk, OnErr};
+ghost use Rattle.std.specs.Prelude.{◌≡◌, ℕ, ◌+◌, ◌^◌, ◌<◌, [], ◌∷◌, length, IfOk, OnOk, OnErr};
+ghost use Rattle.std.specs.FinMap as finite;
+ghost use Rattle.std.specs.List.{flat_map};
 ghost use Rattle.version_store.specs.Changed.{changed};
 ghost use Rattle.version_store.specs.Versions.{at, last_of};
 
@@ -18,6 +20,20 @@ fn commit(store: &mut Store, changes: Changes) -> Result<(), AllocError>
     store.reserve(&changes)?;
     store.install(changes);
     Ok(())
+}
+
+// A caller, whose proof uses the contracts alone: the lengths of all keys and values, as a dump goes over them.
+fn lengths(alloc: Global, store: &Store) -> Result<Vec<usize>, AllocError>
+    ensures { IfOk result (λ lengths. lengths.items
+        ≡ flat_map (λ e. length e.0 ∷ length e.1 ∷ [])
+        (finite.entries (at store.now (last_of store.now)))) }
+{
+    let mut lengths = Vec::new(alloc);
+    for (key, value) in store.pairs_left() {
+        lengths.push(key.as_slice().len())?;
+        lengths.push(value.as_slice().len())?;
+    }
+    Ok(lengths)
 }
 
 // Commits where there is a version left.
@@ -46,91 +62,51 @@ fn add(
     Ok(())
 }
 
-// Commits one change of each of these keys.
-fn commit_all(
-    alloc: Global,
-    store: &mut Store,
-    all: &[(&'static [u8], Option<&'static [u8]>)],
-) -> Result<(), AllocError> {
+// Keys with their values from then on, or with none where a key is removed.
+type Given = (&'static [u8], Option<&'static [u8]>);
+
+fn changes_of(alloc: Global, all: &[Given]) -> Result<Changes, AllocError> {
     let mut changes = Changes::new(alloc);
     for (key, value) in all {
         add(alloc, &mut changes, key, *value)?;
     }
-    commit_next(store, changes)
+    Ok(changes)
 }
 
 fn key_of(alloc: Global, text: &[u8]) -> Result<Key, AllocError> {
     Bytes::from_slice(alloc, text)
 }
 
-// Whether both steps are refused.
-fn refuses(store: &Store, key: &Key, version: u64) -> bool {
-    store.next_at(key, version).is_err() && store.prev_at(key, version).is_err()
+fn pair_of(alloc: Global, key: &[u8], value: &[u8]) -> Result<Pair, AllocError> {
+    Ok(Pair {
+        key: Bytes::from_slice(alloc, key)?,
+        value: Bytes::from_slice(alloc, value)?,
+    })
 }
 
-#[test]
-fn answers_at_each_version(rt: HostRuntime) -> Result<(), Fail> {
-    let alloc = rt.alloc();
-    let mut store = Store::new(alloc);
-    commit_all(alloc, &mut store, &[(b"k", Some(b"1"))])?;
-    commit_all(alloc, &mut store, &[(b"k", None)])?;
-    let key = key_of(alloc, b"k")?;
-    assert_eq!(rt; store.last(), 2);
-    assert_eq!(rt; store.oldest(), 0);
-    assert_eq!(rt; store.get_at(&key, 0), Ok(None));
-    assert_eq!(rt; store.get_at(&key, 1), Ok(Some(b"1".as_slice())));
-    assert_eq!(rt; store.get_at(&key, 2), Ok(None));
-    assert_eq!(rt;
-        store.get_at(&key, 3),
-        Err(VersionFault::Future { last: 2 })
-    );
-    assert!(rt; refuses(&store, &key, 3));
-    Ok(())
-}
-
-// Pairs in this order.
-fn pairs_of(alloc: Global, all: &[(&'static [u8], &'static [u8])]) -> Result<Pairs, AllocError> {
-    let mut pairs = Pairs::new(alloc);
-    for (key, value) in all {
-        pairs.push(Pair {
-            key: Bytes::from_slice(alloc, key)?,
-            value: Bytes::from_slice(alloc, value)?,
-        })?;
+// Each pair as `key=value;`.
+fn shown(alloc: Global, pairs: &Pairs) -> Result<Vec<u8>, AllocError> {
+    let mut text = Vec::new(alloc);
+    for pair in pairs.as_slice() {
+        text.extend_from_slice(pair.key.as_slice())?;
+        text.extend_from_slice(b"=")?;
+        text.extend_from_slice(pair.value.as_slice())?;
+        text.extend_from_slice(b";")?;
     }
-    Ok(pairs)
+    Ok(text)
 }
 
-const LOADED: [(&[u8], &[u8]); 4] = [(b"c", b"1"), (b"a", b"2"), (b"c", b"3"), (b"b", b"")];
+// ---- what a store answers, beside tables
 
-const LEFT: [(&[u8], &[u8]); 3] = [(b"a", b"2"), (b"b", b""), (b"c", b"3")];
-
-#[test]
-fn loads_the_later_of_two_values(rt: HostRuntime) -> Result<(), Fail> {
-    let alloc = rt.alloc();
-    let store = Store::load(alloc, pairs_of(alloc, &LOADED)?)?;
-    assert_eq!(rt; store.last(), 1);
-    for (key, value) in LEFT {
-        let key = key_of(alloc, key)?;
-        assert_eq!(rt; store.get_at(&key, 0), Ok(None));
-        assert_eq!(rt; store.get_at(&key, 1), Ok(Some(value)));
-    }
-    assert!(rt; store.next_at(&key_of(alloc, b"")?, 0)?.is_none());
-    assert!(rt; is_beside(alloc, &store, (b"b", 1, b"b", b"a"))?);
-    assert_eq!(rt; store.pairs()?.len(), 3);
-    Ok(())
-}
-
-// A key, a version, and the keys that stand beside it then, empty where there is none.
-type Beside = (&'static [u8], u64, &'static [u8], &'static [u8]);
-
-const BESIDE: [Beside; 6] = [
-    (b"a", 0, b"", b""),
-    (b"b", 1, b"b", b"a"),
-    (b"b", 2, b"c", b"a"),
-    (b"c", 1, b"c", b"b"),
-    (b"c", 2, b"c", b"a"),
-    (b"d", 2, b"", b"c"),
-];
+// A key and a version, the value of the key then, and the keys that stand beside it: the first from it on, and the last
+// below it, both empty where there is none.
+type Read = (
+    &'static [u8],
+    u64,
+    Option<&'static [u8]>,
+    &'static [u8],
+    &'static [u8],
+);
 
 fn is_key(pair: Option<(&Key, &Bytes)>, key: &[u8]) -> bool {
     match pair {
@@ -139,47 +115,200 @@ fn is_key(pair: Option<(&Key, &Bytes)>, key: &[u8]) -> bool {
     }
 }
 
-fn is_beside(alloc: Global, store: &Store, beside: Beside) -> Result<bool, Fail> {
-    let (key, version, next, prev) = beside;
+fn is_read(alloc: Global, store: &Store, read: Read) -> Result<bool, Fail> {
+    let (key, version, value, next, prev) = read;
     let key = key_of(alloc, key)?;
-    Ok(is_key(store.next_at(&key, version)?, next) && is_key(store.prev_at(&key, version)?, prev))
+    Ok(
+        store.get_at(&key, version)? == value
+            && is_key(store.next_at(&key, version)?, next)
+            && is_key(store.prev_at(&key, version)?, prev),
+    )
+}
+
+// The first of these that the store answers otherwise.
+fn first_wrong(alloc: Global, store: &Store, reads: &[Read]) -> Result<Option<usize>, Fail> {
+    for (i, read) in reads.iter().enumerate() {
+        if !is_read(alloc, store, *read)? {
+            return Ok(Some(i));
+        }
+    }
+    Ok(None)
+}
+
+// Three keys, of which the second is removed at the second version.
+fn committed(alloc: Global) -> Result<Store, AllocError> {
+    let mut store = Store::new(alloc);
+    let given = changes_of(
+        alloc,
+        &[(b"a", Some(b"1")), (b"b", Some(b"2")), (b"c", Some(b"3"))],
+    )?;
+    commit_next(&mut store, given)?;
+    commit_next(&mut store, changes_of(alloc, &[(b"b", None)])?)?;
+    Ok(store)
+}
+
+const COMMITTED: [Read; 8] = [
+    (b"a", 0, None, b"", b""),
+    (b"b", 0, None, b"", b""),
+    (b"b", 1, Some(b"2"), b"b", b"a"),
+    (b"b", 2, None, b"c", b"a"),
+    (b"c", 1, Some(b"3"), b"c", b"b"),
+    (b"c", 2, Some(b"3"), b"c", b"a"),
+    (b"d", 1, None, b"", b"c"),
+    (b"d", 2, None, b"", b"c"),
+];
+
+fn first_wrong_committed(alloc: Global) -> Result<Option<usize>, Fail> {
+    first_wrong(alloc, &committed(alloc)?, &COMMITTED)
 }
 
 #[test]
-fn walks_past_absent_keys(rt: HostRuntime) -> Result<(), Fail> {
-    let alloc = rt.alloc();
-    let mut store = Store::new(alloc);
-    commit_all(
-        alloc,
-        &mut store,
-        &[(b"a", Some(b"1")), (b"b", Some(b"2")), (b"c", Some(b"3"))],
-    )?;
-    commit_all(alloc, &mut store, &[(b"b", None)])?;
-    for beside in BESIDE {
-        assert!(rt; is_beside(alloc, &store, beside)?);
-    }
-    assert_eq!(rt; store.pairs()?.len(), 2);
+fn answers_at_each_version(rt: HostRuntime) -> Result<(), Fail> {
+    assert_eq!(rt; first_wrong_committed(rt.alloc())?, None);
     Ok(())
+}
+
+// The faults of the three reads.
+fn faults_at(alloc: Global, version: u64) -> Result<[Option<VersionFault>; 3], AllocError> {
+    let store = committed(alloc)?;
+    let key = key_of(alloc, b"a")?;
+    Ok([
+        store.get_at(&key, version).err(),
+        store.next_at(&key, version).err(),
+        store.prev_at(&key, version).err(),
+    ])
+}
+
+// The last version and the oldest.
+fn versions_of(alloc: Global) -> Result<(u64, u64), AllocError> {
+    let store = committed(alloc)?;
+    Ok((store.last(), store.oldest()))
+}
+
+#[test]
+fn refuses_later_versions(rt: HostRuntime) -> Result<(), Fail> {
+    assert_eq!(rt; versions_of(rt.alloc())?, (2, 0));
+    assert_eq!(rt; faults_at(rt.alloc(), 2)?, [None; 3]);
+    let future = Some(VersionFault::Future { last: 2 });
+    assert_eq!(rt; faults_at(rt.alloc(), 3)?, [future; 3]);
+    assert_eq!(rt; faults_at(rt.alloc(), u64::MAX)?, [future; 3]);
+    Ok(())
+}
+
+// A begin and an end, and the pairs between them at the last version.
+const BETWEEN: [(&[u8], &[u8], &[u8]); 6] = [
+    (b"", b"d", b"a=1;c=3;"),
+    (b"a", b"c", b"a=1;"),
+    (b"a\0", b"c\0", b"c=3;"),
+    (b"b", b"c", b""),
+    (b"a", b"a", b""),
+    (b"c", b"a", b""),
+];
+
+fn is_between(
+    alloc: Global,
+    store: &Store,
+    begin: &[u8],
+    end: &[u8],
+    text: &[u8],
+) -> Result<bool, AllocError> {
+    let pairs = store.pairs_between(&key_of(alloc, begin)?, &key_of(alloc, end)?)?;
+    Ok(shown(alloc, &pairs)?.as_slice() == text)
+}
+
+fn first_wrong_between(alloc: Global) -> Result<Option<usize>, AllocError> {
+    let store = committed(alloc)?;
+    for (i, (begin, end, text)) in BETWEEN.iter().enumerate() {
+        if !is_between(alloc, &store, begin, end, text)? {
+            return Ok(Some(i));
+        }
+    }
+    Ok(None)
+}
+
+fn all_committed(alloc: Global) -> Result<Vec<u8>, AllocError> {
+    shown(alloc, &committed(alloc)?.pairs()?)
+}
+
+fn lengths_committed(alloc: Global) -> Result<Vec<usize>, AllocError> {
+    lengths(alloc, &committed(alloc)?)
+}
+
+#[test]
+fn gives_pairs_in_order(rt: HostRuntime) -> Result<(), Fail> {
+    assert_eq!(rt; first_wrong_between(rt.alloc())?, None);
+    assert_eq!(rt;
+        all_committed(rt.alloc())?.as_slice(),
+        b"a=1;c=3;".as_slice()
+    );
+    assert_eq!(rt;
+        lengths_committed(rt.alloc())?.as_slice(),
+        [1; 4].as_slice()
+    );
+    Ok(())
+}
+
+// Of two values of c the later stays.
+fn loaded(alloc: Global) -> Result<Store, AllocError> {
+    let mut pairs = Pairs::new(alloc);
+    pairs.push(pair_of(alloc, b"c", b"1")?)?;
+    pairs.push(pair_of(alloc, b"a", b"2")?)?;
+    pairs.push(pair_of(alloc, b"c", b"3")?)?;
+    pairs.push(pair_of(alloc, b"b", b"")?)?;
+    Store::load(alloc, pairs)
+}
+
+const LOADED: [Read; 6] = [
+    (b"", 0, None, b"", b""),
+    (b"c", 0, None, b"", b""),
+    (b"a", 1, Some(b"2"), b"a", b""),
+    (b"b", 1, Some(b""), b"b", b"a"),
+    (b"c", 1, Some(b"3"), b"c", b"b"),
+    (b"d", 1, None, b"", b"c"),
+];
+
+fn first_wrong_loaded(alloc: Global) -> Result<Option<usize>, Fail> {
+    first_wrong(alloc, &loaded(alloc)?, &LOADED)
+}
+
+fn all_loaded(alloc: Global) -> Result<Vec<u8>, AllocError> {
+    shown(alloc, &loaded(alloc)?.pairs()?)
+}
+
+#[test]
+fn loads_the_later_of_two_values(rt: HostRuntime) -> Result<(), Fail> {
+    assert_eq!(rt; first_wrong_loaded(rt.alloc())?, None);
+    assert_eq!(rt;
+        all_loaded(rt.alloc())?.as_slice(),
+        b"a=2;b=;c=3;".as_slice()
+    );
+    Ok(())
+}
+
+// Changes of a, which is given twice, and of b.
+fn some_changes(alloc: Global) -> Result<Changes, AllocError> {
+    changes_of(
+        alloc,
+        &[(b"a", Some(b"1")), (b"a", Some(b"2")), (b"b", None)],
+    )
+}
+
+// How many changes are reserved, the last version then, and whether a key is seen.
+fn reserved(alloc: Global) -> Result<(usize, u64, bool), Fail> {
+    let mut store = Store::new(alloc);
+    let changes = some_changes(alloc)?;
+    store.reserve(&changes)?;
+    let seen = store.next_at(&key_of(alloc, b"")?, 0)?.is_some();
+    Ok((
+        changes.len(),
+        store.last(),
+        seen || store.pairs_left().next().is_some(),
+    ))
 }
 
 #[test]
 fn shows_no_reserved_key(rt: HostRuntime) -> Result<(), Fail> {
-    let alloc = rt.alloc();
-    let mut store = Store::new(alloc);
-    let mut changes = Changes::new(alloc);
-    assert!(rt; changes.is_empty());
-    add(alloc, &mut changes, b"a", Some(b"1"))?;
-    add(alloc, &mut changes, b"a", Some(b"2"))?;
-    add(alloc, &mut changes, b"b", None)?;
-    changes.is_rising();
-    assert_eq!(rt; changes.len(), 2);
-    for change in changes.as_slice() {
-        assert_eq!(rt; change.key.len(), 1);
-    }
-    store.reserve(&changes)?;
-    assert_eq!(rt; store.last(), 0);
-    assert!(rt; store.next_at(&key_of(alloc, b"")?, 0)?.is_none());
-    assert!(rt; store.pairs()?.is_empty());
+    assert_eq!(rt; reserved(rt.alloc())?, (2, 0, false));
     Ok(())
 }
 
@@ -208,24 +337,24 @@ fn numbered(alloc: Global, number: u8) -> Result<Key, AllocError> {
 }
 
 #[derive(Clone, Copy)]
-struct Given {
+struct Entry {
     version: u64,
     number: u8,
     value: Option<u8>,
 }
 
 // What a key has at a version: what was given last, up to that version.
-fn plain_get(all: &[Given], number: u8, version: u64) -> Option<u8> {
+fn plain_get(all: &[Entry], number: u8, version: u64) -> Option<u8> {
     let mut value = None;
-    for given in all {
-        if given.number == number && given.version <= version {
-            value = given.value;
+    for entry in all {
+        if entry.number == number && entry.version <= version {
+            value = entry.value;
         }
     }
     value
 }
 
-fn plain_next(all: &[Given], number: u8, version: u64) -> Option<(u8, u8)> {
+fn plain_next(all: &[Entry], number: u8, version: u64) -> Option<(u8, u8)> {
     for next in number..KEYS {
         if let Some(value) = plain_get(all, next, version) {
             return Some((next, value));
@@ -234,7 +363,7 @@ fn plain_next(all: &[Given], number: u8, version: u64) -> Option<(u8, u8)> {
     None
 }
 
-fn plain_prev(all: &[Given], number: u8, version: u64) -> Option<(u8, u8)> {
+fn plain_prev(all: &[Entry], number: u8, version: u64) -> Option<(u8, u8)> {
     let mut prev = None;
     for below in 0..number {
         if let Some(value) = plain_get(all, below, version) {
@@ -265,7 +394,7 @@ impl Dice {
 fn commit_random(
     alloc: Global,
     store: &mut Store,
-    all: &mut Vec<Given>,
+    all: &mut Vec<Entry>,
     dice: &mut Dice,
 ) -> Result<(), AllocError> {
     let mut changes = Changes::new(alloc);
@@ -284,7 +413,7 @@ fn commit_random(
             Some(byte) => add(alloc, &mut changes, key.as_slice(), Some(&[byte]))?,
             None => add(alloc, &mut changes, key.as_slice(), None)?,
         }
-        all.push(Given {
+        all.push(Entry {
             version,
             number,
             value,
@@ -319,7 +448,7 @@ fn is_pair(
 fn is_alike_at(
     alloc: Global,
     store: &Store,
-    all: &[Given],
+    all: &[Entry],
     number: u8,
     version: u64,
 ) -> Result<bool, Fail> {
@@ -333,23 +462,81 @@ fn is_alike_at(
     )
 }
 
-#[test]
-fn is_a_plain_list(rt: HostRuntime) -> Result<(), Fail> {
-    let alloc = rt.alloc();
+// Whether the pairs that are left at the last version agree.
+fn is_alike_left(alloc: Global, store: &Store, all: &[Entry]) -> Result<bool, AllocError> {
+    let mut left = store.pairs_left();
+    for number in 0..KEYS {
+        let Some(byte) = plain_get(all, number, store.last()) else {
+            continue;
+        };
+        if !is_pair(alloc, left.next(), Some((number, byte)))? {
+            return Ok(false);
+        }
+    }
+    Ok(left.next().is_none())
+}
+
+fn parts_of(pair: Option<&Pair>) -> Option<(&Key, &Bytes)> {
+    match pair {
+        Some(pair) => Some((&pair.key, &pair.value)),
+        None => None,
+    }
+}
+
+// Whether the pairs between two keys agree.
+fn is_alike_between(
+    alloc: Global,
+    store: &Store,
+    all: &[Entry],
+    begin: u8,
+    end: u8,
+) -> Result<bool, AllocError> {
+    let pairs = store.pairs_between(&numbered(alloc, begin)?, &numbered(alloc, end)?)?;
+    let mut rest = pairs.as_slice().iter();
+    for number in begin..end {
+        let Some(byte) = plain_get(all, number, store.last()) else {
+            continue;
+        };
+        if !is_pair(alloc, parts_of(rest.next()), Some((number, byte)))? {
+            return Ok(false);
+        }
+    }
+    Ok(rest.next().is_none())
+}
+
+// Whether each key's reads at a version agree.
+fn is_alike(alloc: Global, store: &Store, all: &[Entry], version: u64) -> Result<bool, Fail> {
+    for number in 0..KEYS {
+        if !is_alike_at(alloc, store, all, number, version)? {
+            return Ok(false);
+        }
+    }
+    Ok(true)
+}
+
+// The first of 300 commits after which a store and the plain list differ.
+fn first_apart(alloc: Global) -> Result<Option<u64>, Fail> {
     let mut store = Store::new(alloc);
     let mut all = Vec::new(alloc);
     let mut dice = Dice { state: 1 };
     for commits in 1..301 {
         commit_random(alloc, &mut store, &mut all, &mut dice)?;
         let version = dice.roll(commits + 1);
-        for number in 0..KEYS {
-            assert!(rt;
-                is_alike_at(alloc, &store, &all, number, version)?,
-                "key {number} at {version}"
-            );
+        let (begin, end) = (dice.roll(KEYS as u64) as u8, dice.roll(KEYS as u64) as u8);
+        if !is_alike(alloc, &store, &all, version)?
+            || !is_alike_left(alloc, &store, &all)?
+            || !is_alike_between(alloc, &store, &all, begin, end)?
+            || store.last() != commits
+        {
+            return Ok(Some(commits));
         }
     }
-    assert_eq!(rt; store.last(), 300);
+    Ok(None)
+}
+
+#[test]
+fn is_a_plain_list(rt: HostRuntime) -> Result<(), Fail> {
+    assert_eq!(rt; first_apart(rt.alloc())?, None);
     Ok(())
 }
 
@@ -397,15 +584,21 @@ fn count_own(alloc: Global, store: &Store, version: u64) -> Result<u32, Fail> {
     Ok(count)
 }
 
-#[test]
-fn holds_many_keys(rt: HostRuntime) -> Result<(), Fail> {
-    let alloc = rt.alloc();
+// How many keys a store has at versions 1 and 2, how many have their own bytes at 1, and how many pairs there are.
+fn many(alloc: Global) -> Result<(u32, u32, u32, usize), Fail> {
     let mut store = Store::new(alloc);
     commit_each(alloc, &mut store, 1, true)?;
     commit_each(alloc, &mut store, 2, false)?;
-    assert_eq!(rt; count_at(alloc, &store, 1)?, 20_000);
-    assert_eq!(rt; count_at(alloc, &store, 2)?, 10_000);
-    assert_eq!(rt; count_own(alloc, &store, 1)?, 20_000);
-    assert_eq!(rt; store.pairs()?.len(), 10_000);
+    Ok((
+        count_at(alloc, &store, 1)?,
+        count_at(alloc, &store, 2)?,
+        count_own(alloc, &store, 1)?,
+        store.pairs()?.len(),
+    ))
+}
+
+#[test]
+fn holds_many_keys(rt: HostRuntime) -> Result<(), Fail> {
+    assert_eq!(rt; many(rt.alloc())?, (20_000, 10_000, 20_000, 10_000));
     Ok(())
 }

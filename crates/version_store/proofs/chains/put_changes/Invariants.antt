@@ -1,8 +1,8 @@
-use Rattle.std.proofs.Common.{◌≡◌, ℕ, ◌-◌, ◌<◌, ◌≤◌, length}
+use Rattle.std.proofs.Common.{◌≡◌, ℕ, ◌<◌, ◌≤◌, length}
 use Rattle.std.specs.Vec.Iter.{into_iter_items, into_iter_len}
 use Rattle.slab.specs.Slab.{slab_len}
 use Rattle.version_store.specs.Changed.{changes_of, changed}
-use Rattle.version_store.specs.Chains.{database_of, HaveHeads, Sound}
+use Rattle.version_store.specs.Chains.{database_of, room_of, HaveHeads, Sound}
 use Rattle.version_store.proofs.chains.put_changes.Given as goal
 
 -- the changes that are left, made on the database so far, give what all give at first
@@ -11,7 +11,7 @@ invariant-loop-change l =
     let left = into_iter_items l.change-iterator in
     Sound l.nodes.slots (slab_len l.nodes) l.version l.tree.entries
     × (into_iter_len l.change-iterator ≡ length left)
-    × (length left ≤ l.nodes.capacity - slab_len l.nodes)
+    × (length left ≤ room_of l.nodes)
     × HaveHeads l.tree.entries left
     × (changed (changes_of left) (database_of l.version l.nodes.slots l.tree.entries) ≡ changed (changes_of l.fn.changes.items) (database_of l.version l.fn.nodes.slots l.fn.tree.entries))
     × ((v : ℕ) → v < l.version → database_of v l.nodes.slots l.tree.entries ≡ database_of v l.fn.nodes.slots l.fn.tree.entries)

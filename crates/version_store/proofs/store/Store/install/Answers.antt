@@ -1,9 +1,8 @@
-use Rattle.std.proofs.Common.{◌+◌, ◌-◌, ◌≤◌, length, refl, sym, ap, subst, ◌∙◌, arith}
+use Rattle.std.proofs.Common.{◌+◌, ◌≤◌, length, refl, sym, ap, subst, ◌∙◌, arith}
 use Rattle.std.proofs.lemmas.List.{length-map}
 use Rattle.std.specs.List.{All}
-use Rattle.slab.specs.Slab.{slab_len}
 use Rattle.version_store.specs.Changed.{change_of, changes_of, changed}
-use Rattle.version_store.specs.Chains.{chains_of, database_of}
+use Rattle.version_store.specs.Chains.{chains_of, database_of, room_of}
 use Rattle.version_store.specs.Versions.{Versions, at, last_of, oldest_of, IsReadyFor, HasKey}
 use Rattle.version_store.proofs.Installed.{database_of-later, HaveHeads-from_keys}
 use Rattle.version_store.proofs.store.Store.install.Goals as goal
@@ -14,7 +13,7 @@ unfolding last_of
 overflow_add-version c = let same = ap last_of c.self.view_is in omega (arith, same, c.requires.next)
 
 -- what was reserved, over the parts
-ready : (c : After-into_vec) → (length (changes_of c.into_vec.result.items) ≤ c.self.inside.nodes.capacity - slab_len c.self.inside.nodes)
+ready : (c : After-into_vec) → (length (changes_of c.into_vec.result.items) ≤ room_of c.self.inside.nodes)
     × All (λ change. HasKey (chains_of c.self.inside.nodes.slots c.self.inside.tree.entries) change.0) (changes_of c.into_vec.result.items)
 unfolding IsReadyFor
 ready c =
