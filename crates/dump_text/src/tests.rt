@@ -47,10 +47,10 @@ fn input_of(
     key_len: usize,
     value_len: usize,
     byte: u8,
-) -> Result<Bytes, AllocError> {
+) -> Result<Vec<u8>, AllocError> {
     let key = vec![in alloc; byte; key_len]?;
     let value = vec![in alloc; byte; value_len]?;
-    let mut input = Bytes::new(alloc);
+    let mut input = Vec::new(alloc);
     write_pair_line(&mut input, key.as_slice(), value.as_slice())?;
     Ok(input)
 }
@@ -78,26 +78,26 @@ fn long_lines(rt: HostRuntime) -> Result<(), Fail> {
     Ok(())
 }
 
-fn all_bytes(alloc: Global) -> Result<Bytes, AllocError> {
-    let mut all = Bytes::new(alloc);
+fn all_bytes(alloc: Global) -> Result<Vec<u8>, AllocError> {
+    let mut all = Vec::new(alloc);
     for byte in 0..=255u8 {
         all.push(byte)?;
     }
     Ok(all)
 }
 
-fn written_again(alloc: Global, input: &[u8]) -> Result<Bytes, LineFault> {
+fn written_again(alloc: Global, input: &[u8]) -> Result<Vec<u8>, LineFault> {
     let pairs = read_lines(alloc, input)?;
-    let mut to = Bytes::new(alloc);
+    let mut to = Vec::new(alloc);
     for pair in pairs.as_slice() {
         write_pair_line(&mut to, pair.key.as_slice(), pair.value.as_slice())?;
     }
     Ok(to)
 }
 
-fn input_of_all(alloc: Global) -> Result<Bytes, AllocError> {
+fn input_of_all(alloc: Global) -> Result<Vec<u8>, AllocError> {
     let all = all_bytes(alloc)?;
-    let mut input = Bytes::from_slice(alloc, b"K \\=\nK \\x00a\\\\\\=~\\x7f\\xff\n")?;
+    let mut input = Vec::from_slice(alloc, b"K \\=\nK \\x00a\\\\\\=~\\x7f\\xff\n")?;
     write_pair_line(&mut input, all.as_slice(), all.as_slice())?;
     Ok(input)
 }
@@ -120,8 +120,8 @@ fn one_pair(rt: HostRuntime) -> Result<(), Fail> {
     Ok(())
 }
 
-fn dump(alloc: Global) -> Result<Bytes, AllocError> {
-    let mut to = Bytes::new(alloc);
+fn dump(alloc: Global) -> Result<Vec<u8>, AllocError> {
+    let mut to = Vec::new(alloc);
     write_machine_line(&mut to, 0, EndWord::Ended, 12, b"")?;
     write_machine_line(&mut to, 65_535, EndWord::BadInstruction, 0, b"w1\xff")?;
     write_item_line(&mut to, 3, 0, 18_446_744_073_709_551_615, b"\x15\x01")?;
