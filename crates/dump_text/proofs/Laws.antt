@@ -9,7 +9,8 @@ use Rattle.key_bytes.specs.Keys.{IsByteString, key_lt, top}
 use Rattle.line_rules.specs.Inputs.{pair_lines, IsSmall, IsInput}
 use Rattle.line_rules.specs.Printing.{separator, printed, printable, hexadecimal_digit, is_plain, backslash, pair_line}
 use Rattle.line_rules.specs.Reading.{ReadText, text_of, Stop, AtEnd, AtSeparator, AtFault, Line, Flaw, Bad, Long, Entry, pair_within, value_at, key_at, fields_at, pair_at, lines_of, with_first, size_of, Fault, Place, start, next_place, read_line, read_lines, joined, pairs_of, input_limit, pairs_limit, line_limit, key_limit, value_limit}
-use Rattle.dump_text.proofs.Pieces.{with_front, text_empty, text_parted}
+use Rattle.dump_text.specs.Texts.{with_front}
+use Rattle.dump_text.proofs.Pieces.{text_empty, text_parted}
 use Rattle.dump_text.proofs.Printed.{ending, text_was, text_printed}
 use Rattle.line_rules.specs.Lines.{IsFeedless, IsFeedless-append, whole_first}
 use Rattle.line_rules.specs.ReadLines.{guard_ok, neither, is_read}

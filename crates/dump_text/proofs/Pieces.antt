@@ -2,13 +2,10 @@
 use Rattle.std.proofs.Common.{◌≡◌, ℕ, zero, suc, ◌+◌, ◌<◌, Bool, true, false, cond, not, ◌&&◌, ◌==◌, ltb, ◌*◌, List, [], ◌∷◌, ◌++◌, length, refl, sym, ap, subst, ◌∙◌, append_assoc, arith}
 use Rattle.std.specs.List.{take_while}
 use Rattle.std.proofs.lemmas.List.{append-nil}
+use Rattle.dump_text.specs.Texts.{with_front}
 use Rattle.dump_text.proofs.Runs.{after, passes, fails, length-run}
 use Rattle.line_rules.specs.Printing.{is_plain, backslash, separator}
 use Rattle.line_rules.specs.Reading.{Piece, Nothing, Spelled, Separator, Unfit, piece_at, hexadecimal_piece, escaped_piece, digit_of, behind, read_on, ReadText, pieces, text_of, Stop, AtEnd, AtSeparator, AtFault}
-
--- what was read before, put before what is read
-abbrev pub with_front : List ℕ → ReadText → ReadText
-with_front front text = record text { bytes = front ++ text.bytes }
 
 -- behind each piece fewer bytes are left than before it, two fewer behind the separator
 abbrev pub Shorter : ℕ → Piece → Type 0
@@ -103,6 +100,10 @@ run_with p step (byte ∷ rest) =
 pub text_run : (bytes : List ℕ) → text_of bytes ≡ with_front (take_while is_plain bytes) (text_of (after is_plain bytes))
 text_run bytes = run_with is_plain plain_text bytes
 
+-- the text of a run and of what stands behind it
+pub text_parts : (bytes run left : List ℕ) → run ≡ take_while is_plain bytes → left ≡ after is_plain bytes → with_front run (text_of left) ≡ text_of bytes
+text_parts bytes run left f g = rw (f, g) (sym (text_run bytes))
+
 -- a spelled byte and the run behind it
 pub text_step : (bytes rest run left : List ℕ) (byte : ℕ) → Spelled byte rest ≡ piece_at bytes → run ≡ take_while is_plain rest → left ≡ after is_plain rest
     → text_of bytes ≡ with_front (byte ∷ run) (text_of left)
@@ -113,22 +114,6 @@ pub step_within : (bytes rest run left : List ℕ) (byte : ℕ) → Spelled byte
 step_within bytes rest run left byte e f g =
     let less : length rest < length bytes = rw (← e) at (shorter bytes) in
     rw (f, g, length-run is_plain rest) less
-
--- where no byte is spelled, none is read
-abbrev pub IsSpelled : Piece → Type 0
-IsSpelled Nothing = ⊥
-IsSpelled (Spelled byte rest) = Unit {0}
-IsSpelled (Separator rest) = ⊥
-IsSpelled Unfit = ⊥
-
-nothing_read_on : (bytes : List ℕ) (p : Piece) (t : ReadText) → (IsSpelled p → ⊥) → (read_on bytes p t).bytes ≡ []
-nothing_read_on bytes Nothing t h = refl
-nothing_read_on bytes (Spelled byte rest) t h = absurd (h tt)
-nothing_read_on bytes (Separator rest) t h = refl
-nothing_read_on bytes Unfit t h = refl
-
-pub none_read : (bytes : List ℕ) → (IsSpelled (piece_at bytes) → ⊥) → (text_of bytes).bytes ≡ []
-none_read bytes h = ap (λ (t : ReadText). t.bytes) (text_read_on bytes) ∙ nothing_read_on bytes (piece_at bytes) (text_of (behind (piece_at bytes))) h
 
 -- ---- where reading stops
 

@@ -22,6 +22,9 @@ length-run p bytes =
     let n = prefix_len p bytes in
     sym (length-append (take n bytes) (drop n bytes)) ∙ ap length (take-append-drop n bytes)
 
+pub parts_within : (bytes run left : List ℕ) → run ≡ take_while is_plain bytes → left ≡ after is_plain bytes → length run + length left ≡ length bytes
+parts_within bytes run left f g = rw (f, g) (length-run is_plain bytes)
+
 -- behind the run no byte passes at the front
 pub after_stops : (p : ℕ → Bool) (bytes : List ℕ) → prefix_len p (after p bytes) ≡ 0
 after_stops p [] = refl

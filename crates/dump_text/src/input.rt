@@ -66,7 +66,12 @@ fn is_too_many(place: Place, line: &InputLine<'_>) -> bool
 
 /// The pair of the line at a place, or its first fault.
 #[tactic(auto, unfolding(line_rules::specs::Reading::read_line))]
-fn read_line(alloc: Global, place: Place, line: &InputLine<'_>) -> Result<Pair, LineFault>
+fn read_line(
+    alloc: Global,
+    scratch: &mut Vec<u8>,
+    place: Place,
+    line: &InputLine<'_>,
+) -> Result<Pair, LineFault>
     requires { place.bytes + size_of (line_is line.now) < 2 ^ 64 }
     ensures { Gives entry_of result (read_line (place_is line.now.number place) (line_is line.now)) }
 {
@@ -76,7 +81,7 @@ fn read_line(alloc: Global, place: Place, line: &InputLine<'_>) -> Result<Pair, 
     if line.bytes.len() > LINE_LIMIT {
         return Err(LineFault::TooLong { line: line.number });
     }
-    read_pair(alloc, line)
+    read_pair(alloc, scratch, line)
 }
 
 /// The pairs of an input, or its first fault.
@@ -84,6 +89,8 @@ fn read_pairs(alloc: Global, bytes: &[u8]) -> Result<Pairs, LineFault>
     ensures { Gives (λ pairs. pairs) result (pairs_of bytes.now) }
 {
     let mut pairs = Pairs::new(alloc);
+    // Each text with an escape in it is built here.
+    let mut scratch = Vec::new(alloc);
     let mut left = bytes;
     let mut number = 1;
     while !left.is_empty() {
@@ -92,7 +99,7 @@ fn read_pairs(alloc: Global, bytes: &[u8]) -> Result<Pairs, LineFault>
             pairs: pairs.len(),
         };
         let (line, rest) = first_line(number, left);
-        let pair = read_line(alloc, place, &line)?;
+        let pair = read_line(alloc, &mut scratch, place, &line)?;
         pairs.push(pair)?;
         left = rest;
         number += 1;

@@ -4,7 +4,7 @@ ghost use Rattle.std.specs.Prelude.{◌≡◌, ◌<◌, ◌++◌, false, Some, t
 ghost use Rattle.line_rules.specs.Printing.{is_plain, in_digits, printed, printable, printable_but, hexadecimal_digit};
 ghost use Rattle.dump_text.specs.Growing.{Grew};
 
-use crate::plain::split_plain;
+use crate::plain::{add_run, split_plain};
 use key_bytes::Bytes;
 use memchr::memchr;
 use std::alloc::AllocError;
@@ -39,18 +39,6 @@ fn add_escape(to: &mut Vec<u8>, byte: u8) -> Result<(), AllocError>
         return to.extend_from_slice(b"\\\\");
     }
     add_digits(to, byte)
-}
-
-/// Adds bytes at the end, often none. After a refusal `to` is unchanged.
-#[inline(always)]
-fn add_run(to: &mut Vec<u8>, run: &[u8]) -> Result<(), AllocError>
-    ensures ok { OnOk result (to.new.items ≡ to.old.items ++ run.now) }
-    ensures err { OnErr result (to.new.items ≡ to.old.items) }
-{
-    if run.is_empty() {
-        return Ok(());
-    }
-    to.extend_from_slice(run)
 }
 
 /// Adds the printable form of `bytes`. After a refusal a part of it stands behind what `to` held.
