@@ -14,20 +14,20 @@ use key_bytes::{Pair, Pairs};
 use memchr::memchr;
 use std::alloc::Global;
 
-/// How many bytes an input may have.
+// How many bytes an input may have.
 const INPUT_LIMIT: usize = 67_108_864;
 
-/// How many lines of pairs an input may have.
+// How many lines of pairs an input may have.
 const PAIRS_LIMIT: usize = 1_000_000;
 
-/// What stands before a line: so many bytes, and so many lines of pairs.
+// What stands before a line: so many bytes, and so many lines of pairs.
 #[derive(Clone, Copy)]
 struct Place {
     bytes: usize,
     pairs: usize,
 }
 
-/// The first line of bytes that aren't empty, and what is left behind it. It takes no memory.
+// The first line of bytes that aren't empty, and what is left behind it. It takes no memory.
 fn first_line(number: u32, bytes: &[u8]) -> (InputLine<'_>, &[u8])
     requires { 0 < length bytes.now }
     ensures number { result.0.number ≡ number }
@@ -55,7 +55,7 @@ fn first_line(number: u32, bytes: &[u8]) -> (InputLine<'_>, &[u8])
     }
 }
 
-/// Whether a line passes the limits of an input. It takes no memory.
+// Whether a line passes the limits of an input. It takes no memory.
 fn is_too_many(place: Place, line: &InputLine<'_>) -> bool
     requires { place.bytes + size_of (line_is line.now) < 2 ^ 64 }
     ensures { result ≡ is_too_many (place_is line.now.number place) (line_is line.now) }
@@ -64,7 +64,7 @@ fn is_too_many(place: Place, line: &InputLine<'_>) -> bool
     end > INPUT_LIMIT || place.pairs >= PAIRS_LIMIT && line.is_pair()
 }
 
-/// The pair of the line at a place, or its first fault.
+// The pair of the line at a place, or its first fault.
 #[tactic(auto, unfolding(line_rules::specs::Reading::read_line))]
 fn read_line(
     alloc: Global,
@@ -84,7 +84,7 @@ fn read_line(
     read_pair(alloc, scratch, line)
 }
 
-/// The pairs of an input, or its first fault.
+// The pairs of an input, or its first fault.
 fn read_pairs(alloc: Global, bytes: &[u8]) -> Result<Pairs, LineFault>
     ensures { Gives (λ pairs. pairs) result (pairs_of bytes.now) }
 {
@@ -107,7 +107,8 @@ fn read_pairs(alloc: Global, bytes: &[u8]) -> Result<Pairs, LineFault>
     Ok(pairs)
 }
 
-/// The pairs of an input: its lines are those of pairs. A fault is the first one of the input.
+/// The pairs of an input, in its order: its lines are those of pairs. An error is the first fault of the input, with
+/// its line and its place, or that memory ran out; nothing of the input is kept then.
 pub fn read_lines(alloc: Global, bytes: &[u8]) -> Result<Pairs, LineFault>
     // What is read is spelled so.
     ensures found { IfOk result (λ pairs. IsInput bytes.now pairs) }

@@ -15,10 +15,10 @@ use std::alloc::Global;
 /// How many bytes a line may have before its line feed.
 pub const LINE_LIMIT: usize = 440_004;
 
-/// How many bytes a key may have.
+// How many bytes a key may have.
 const KEY_LIMIT: usize = 10_000;
 
-/// How many bytes a value may have.
+// How many bytes a value may have.
 const VALUE_LIMIT: usize = 100_000;
 
 /// A line of an input without its line feed, with its number, and whether the line feed is there.
@@ -37,7 +37,7 @@ impl InputLine<'_> {
         matches!(self.bytes, [b'K', ..])
     }
 
-    /// That the byte at this place fits no rule. It takes no memory.
+    // The fault that the byte at this place fits no rule. It takes no memory.
     fn bad_at(&self, place: usize) -> LineFault
         requires { place < 2 ^ 32 }
         ensures { result ≡ LineFault.BadLine self.now.number place }
@@ -49,7 +49,7 @@ impl InputLine<'_> {
     }
 }
 
-/// Whether a key is less than `FF`, which its first byte tells. It takes no memory.
+// Whether a key is less than `FF`, which its first byte tells. It takes no memory.
 fn is_below_top(key: &[u8]) -> bool
     ensures { result ≡ key_lt key.now top }
 {
@@ -77,7 +77,7 @@ pub fn read_pair(
     }
 }
 
-/// The pair of the fields of a line: the key goes up to the separator.
+// The pair of the fields of a line: the key goes up to the separator.
 fn read_fields(
     alloc: Global,
     scratch: &mut Vec<u8>,
@@ -100,7 +100,7 @@ fn read_fields(
     }
 }
 
-/// The pair of a key and what is left of the line: the value goes up to the line feed.
+// The pair of a key and what is left of the line: the value goes up to the line feed.
 fn read_value(
     alloc: Global,
     scratch: &mut Vec<u8>,
@@ -122,7 +122,7 @@ fn read_value(
     }
 }
 
-/// The pair, where key and value are within their limits. It takes no memory.
+// The pair, where key and value are within their limits. It takes no memory.
 fn pair_within(line: &InputLine<'_>, key: Bytes, value: Bytes) -> Result<Pair, LineFault>
     ensures { Gives entry_of result (judged line.now.number (pair_within key value)) }
 {

@@ -14,7 +14,7 @@ pub fn is_plain(byte: u8) -> bool
     byte >= 0x20 && byte < 0x7f && byte != b'\\'
 }
 
-/// How many bytes at the front stand for themselves. It takes no memory.
+// How many bytes at the front stand for themselves. It takes no memory.
 #[inline]
 fn plain_len(bytes: &[u8]) -> usize
     ensures value { result ≡ prefix_len is_plain bytes.now }

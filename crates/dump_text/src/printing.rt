@@ -9,7 +9,7 @@ use key_bytes::Bytes;
 use memchr::memchr;
 use std::alloc::AllocError;
 
-/// The digit of a number below 16. It takes no memory.
+// The digit of a number below 16. It takes no memory.
 #[inline(always)]
 fn hexadecimal_digit(n: u8) -> u8
     requires { n < 16 }
@@ -18,7 +18,7 @@ fn hexadecimal_digit(n: u8) -> u8
     if n < 10 { b'0' + n } else { b'a' - 10 + n }
 }
 
-/// Adds a byte's spelling by its two digits. After a refusal `to` is unchanged.
+// Adds a byte's spelling by its two digits. After a refusal `to` is unchanged.
 #[inline(always)]
 fn add_digits(to: &mut Vec<u8>, byte: u8) -> Result<(), AllocError>
     ensures ok { OnOk result (to.new.items ≡ to.old.items ++ in_digits byte) }
@@ -29,7 +29,7 @@ fn add_digits(to: &mut Vec<u8>, byte: u8) -> Result<(), AllocError>
     to.extend_from_slice(&[b'\\', b'x', high, low])
 }
 
-/// Adds the spelling of a byte that isn't plain. After a refusal `to` is unchanged.
+// Adds the spelling of a byte that isn't plain. After a refusal `to` is unchanged.
 fn add_escape(to: &mut Vec<u8>, byte: u8) -> Result<(), AllocError>
     requires { is_plain byte ≡ false }
     ensures ok { OnOk result (to.new.items ≡ to.old.items ++ printed byte) }
@@ -73,8 +73,8 @@ pub fn or_cut_back(
     written
 }
 
-/// Adds the printable form of `bytes` in which one byte more is spelled by its digits. After a refusal a part of
-/// it stands behind what `to` held.
+// Adds the printable form of `bytes` in which one byte more is spelled by its digits. After a refusal a part of
+// it stands behind what `to` held.
 fn add_printable_but(to: &mut Vec<u8>, bytes: &[u8], escaped: u8) -> Result<(), AllocError>
     ensures ok { OnOk result (to.new.items ≡ to.old.items ++ printable_but (Some escaped) bytes.now) }
     ensures err { OnErr result (Grew to.old.items to.new.items) }
@@ -88,6 +88,8 @@ fn add_printable_but(to: &mut Vec<u8>, bytes: &[u8], escaped: u8) -> Result<(), 
     add_printable(to, left)
 }
 
+// Adds the printable form of `bytes`, in which one byte more, where one is given, is spelled by its digits. After a
+// refusal a part of it stands behind what `to` held.
 #[tactic(auto, unfolding(line_rules::specs::Printing::printable_but, line_rules::specs::Printing::printable))]
 fn add_chosen(to: &mut Vec<u8>, bytes: &[u8], escaped: Option<u8>) -> Result<(), AllocError>
     ensures ok { OnOk result (to.new.items ≡ to.old.items ++ printable_but escaped bytes.now) }

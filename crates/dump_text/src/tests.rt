@@ -198,9 +198,9 @@ fn words(rt: HostRuntime) -> Result<(), Fail> {
 #[test]
 fn order(rt: HostRuntime) -> Result<(), Fail> {
     let mut order = Order::new(rt.alloc());
-    assert!(rt; order.is_empty());
+    assert_eq!(rt; order.len(), 0);
     order.push(63)?;
-    order.is_short();
+    order.shows_short();
     assert_eq!(rt; order.len(), 1);
     assert_eq!(rt; order.get(0), 63);
     assert_eq!(rt; order.as_slice(), [63].as_slice());

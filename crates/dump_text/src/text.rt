@@ -40,7 +40,7 @@ pub struct ReadText<'a> {
     pub left: &'a [u8],
 }
 
-/// The value of a hexadecimal digit, 16 for any other byte. It takes no memory.
+// The value of a hexadecimal digit, 16 for any other byte. It takes no memory.
 #[inline(always)]
 fn digit_of(byte: u8) -> u8
     ensures value { result ≡ digit_of byte }
@@ -53,7 +53,7 @@ fn digit_of(byte: u8) -> u8
     }
 }
 
-/// A byte that has no shorter spelling, by its two digits. It takes no memory.
+// A byte that has no shorter spelling, by its two digits. It takes no memory.
 #[inline(always)]
 fn hexadecimal_piece(high: u8, low: u8, rest: &[u8]) -> Piece<'_>
     ensures { piece_is result ≡ hexadecimal_piece (high ∷ low ∷ rest.now) }
@@ -70,7 +70,7 @@ fn hexadecimal_piece(high: u8, low: u8, rest: &[u8]) -> Piece<'_>
     Piece::Spelled(byte, rest)
 }
 
-/// What stands behind a backslash. It takes no memory.
+// What stands behind a backslash. It takes no memory.
 #[inline(always)]
 fn escaped_piece(bytes: &[u8]) -> Piece<'_>
     ensures { piece_is result ≡ escaped_piece bytes.now }
@@ -83,7 +83,7 @@ fn escaped_piece(bytes: &[u8]) -> Piece<'_>
     }
 }
 
-/// What `bytes` begins with. It takes no memory.
+// What `bytes` begins with. It takes no memory.
 #[inline]
 #[tactic(auto, unfolding(line_rules::specs::Reading::piece_at))]
 fn piece_of(bytes: &[u8]) -> Piece<'_>

@@ -12,7 +12,7 @@ use itoa::Buffer;
 use key_bytes::Bytes;
 use std::alloc::AllocError;
 
-/// Adds a space and a word. After a refusal a part of it stands behind what `to` held.
+// Adds a space and a word. After a refusal a part of it stands behind what `to` held.
 fn add_word(to: &mut Vec<u8>, word: &[u8]) -> Result<(), AllocError>
     ensures ok { OnOk result (to.new.items ≡ to.old.items ++ space ∷ word.now) }
     ensures err { OnErr result (Grew to.old.items to.new.items) }
@@ -21,7 +21,7 @@ fn add_word(to: &mut Vec<u8>, word: &[u8]) -> Result<(), AllocError>
     to.extend_from_slice(word)
 }
 
-/// Adds a space and a number. After a refusal a part of it stands behind what `to` held.
+// Adds a space and a number. After a refusal a part of it stands behind what `to` held.
 fn add_number(to: &mut Vec<u8>, number: u64) -> Result<(), AllocError>
     ensures ok { OnOk result (to.new.items ≡ to.old.items ++ space ∷ decimal number) }
     ensures err { OnErr result (Grew to.old.items to.new.items) }
@@ -30,7 +30,7 @@ fn add_number(to: &mut Vec<u8>, number: u64) -> Result<(), AllocError>
     add_word(to, buffer.format(number).as_bytes())
 }
 
-/// Adds the letter of a line and the number of a machine. After a refusal a part of it stands behind what `to` held.
+// Adds the letter of a line and the number of a machine. After a refusal a part of it stands behind what `to` held.
 fn add_start(to: &mut Vec<u8>, letter: u8, machine: u16) -> Result<(), AllocError>
     ensures ok { OnOk result (to.new.items ≡ to.old.items ++ letter ∷ space ∷ decimal machine) }
     ensures err { OnErr result (Grew to.old.items to.new.items) }
@@ -39,7 +39,7 @@ fn add_start(to: &mut Vec<u8>, letter: u8, machine: u16) -> Result<(), AllocErro
     add_number(to, u64::from(machine))
 }
 
-/// Adds a space, the printable form of `bytes` and the line feed. After a refusal a part of it stands behind what `to` held.
+// Adds a space, the printable form of `bytes` and the line feed. After a refusal a part of it stands behind what `to` held.
 fn add_last(to: &mut Vec<u8>, bytes: &[u8]) -> Result<(), AllocError>
     ensures ok { OnOk result (to.new.items ≡ to.old.items ++ space ∷ (printable bytes.now ++ 10 ∷ [])) }
     ensures err { OnErr result (Grew to.old.items to.new.items) }
@@ -50,7 +50,7 @@ fn add_last(to: &mut Vec<u8>, bytes: &[u8]) -> Result<(), AllocError>
     Ok(())
 }
 
-/// Adds the line of how a machine ended. After a refusal a part of it stands behind what `to` held.
+// Adds the line of how a machine ended. After a refusal a part of it stands behind what `to` held.
 #[tactic(auto, unfolding(line_rules::specs::Printing::machine_line))]
 fn add_machine_line(
     to: &mut Vec<u8>,
@@ -68,7 +68,7 @@ fn add_machine_line(
     add_last(to, prefix)
 }
 
-/// Adds the line of an item. After a refusal a part of it stands behind what `to` held.
+// Adds the line of an item. After a refusal a part of it stands behind what `to` held.
 #[tactic(auto, unfolding(line_rules::specs::Printing::item_line))]
 fn add_item_line(
     to: &mut Vec<u8>,
@@ -86,7 +86,7 @@ fn add_item_line(
     add_last(to, packed)
 }
 
-/// Adds the line of an error. After a refusal a part of it stands behind what `to` held.
+// Adds the line of an error. After a refusal a part of it stands behind what `to` held.
 #[tactic(auto, unfolding(line_rules::specs::Printing::error_line))]
 fn add_error_line(
     to: &mut Vec<u8>,
@@ -104,7 +104,7 @@ fn add_error_line(
     Ok(())
 }
 
-/// Adds the line of a place of the order. After a refusal a part of it stands behind what `to` held.
+// Adds the line of a place of the order. After a refusal a part of it stands behind what `to` held.
 #[tactic(auto, unfolding(line_rules::specs::Printing::order_line))]
 fn add_order_line(to: &mut Vec<u8>, machine: u16) -> Result<(), AllocError>
     ensures ok { OnOk result (to.new.items ≡ to.old.items ++ order_line machine) }
@@ -115,7 +115,7 @@ fn add_order_line(to: &mut Vec<u8>, machine: u16) -> Result<(), AllocError>
     Ok(())
 }
 
-/// Adds the line of a pair. After a refusal a part of it stands behind what `to` held.
+// Adds the line of a pair. After a refusal a part of it stands behind what `to` held.
 #[tactic(auto, unfolding(line_rules::specs::Printing::pair_line))]
 fn add_pair_line(to: &mut Vec<u8>, key: &[u8], value: &[u8]) -> Result<(), AllocError>
     ensures ok { OnOk result (to.new.items ≡ to.old.items ++ pair_line key.now value.now) }
@@ -196,7 +196,7 @@ pub fn write_pair_line(to: &mut Vec<u8>, key: &[u8], value: &[u8]) -> Result<(),
     or_cut_back(to, len, written)
 }
 
-/// Adds a line. After a refusal a part of it stands behind what `to` held.
+// Adds a line. After a refusal a part of it stands behind what `to` held.
 fn add_line(to: &mut Vec<u8>, line: &Line) -> Result<(), AllocError>
     ensures ok { OnOk result (to.new.items ≡ to.old.items ++ line_of line.now) }
     ensures err { OnErr result (Grew to.old.items to.new.items) }

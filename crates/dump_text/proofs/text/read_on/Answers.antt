@@ -9,16 +9,24 @@ use Rattle.dump_text.proofs.text.read_on.Goals as goal
 pub loop-byte-smaller : goal.loop-byte-smaller
 loop-byte-smaller c =
     let s = c.split_plain in
-    omega (arith, step_within c.loop-byte.left.now c.in-Spelled.rest.now s.result.0.now s.result.1.now c.in-Spelled.byte c.in-Spelled.ensures s.ensures.front s.ensures.rest)
+    let p = c.in-Spelled in
+    let left = c.loop-byte.left.now in
+    omega (arith, step_within left p.rest.now s.result.0.now s.result.1.now p.byte p.ensures s.ensures.front s.ensures.rest)
 
 pub loop-byte-preserved : goal.loop-byte-preserved
 loop-byte-preserved c =
     let s = c.split_plain in
-    let items : c.add_run.new.to.items ≡ (c.loop-byte.scratch.items ++ c.in-Spelled.byte ∷ []) ++ s.result.0.now = rw (c.in_ok-add_run-in-Spelled.ensures.ok, c.in_ok-push-in-Spelled.ensures.items) refl in
+    let p = c.in-Spelled in
+    let front = c.loop-byte.scratch.items in
+    let left = c.loop-byte.left.now in
+    let items : c.add_run.new.to.items ≡ (front ++ p.byte ∷ []) ++ s.result.0.now =
+    rw (c.in_ok-add_run-in-Spelled.ensures.ok, c.in_ok-push-in-Spelled.ensures.items) refl in
     let total = with_front c.args.run.now (text_of c.args.bytes.now) in
+    let all = read_more front left p.rest.now s.result.0.now s.result.1.now p.byte total
+    p.ensures s.ensures.front s.ensures.rest c.loop-byte.invariant.all in
     record {
-      all = rw items (read_more c.loop-byte.scratch.items c.loop-byte.left.now c.in-Spelled.rest.now s.result.0.now s.result.1.now c.in-Spelled.byte total c.in-Spelled.ensures s.ensures.front s.ensures.rest c.loop-byte.invariant.all);
-      within = omega (arith, step_within c.loop-byte.left.now c.in-Spelled.rest.now s.result.0.now s.result.1.now c.in-Spelled.byte c.in-Spelled.ensures s.ensures.front s.ensures.rest);
+      all = rw items all;
+      within = omega (arith, step_within left p.rest.now s.result.0.now s.result.1.now p.byte p.ensures s.ensures.front s.ensures.rest);
     }
 
 pub returns-in-Nothing-clause-value : goal.returns-in-Nothing-clause-value
@@ -31,7 +39,8 @@ returns-in-Nothing-clause-value c =
 pub returns-in-Separator-clause-value : goal.returns-in-Separator-clause-value
 returns-in-Separator-clause-value c =
     let total = with_front c.args.run.now (text_of c.args.bytes.now) in
-    let e = done_separator c.loop-byte.scratch.items c.loop-byte.left.now c.in-Separator.rest.now total c.in-Separator.ensures c.loop-byte.invariant.all in
+    let p = c.in-Separator in
+    let e = done_separator c.loop-byte.scratch.items c.loop-byte.left.now p.rest.now total p.ensures c.loop-byte.invariant.all in
     let copied = rw c.deref-in-Separator.ensures.value at c.copy_up_to-in-Separator.ensures.value in
     subst (λ read. IfOk c.copy_up_to-in-Separator.result (λ text. text_is text ≡ read)) e copied
 

@@ -9,7 +9,8 @@ use Rattle.dump_text.proofs.text.read_text.Goals as goal
 
 pub returns-in-Spelled-clause-value : goal.returns-in-Spelled-clause-value
 returns-in-Spelled-clause-value c =
-    let e : with_front c.split_plain.result.0.now (text_of c.split_plain.result.1.now) ≡ text_of c.args.bytes.now = text_parts c.args.bytes.now c.split_plain.result.0.now c.split_plain.result.1.now c.split_plain.ensures.front c.split_plain.ensures.rest in
+    let e : with_front c.split_plain.result.0.now (text_of c.split_plain.result.1.now) ≡ text_of c.args.bytes.now =
+    text_parts c.args.bytes.now c.split_plain.result.0.now c.split_plain.result.1.now c.split_plain.ensures.front c.split_plain.ensures.rest in
     subst (λ read. IfOk c.read_on.result (λ text. text_is text ≡ read)) e c.read_on.ensures.value
 
 pub returns-in-Nothing-clause-value : goal.returns-in-Nothing-clause-value
