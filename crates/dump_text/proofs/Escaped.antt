@@ -8,8 +8,10 @@ abbrev IsByte : ℕ → List ℕ → ℕ → Type 0
 IsByte escaped bytes k = (get_or bytes k 0 == escaped) ≡ true
 
 -- up to the first place of the byte nothing is spelled otherwise
-pub up_to_first : (escaped n : ℕ) (bytes : List ℕ) → n < length bytes → ((k : ℕ) → k < n → IsByte escaped bytes k → ⊥) → IsByte escaped bytes n
-    → printable_but (Some escaped) bytes ≡ printable (take n bytes) ++ (in_digits escaped ++ printable_but (Some escaped) (drop (suc n) bytes))
+pub up_to_first : (escaped n : ℕ) (bytes : List ℕ) → n < length bytes → ((k : ℕ) → k < n → IsByte escaped bytes k → ⊥)
+    → IsByte escaped bytes n
+    → printable_but (Some escaped) bytes ≡ printable (take n bytes) ++
+    (in_digits escaped ++ printable_but (Some escaped) (drop (suc n) bytes))
 unfolding printable printable_but
 up_to_first escaped n [] h none e = absurd (omega arith)
 up_to_first escaped zero (byte ∷ rest) h none e = rw (e, eqb-true byte escaped e) refl
@@ -19,15 +21,18 @@ up_to_first escaped (suc n) (byte ∷ rest) h none e =
     rw (other, later, append_assoc) refl
 
 -- without the byte nothing is spelled otherwise
-pub without : (escaped : ℕ) (bytes : List ℕ) → ((k : ℕ) → k < length bytes → IsByte escaped bytes k → ⊥) → printable_but (Some escaped) bytes ≡ printable bytes
+pub printable_without : (escaped : ℕ) (bytes : List ℕ) → ((k : ℕ) → k < length bytes → IsByte escaped bytes k → ⊥)
+    → printable_but (Some escaped) bytes ≡ printable bytes
 unfolding printable printable_but
-without escaped [] none = refl
-without escaped (byte ∷ rest) none =
+printable_without escaped [] none = refl
+printable_without escaped (byte ∷ rest) none =
     let other : (byte == escaped) ≡ false = false_from_ne_true (byte == escaped) (none 0 (omega arith)) in
-    rw (other, without escaped rest (λ k l. none (suc k) (omega arith))) refl
+    rw (other, printable_without escaped rest (λ k l. none (suc k) (omega arith))) refl
 
-pub escaped_more : (to bytes total : List ℕ) (escaped n : ℕ) → n < length bytes → ((k : ℕ) → k < n → IsByte escaped bytes k → ⊥) → IsByte escaped bytes n
-    → to ++ printable_but (Some escaped) bytes ≡ total → ((to ++ printable (take n bytes)) ++ in_digits escaped) ++ printable_but (Some escaped) (drop (suc n) bytes) ≡ total
+pub escaped_more : (to bytes total : List ℕ) (escaped n : ℕ) → n < length bytes → ((k : ℕ) → k < n → IsByte escaped bytes k → ⊥)
+    → IsByte escaped bytes n
+    → to ++ printable_but (Some escaped) bytes ≡ total
+    → ((to ++ printable (take n bytes)) ++ in_digits escaped) ++ printable_but (Some escaped) (drop (suc n) bytes) ≡ total
 escaped_more to bytes total escaped n h none e so_far =
     append_assoc (to ++ printable (take n bytes)) (in_digits escaped) (printable_but (Some escaped) (drop (suc n) bytes))
     ∙ append_assoc to (printable (take n bytes)) (in_digits escaped ++ printable_but (Some escaped) (drop (suc n) bytes))

@@ -3,7 +3,7 @@ use Rattle.std.proofs.Common.{◌≡◌, ℕ, zero, suc, ◌+◌, ◌-◌, ◌<�
 use Rattle.std.proofs.lemmas.List.{append-nil, length_push, nil_from_length}
 use Rattle.std.proofs.lemmas.Bool.{false_from_ne_true}
 use Rattle.line_rules.specs.Reading.{Entry, Fault, Line, Place, lines_of, joined, read_line, read_lines, next_place, is_pair, size_of}
-use Rattle.line_rules.specs.ReadLines.{is_read}
+use Rattle.line_rules.proofs.ReadLines.{is_read}
 use Rattle.dump_text.specs.declared.fault.LineFault.{LineFault}
 use Rattle.dump_text.specs.declared.fault.LineFault.TheVariants as errors
 use Rattle.dump_text.specs.Reading.{Fails}
@@ -13,37 +13,41 @@ abbrev pub before : List Entry → Result (List Entry) Fault → Result (List En
 before front (Ok entries) = Ok (front ++ entries)
 before front (Err fault) = Err fault
 
-regroup : (front : List Entry) (entry : Entry) (rest : Result (List Entry) Fault) → before front (joined (Ok entry) rest) ≡ before (front ++ entry ∷ []) rest
-regroup front entry (Ok entries) = ap (λ (x : List Entry). Ok x) (sym (append_assoc front (entry ∷ []) entries))
-regroup front entry (Err fault) = refl
+before_joined : (front : List Entry) (entry : Entry) (rest : Result (List Entry) Fault)
+    → before front (joined (Ok entry) rest) ≡ before (front ++ entry ∷ []) rest
+before_joined front entry (Ok entries) = ap (λ (x : List Entry). Ok x) (sym (append_assoc front (entry ∷ []) entries))
+before_joined front entry (Err fault) = refl
 
-pub goes_on : (front : List Entry) (entry : Entry) (place : Place) (line : Line) (lines : List Line) → read_line place line ≡ Ok entry
+pub read_goes_on : (front : List Entry) (entry : Entry) (place : Place) (line : Line) (lines : List Line) → read_line place line ≡ Ok entry
     → before front (read_lines place (line ∷ lines)) ≡ before (front ++ entry ∷ []) (read_lines (next_place place line) lines)
 unfolding read_lines
-goes_on front entry place line lines e = rw e (regroup front entry (read_lines (next_place place line) lines))
+read_goes_on front entry place line lines e = rw e (before_joined front entry (read_lines (next_place place line) lines))
 
-pub ends : (e : LineFault) (front : List Entry) (place : Place) (line : Line) (lines : List Line) (total : Result (List Entry) Fault) → Fails e (read_line place line)
+pub fault_decides : (e : LineFault) (front : List Entry) (place : Place) (line : Line) (lines : List Line)
+    (total : Result (List Entry) Fault) → Fails e (read_line place line)
     → before front (read_lines place (line ∷ lines)) ≡ total → Fails e total
 unfolding read_lines
-ends (errors.BadLine number at) front place line lines total h so_far = rw h at (sym so_far)
-ends (errors.TooLong number) front place line lines total h so_far = rw h at (sym so_far)
-ends (errors.TooMany number) front place line lines total h so_far = rw h at (sym so_far)
-ends errors.NoMemory front place line lines total h so_far = tt
+fault_decides (errors.BadLine number at) front place line lines total h so_far = rw h at (sym so_far)
+fault_decides (errors.TooLong number) front place line lines total h so_far = rw h at (sym so_far)
+fault_decides (errors.TooMany number) front place line lines total h so_far = rw h at (sym so_far)
+fault_decides errors.NoMemory front place line lines total h so_far = tt
 
-is_done : (front : List Entry) (place : Place) (total : Result (List Entry) Fault) → before front (read_lines place []) ≡ total → total ≡ Ok front
+read_is_done : (front : List Entry) (place : Place) (total : Result (List Entry) Fault) → before front (read_lines place []) ≡ total
+    → total ≡ Ok front
 unfolding read_lines
-is_done front place total so_far = sym so_far ∙ ap (λ (x : List Entry). Ok x) (append-nil front)
+read_is_done front place total so_far = sym so_far ∙ ap (λ (x : List Entry). Ok x) (append-nil front)
 
 pub before_nothing : (read : Result (List Entry) Fault) → before [] read ≡ read
 before_nothing (Ok entries) = refl
 before_nothing (Err fault) = refl
 
 -- nothing is left to read
-pub all_read : (left : List ℕ) (front : List Entry) (place : Place) (total : Result (List Entry) Fault) → length left ≡ 0 → before front (read_lines place (lines_of left)) ≡ total → total ≡ Ok front
+pub all_read : (left : List ℕ) (front : List Entry) (place : Place) (total : Result (List Entry) Fault) → length left ≡ 0
+    → before front (read_lines place (lines_of left)) ≡ total → total ≡ Ok front
 unfolding lines_of
 all_read left front place total e so_far =
     let nothing = nil_from_length left e in
-    is_done front place total (rw nothing at so_far)
+    read_is_done front place total (rw nothing at so_far)
 
 -- ---- the first line
 
@@ -60,7 +64,8 @@ whole_line (suc n) (byte ∷ rest) h none e =
     let later = whole_line n rest (omega arith) (λ k l. none (suc k) (omega arith)) e in
     rw (other, later) refl
 
-pub last_line : (bytes : List ℕ) → 0 < length bytes → ((k : ℕ) → k < length bytes → IsLineFeed bytes k → ⊥) → lines_of bytes ≡ record { bytes = bytes; is_whole = false } ∷ lines_of []
+pub last_line : (bytes : List ℕ) → 0 < length bytes → ((k : ℕ) → k < length bytes → IsLineFeed bytes k → ⊥)
+    → lines_of bytes ≡ record { bytes = bytes; is_whole = false } ∷ lines_of []
 unfolding lines_of
 last_line [] h none = absurd (omega arith)
 last_line (byte ∷ []) h none =
@@ -77,19 +82,24 @@ last_line (byte ∷ next ∷ rest) h none =
 abbrev pub place_at : ℕ → List ℕ → List ℕ → List Entry → Place
 place_at number bytes left front = record { number = number; bytes = length bytes - length left; pairs = length front }
 
-pub line_goes_on : (number : ℕ) (bytes left rest : List ℕ) (front : List Entry) (entry : Entry) (line : Line) (total : Result (List Entry) Fault)
-    → lines_of left ≡ line ∷ lines_of rest → size_of line + length rest ≡ length left → length left ≤ length bytes → read_line (place_at number bytes left front) line ≡ Ok entry
+pub line_goes_on : (number : ℕ) (bytes left rest : List ℕ) (front : List Entry) (entry : Entry) (line : Line)
+    (total : Result (List Entry) Fault)
+    → lines_of left ≡ line ∷ lines_of rest → size_of line + length rest ≡ length left → length left ≤ length bytes
+    → read_line (place_at number bytes left front) line ≡ Ok entry
     → before front (read_lines (place_at number bytes left front) (lines_of left)) ≡ total
     → before (front ++ entry ∷ []) (read_lines (place_at (number + 1) bytes rest (front ++ entry ∷ [])) (lines_of rest)) ≡ total
 line_goes_on number bytes left rest front entry line total e size within read so_far =
     let place = place_at number bytes left front in
     let paired = (is_read place line entry read).pair in
     let bytes_are : length bytes - length rest ≡ place.bytes + size_of line = omega arith in
-    let pairs_are : length (front ++ entry ∷ []) ≡ place.pairs + cond (is_pair line.bytes) 1 0 = rw (paired, length_push front entry) refl in
+    let pairs_are : length (front ++ entry ∷ []) ≡ place.pairs + cond (is_pair line.bytes) 1 0 =
+    rw (paired, length_push front entry) refl in
     let places_are : place_at (number + 1) bytes rest (front ++ entry ∷ []) ≡ next_place place line = rw (bytes_are, pairs_are) refl in
-    let one = goes_on front entry place line (lines_of rest) read in
+    let one = read_goes_on front entry place line (lines_of rest) read in
     rw places_are (sym one ∙ rw e at so_far)
 
-pub line_ends : (fault : LineFault) (place : Place) (left rest : List ℕ) (front : List Entry) (line : Line) (total : Result (List Entry) Fault)
-    → lines_of left ≡ line ∷ lines_of rest → Fails fault (read_line place line) → before front (read_lines place (lines_of left)) ≡ total → Fails fault total
-line_ends fault place left rest front line total e h so_far = ends fault front place line (lines_of rest) total h (rw e at so_far)
+pub line_ends : (fault : LineFault) (place : Place) (left rest : List ℕ) (front : List Entry) (line : Line)
+    (total : Result (List Entry) Fault)
+    → lines_of left ≡ line ∷ lines_of rest → Fails fault (read_line place line) → before front (read_lines place (lines_of left)) ≡ total
+    → Fails fault total
+line_ends fault place left rest front line total e h so_far = fault_decides fault front place line (lines_of rest) total h (rw e at so_far)

@@ -9,14 +9,16 @@ use Rattle.key_bytes.specs.Keys.{IsByteString, key_lt, top}
 use Rattle.line_rules.specs.Inputs.{pair_lines, IsSmall, IsInput}
 use Rattle.line_rules.specs.Printing.{separator, printed, printable, hexadecimal_digit, is_plain, backslash, pair_line}
 use Rattle.line_rules.specs.Reading.{ReadText, text_of, Stop, AtEnd, AtSeparator, AtFault, Line, Flaw, Bad, Long, Entry, pair_within, value_at, key_at, fields_at, pair_at, lines_of, with_first, size_of, Fault, Place, start, next_place, read_line, read_lines, joined, pairs_of, input_limit, pairs_limit, line_limit, key_limit, value_limit}
-use Rattle.dump_text.proofs.Pieces.{with_front, text_empty, text_parted}
+use Rattle.dump_text.specs.Texts.{with_front}
+use Rattle.dump_text.proofs.Pieces.{text_empty, text_parted}
 use Rattle.dump_text.proofs.Printed.{ending, text_was, text_printed}
-use Rattle.line_rules.specs.Lines.{IsFeedless, IsFeedless-append, whole_first}
-use Rattle.line_rules.specs.ReadLines.{guard_ok, neither, is_read}
+use Rattle.line_rules.proofs.Lines.{IsFeedless, IsFeedless-append, whole_first}
+use Rattle.line_rules.proofs.ReadLines.{guard_ok, neither, is_read}
 
 -- ---- a pair that was read
 
-choice_ok : {A E : Type 0} (test : Bool) (fault : E) (read : Result A E) (value : A) → cond test read (Err fault) ≡ Ok value → (test ≡ true) × (read ≡ Ok value)
+choice_ok : {A E : Type 0} (test : Bool) (fault : E) (read : Result A E) (value : A) → cond test read (Err fault) ≡ Ok value
+    → (test ≡ true) × (read ≡ Ok value)
 choice_ok true fault read value e = (refl, e)
 choice_ok false fault read value e = absurd cc
 
@@ -26,7 +28,8 @@ found entry = Ok entry
 ok_is : (x y : Entry) → found x ≡ found y → x ≡ y
 ok_is x y e = cc
 
-within_was : (key value : List ℕ) (entry : Entry) → pair_within key value ≡ Ok entry → (length key ≤ key_limit) × (length value ≤ value_limit) × ((key, value) ≡ entry)
+within_was : (key value : List ℕ) (entry : Entry) → pair_within key value ≡ Ok entry
+    → (length key ≤ key_limit) × (length value ≤ value_limit) × ((key, value) ≡ entry)
 within_was key value entry e =
     let all = guard_ok (nat_lt key_limit (length key) || nat_lt value_limit (length value)) Long (found (key, value)) entry e in
     let limits = neither (nat_lt key_limit (length key)) (nat_lt value_limit (length value)) all.0 in
@@ -56,7 +59,8 @@ pub record IsPair (line : Line) (bytes : List ℕ) (entry : Entry) : Type 0 wher
   pub spelled : bytes ≡ content entry
   pub small : IsSmall entry
 
-fields_were : (line : Line) (fields : List ℕ) (entry : Entry) → fields_at line (text_of fields) ≡ Ok entry → IsPair line (75 ∷ 32 ∷ fields) entry
+fields_were : (line : Line) (fields : List ℕ) (entry : Entry) → fields_at line (text_of fields) ≡ Ok entry
+    → IsPair line (75 ∷ 32 ∷ fields) entry
 fields_were line fields entry e =
     let key = text_of fields in
     let value = text_of key.left in
@@ -64,9 +68,13 @@ fields_were line fields entry e =
     let of_key = key_was line key.stop key entry below.1 in
     let of_value = value_was line key.bytes value.stop value entry of_key.1 in
     let within = within_was key.bytes value.bytes entry of_value.2 in
-    let first : fields ≡ printable key.bytes ++ (separator ++ key.left) = (text_was fields).parts ∙ ap (λ (x : Stop). printable key.bytes ++ ending x key.left) of_key.0 in
-    let second : key.left ≡ printable value.bytes = (text_was key.left).parts ∙ ap (λ (x : Stop). printable value.bytes ++ ending x value.left) of_value.0 ∙ append-nil (printable value.bytes) in
-    let all : fields ≡ printable key.bytes ++ separator ++ printable value.bytes = first ∙ ap (λ (x : List ℕ). printable key.bytes ++ (separator ++ x)) second ∙ sym (append_assoc (printable key.bytes) separator (printable value.bytes)) in
+    let first : fields ≡ printable key.bytes ++ (separator ++ key.left) = (text_was fields).parts
+    ∙ ap (λ (x : Stop). printable key.bytes ++ ending x key.left) of_key.0 in
+    let second : key.left ≡ printable value.bytes = (text_was key.left).parts
+    ∙ ap (λ (x : Stop). printable value.bytes ++ ending x value.left) of_value.0 ∙ append-nil (printable value.bytes) in
+    let all : fields ≡ printable key.bytes ++ separator ++ printable value.bytes = first
+    ∙ ap (λ (x : List ℕ). printable key.bytes ++ (separator ++ x)) second
+    ∙ sym (append_assoc (printable key.bytes) separator (printable value.bytes)) in
     subst (IsPair line (75 ∷ 32 ∷ fields)) within.2 (record {
       whole = of_value.1;
       spelled = ap (λ (x : List ℕ). 75 ∷ 32 ∷ x) all;
@@ -96,9 +104,10 @@ pair_was line (kind ∷ gap ∷ fields) entry e =
 abbrev pub standing : Line → List ℕ
 standing line = line.bytes ++ cond line.is_whole (10 ∷ []) []
 
-add_byte : (byte : ℕ) (lines : List Line) (bytes : List ℕ) → flat_map standing lines ≡ bytes → flat_map standing (with_first byte lines) ≡ byte ∷ bytes
-add_byte byte [] bytes e = ap (λ (x : List ℕ). byte ∷ x) e
-add_byte byte (line ∷ lines) bytes e = ap (λ (x : List ℕ). byte ∷ x) e
+stands_with_first : (byte : ℕ) (lines : List Line) (bytes : List ℕ) → flat_map standing lines ≡ bytes
+    → flat_map standing (with_first byte lines) ≡ byte ∷ bytes
+stands_with_first byte [] bytes e = ap (λ (x : List ℕ). byte ∷ x) e
+stands_with_first byte (line ∷ lines) bytes e = ap (λ (x : List ℕ). byte ∷ x) e
 
 pub lines_stand : (bytes : List ℕ) → flat_map standing (lines_of bytes) ≡ bytes
 unfolding lines_of
@@ -106,7 +115,7 @@ lines_stand [] = refl
 lines_stand (byte ∷ bytes) =
     elim (byte == 10) as (λ b. (byte == 10) ≡ b → flat_map standing (lines_of (byte ∷ bytes)) ≡ byte ∷ bytes) [
       | true ↦ λ e. rw (e, eqb-true byte 10 e) (ap (λ (x : List ℕ). 10 ∷ x) (lines_stand bytes))
-      | false ↦ λ e. rw e (add_byte byte (lines_of bytes) bytes (lines_stand bytes))
+      | false ↦ λ e. rw e (stands_with_first byte (lines_of bytes) bytes (lines_stand bytes))
     ] refl
 
 joined_ok : (first : Result Entry Fault) (rest : Result (List Entry) Fault) (pairs : List Entry) → joined first rest ≡ Ok pairs
@@ -131,9 +140,11 @@ length-feed true = refl
 length-feed false = refl
 
 length-standing : (line : Line) → length (standing line) ≡ size_of line
-length-standing line = length-append line.bytes (cond line.is_whole (10 ∷ []) []) ∙ ap (λ (n : ℕ). length line.bytes + n) (length-feed line.is_whole)
+length-standing line = length-append line.bytes (cond line.is_whole (10 ∷ []) [])
+    ∙ ap (λ (n : ℕ). length line.bytes + n) (length-feed line.is_whole)
 
-lines_were : (place : Place) (lines : List Line) (pairs : List Entry) → place.pairs ≤ pairs_limit → place.bytes ≤ input_limit → read_lines place lines ≡ Ok pairs → WereRead place lines pairs
+lines_were : (place : Place) (lines : List Line) (pairs : List Entry) → place.pairs ≤ pairs_limit → place.bytes ≤ input_limit
+    → read_lines place lines ≡ Ok pairs → WereRead place lines pairs
 unfolding read_lines
 lines_were place [] pairs few size e =
     let none : [] ≡ pairs = cc in
@@ -148,7 +159,8 @@ lines_were place (line ∷ lines) pairs few size e =
     let later = lines_were (next_place place line) lines entries (omega (arith, read.few)) (omega (arith, read.size)) parts.1.1.1 in
     let stands = stands_as line entry pair in
     subst (WereRead place (line ∷ lines)) parts.1.1.2 (record {
-      spelled = ap (λ (x : List ℕ). x ++ flat_map standing lines) stands ∙ ap (λ (x : List ℕ). pair_line entry.0 entry.1 ++ x) later.spelled;
+      spelled = ap (λ (x : List ℕ). x ++ flat_map standing lines) stands
+          ∙ ap (λ (x : List ℕ). pair_line entry.0 entry.1 ++ x) later.spelled;
       small = (pair.small, later.small);
       count = omega (arith, later.count, one_more);
       size = omega (arith, later.size, length-append (standing line) (flat_map standing lines), length-standing line);
@@ -186,16 +198,22 @@ length-printable (byte ∷ bytes) = omega (arith, length-append (printed byte) (
 
 length-content : (entry : Entry) → length entry.0 ≤ key_limit → length entry.1 ≤ value_limit → length (content entry) ≤ line_limit
 length-content entry h k =
-    omega (arith, length-append (printable entry.0 ++ separator) (printable entry.1), length-append (printable entry.0) separator, length-printable entry.0, length-printable entry.1)
+    let key = printable entry.0 in
+    let value = printable entry.1 in
+    let parts = length-append (key ++ separator) value in
+    omega (arith, parts, length-append key separator, length-printable entry.0, length-printable entry.1)
 
 text_again : (bytes : List ℕ) → IsByteString bytes → text_of (printable bytes) ≡ record { bytes = bytes; stop = AtEnd; left = [] }
 text_again bytes h =
-    ap text_of (sym (append-nil (printable bytes))) ∙ text_printed bytes [] (recursion_from_All (λ b. b < 256) bytes h) ∙ ap (with_front bytes) text_empty
+    ap text_of (sym (append-nil (printable bytes))) ∙ text_printed bytes [] (recursion_from_All (λ b. b < 256) bytes h)
+    ∙ ap (with_front bytes) text_empty
     ∙ ap (λ (x : List ℕ). record { bytes = x; stop = AtEnd; left = [] }) (append-nil bytes)
 
-key_again : (key rest : List ℕ) → IsByteString key → text_of (printable key ++ separator ++ rest) ≡ record { bytes = key; stop = AtSeparator; left = rest }
+key_again : (key rest : List ℕ) → IsByteString key
+    → text_of (printable key ++ separator ++ rest) ≡ record { bytes = key; stop = AtSeparator; left = rest }
 key_again key rest h =
-    ap text_of (append_assoc (printable key) separator rest) ∙ text_printed key (separator ++ rest) (recursion_from_All (λ b. b < 256) key h) ∙ ap (with_front key) (text_parted rest)
+    ap text_of (append_assoc (printable key) separator rest)
+    ∙ text_printed key (separator ++ rest) (recursion_from_All (λ b. b < 256) key h) ∙ ap (with_front key) (text_parted rest)
     ∙ ap (λ (x : List ℕ). record { bytes = x; stop = AtSeparator; left = rest }) (append-nil key)
 
 pair_again : (line : Line) (entry : Entry) → line.is_whole ≡ true → IsSmall entry → pair_at line (content entry) ≡ Ok entry
@@ -231,7 +249,9 @@ feedless_printable (byte ∷ bytes) = IsFeedless-append (printed byte) (printabl
 
 feedless_content : (entry : Entry) → IsFeedless (content entry)
 feedless_content entry =
-    (refl, (refl, IsFeedless-append (printable entry.0 ++ separator) (printable entry.1) (IsFeedless-append (printable entry.0) separator (feedless_printable entry.0) (refl, (refl, tt))) (feedless_printable entry.1)))
+    let key = printable entry.0 in
+    let front = IsFeedless-append key separator (feedless_printable entry.0) (refl, (refl, tt)) in
+    (refl, (refl, IsFeedless-append (key ++ separator) (printable entry.1) front (feedless_printable entry.1)))
 
 -- the line of a pair as it stands in the rules
 abbrev pub line_for : Entry → Line
@@ -241,18 +261,23 @@ pair_line-is : (entry : Entry) → pair_line entry.0 entry.1 ≡ content entry +
 unfolding pair_line
 pair_line-is entry = refl
 
-line_again : (place : Place) (entry : Entry) → IsSmall entry → place.pairs < pairs_limit → place.bytes + size_of (line_for entry) ≤ input_limit → read_line place (line_for entry) ≡ Ok entry
+line_again : (place : Place) (entry : Entry) → IsSmall entry → place.pairs < pairs_limit
+    → place.bytes + size_of (line_for entry) ≤ input_limit → read_line place (line_for entry) ≡ Ok entry
 unfolding read_line
 line_again place entry small few size =
-    let size_test : nat_lt input_limit (place.bytes + size_of (line_for entry)) ≡ false = le-ltb input_limit (place.bytes + size_of (line_for entry)) size in
+    let size_test : nat_lt input_limit (place.bytes + size_of (line_for entry)) ≡ false =
+    le-ltb input_limit (place.bytes + size_of (line_for entry)) size in
     let few_test : nat_le pairs_limit place.pairs ≡ false = lt-leb pairs_limit place.pairs few in
-    let short_test : nat_lt line_limit (length (content entry)) ≡ false = le-ltb line_limit (length (content entry)) (length-content entry small.key_len small.value_len) in
+    let short_test : nat_lt line_limit (length (content entry)) ≡ false =
+    le-ltb line_limit (length (content entry)) (length-content entry small.key_len small.value_len) in
     rw (size_test, few_test, short_test, pair_again (line_for entry) entry refl small) refl
 
 first_again : (entry : Entry) (rest : List ℕ) → lines_of (pair_line entry.0 entry.1 ++ rest) ≡ line_for entry ∷ lines_of rest
-first_again entry rest = ap (λ (x : List ℕ). lines_of (x ++ rest)) (pair_line-is entry) ∙ whole_first (content entry) rest (feedless_content entry)
+first_again entry rest = ap (λ (x : List ℕ). lines_of (x ++ rest)) (pair_line-is entry)
+    ∙ whole_first (content entry) rest (feedless_content entry)
 
-lines_again : (place : Place) (pairs : List Entry) → AllByRecursion IsSmall pairs → place.pairs + length pairs ≤ pairs_limit → place.bytes + length (pair_lines pairs) ≤ input_limit
+lines_again : (place : Place) (pairs : List Entry) → AllByRecursion IsSmall pairs → place.pairs + length pairs ≤ pairs_limit
+    → place.bytes + length (pair_lines pairs) ≤ input_limit
     → read_lines place (lines_of (pair_lines pairs)) ≡ Ok pairs
 unfolding read_lines lines_of
 lines_again place [] small few size = refl
@@ -260,7 +285,8 @@ lines_again place (entry ∷ entries) small few size =
     let rest = pair_lines entries in
     let line = line_for entry in
     let lens : length (pair_line entry.0 entry.1 ++ rest) ≡ size_of line + length rest =
-    length-append (pair_line entry.0 entry.1) rest ∙ ap (λ (n : ℕ). n + length rest) (ap length (pair_line-is entry) ∙ length-append (content entry) (10 ∷ [])) in
+    length-append (pair_line entry.0 entry.1) rest
+    ∙ ap (λ (n : ℕ). n + length rest) (ap length (pair_line-is entry) ∙ length-append (content entry) (10 ∷ [])) in
     let read = line_again place entry small.0 (omega arith) (omega (arith, lens)) in
     let later = lines_again (next_place place line) entries small.1 (omega arith) (omega (arith, lens)) in
     rw (first_again entry rest, read, later) refl

@@ -2,13 +2,10 @@
 use Rattle.std.proofs.Common.{◌≡◌, ℕ, zero, suc, ◌+◌, ◌<◌, Bool, true, false, cond, not, ◌&&◌, ◌==◌, ltb, ◌*◌, List, [], ◌∷◌, ◌++◌, length, refl, sym, ap, subst, ◌∙◌, append_assoc, arith}
 use Rattle.std.specs.List.{take_while}
 use Rattle.std.proofs.lemmas.List.{append-nil}
-use Rattle.dump_text.proofs.Runs.{after, passes, fails, length-run}
+use Rattle.dump_text.specs.Texts.{with_front}
+use Rattle.dump_text.proofs.Runs.{after, run_goes_on, run_stops, length-run}
 use Rattle.line_rules.specs.Printing.{is_plain, backslash, separator}
 use Rattle.line_rules.specs.Reading.{Piece, Nothing, Spelled, Separator, Unfit, piece_at, hexadecimal_piece, escaped_piece, digit_of, behind, read_on, ReadText, pieces, text_of, Stop, AtEnd, AtSeparator, AtFault}
-
--- what was read before, put before what is read
-abbrev pub with_front : List ℕ → ReadText → ReadText
-with_front front text = record text { bytes = front ++ text.bytes }
 
 -- behind each piece fewer bytes are left than before it, two fewer behind the separator
 abbrev pub Shorter : ℕ → Piece → Type 0
@@ -26,7 +23,8 @@ shorter_hexadecimal n [] h = tt
 shorter_hexadecimal n (high ∷ []) h = tt
 shorter_hexadecimal n (high ∷ low ∷ rest) h =
     let byte = 16 * digit_of high + digit_of low in
-    shorter_cond n (ltb (digit_of high) 16 && ltb (digit_of low) 16 && not (is_plain byte) && not (byte == backslash)) (Spelled byte rest) Unfit (omega arith) tt
+    shorter_cond n (ltb (digit_of high) 16 && ltb (digit_of low) 16 && not (is_plain byte) && not (byte == backslash))
+    (Spelled byte rest) Unfit (omega arith) tt
 
 shorter_escaped : (n : ℕ) (bytes : List ℕ) → length bytes < n → Shorter n (escaped_piece bytes)
 shorter_escaped n [] h = tt
@@ -37,10 +35,10 @@ shorter_escaped n (byte ∷ rest) h =
     (shorter_cond n (byte == 61) (Separator rest) hexadecimal (omega arith)
     (shorter_cond n (byte == 120) (hexadecimal_piece rest) Unfit (shorter_hexadecimal n rest (omega arith)) tt))
 
-pub shorter : (bytes : List ℕ) → Shorter (length bytes) (piece_at bytes)
+pub piece_shorter : (bytes : List ℕ) → Shorter (length bytes) (piece_at bytes)
 unfolding piece_at
-shorter [] = tt
-shorter (byte ∷ rest) =
+piece_shorter [] = tt
+piece_shorter (byte ∷ rest) =
     let escaped = cond (byte == backslash) (escaped_piece rest) Unfit in
     shorter_cond (suc (length rest)) (is_plain byte) (Spelled byte rest) escaped (omega arith)
     (shorter_cond (suc (length rest)) (byte == backslash) (escaped_piece rest) Unfit (shorter_escaped (suc (length rest)) rest (omega arith)) tt)
@@ -48,37 +46,43 @@ shorter (byte ∷ rest) =
 -- ---- text_of, a piece at a time
 
 -- what is read_on depends on the text behind a spelled byte alone
-same_read_on : (bytes : List ℕ) (n : ℕ) (p : Piece) (s t : ReadText) → Shorter n p → (length (behind p) < n → s ≡ t) → read_on bytes p s ≡ read_on bytes p t
+same_read_on : (bytes : List ℕ) (n : ℕ) (p : Piece) (s t : ReadText) → Shorter n p → (length (behind p) < n → s ≡ t)
+    → read_on bytes p s ≡ read_on bytes p t
 same_read_on bytes n Nothing s t h e = refl
 same_read_on bytes n (Spelled byte rest) s t h e = ap (λ (x : ReadText). read_on bytes (Spelled byte rest) x) (e h)
 same_read_on bytes n (Separator rest) s t h e = refl
 same_read_on bytes n Unfit s t h e = refl
 
 -- as many pieces as bytes are enough, and more change nothing
-enough : (n m : ℕ) (bytes : List ℕ) → length bytes < n → length bytes < m → pieces n bytes ≡ pieces m bytes
+pieces_enough : (n m : ℕ) (bytes : List ℕ) → length bytes < n → length bytes < m → pieces n bytes ≡ pieces m bytes
 unfolding pieces
-enough zero m bytes h k = absurd (omega arith)
-enough (suc n) zero bytes h k = absurd (omega arith)
-enough (suc n) (suc m) bytes h k =
-    same_read_on bytes (length bytes) (piece_at bytes) (pieces n (behind (piece_at bytes))) (pieces m (behind (piece_at bytes))) (shorter bytes)
-    (λ l. enough n m (behind (piece_at bytes)) (omega arith) (omega arith))
+pieces_enough zero m bytes h k = absurd (omega arith)
+pieces_enough (suc n) zero bytes h k = absurd (omega arith)
+pieces_enough (suc n) (suc m) bytes h k =
+    same_read_on bytes (length bytes) (piece_at bytes) (pieces n (behind (piece_at bytes))) (pieces m (behind (piece_at bytes)))
+    (piece_shorter bytes)
+    (λ l. pieces_enough n m (behind (piece_at bytes)) (omega arith) (omega arith))
 
 pub text_read_on : (bytes : List ℕ) → text_of bytes ≡ read_on bytes (piece_at bytes) (text_of (behind (piece_at bytes)))
 unfolding text_of pieces
 text_read_on bytes =
     let next : length bytes + 1 ≡ suc (length bytes) = omega arith in
-    let one : pieces (length bytes + 1) bytes ≡ read_on bytes (piece_at bytes) (pieces (length bytes) (behind (piece_at bytes))) = ap (λ (n : ℕ). pieces n bytes) next in
-    one ∙ same_read_on bytes (length bytes) (piece_at bytes) (pieces (length bytes) (behind (piece_at bytes))) (text_of (behind (piece_at bytes))) (shorter bytes)
-    (λ l. enough (length bytes) (length (behind (piece_at bytes)) + 1) (behind (piece_at bytes)) l (omega arith))
+    let one : pieces (length bytes + 1) bytes ≡ read_on bytes (piece_at bytes) (pieces (length bytes) (behind (piece_at bytes))) =
+    ap (λ (n : ℕ). pieces n bytes) next in
+    one ∙ same_read_on bytes (length bytes) (piece_at bytes) (pieces (length bytes) (behind (piece_at bytes)))
+    (text_of (behind (piece_at bytes))) (piece_shorter bytes)
+    (λ l. pieces_enough (length bytes) (length (behind (piece_at bytes)) + 1) (behind (piece_at bytes)) l (omega arith))
 
 -- what stands at each piece
-pub text_spelled : (bytes rest : List ℕ) (byte : ℕ) → piece_at bytes ≡ Spelled byte rest → text_of bytes ≡ with_front (byte ∷ []) (text_of rest)
+pub text_spelled : (bytes rest : List ℕ) (byte : ℕ) → piece_at bytes ≡ Spelled byte rest
+    → text_of bytes ≡ with_front (byte ∷ []) (text_of rest)
 text_spelled bytes rest byte e = text_read_on bytes ∙ ap (λ (p : Piece). read_on bytes p (text_of (behind p))) e
 
 pub text_nothing : (bytes : List ℕ) → piece_at bytes ≡ Nothing → text_of bytes ≡ record { bytes = []; stop = AtEnd; left = [] }
 text_nothing bytes e = text_read_on bytes ∙ ap (λ (p : Piece). read_on bytes p (text_of (behind p))) e
 
-pub text_separator : (bytes rest : List ℕ) → piece_at bytes ≡ Separator rest → text_of bytes ≡ record { bytes = []; stop = AtSeparator; left = rest }
+pub text_separator : (bytes rest : List ℕ) → piece_at bytes ≡ Separator rest
+    → text_of bytes ≡ record { bytes = []; stop = AtSeparator; left = rest }
 text_separator bytes rest e = text_read_on bytes ∙ ap (λ (p : Piece). read_on bytes p (text_of (behind p))) e
 
 pub text_unfit : (bytes : List ℕ) → piece_at bytes ≡ Unfit → text_of bytes ≡ record { bytes = []; stop = AtFault; left = bytes }
@@ -90,112 +94,113 @@ plain_text : (byte : ℕ) (rest : List ℕ) → is_plain byte ≡ true → text_
 unfolding piece_at
 plain_text byte rest e = text_spelled (byte ∷ rest) rest byte (rw e refl)
 
-run_with : (p : ℕ → Bool) → ((byte : ℕ) (rest : List ℕ) → p byte ≡ true → text_of (byte ∷ rest) ≡ with_front (byte ∷ []) (text_of rest)) → (bytes : List ℕ) → text_of bytes ≡ with_front (take_while p bytes) (text_of (after p bytes))
+run_with : (p : ℕ → Bool) → ((byte : ℕ) (rest : List ℕ) → p byte ≡ true → text_of (byte ∷ rest) ≡ with_front (byte ∷ []) (text_of rest))
+    → (bytes : List ℕ) → text_of bytes ≡ with_front (take_while p bytes) (text_of (after p bytes))
 run_with p step [] = refl
 run_with p step (byte ∷ rest) =
     elim (p byte) as (λ b. p byte ≡ b → text_of (byte ∷ rest) ≡ with_front (take_while p (byte ∷ rest)) (text_of (after p (byte ∷ rest)))) [
       | true ↦ λ e.
-          let parts = passes p byte rest e in
+          let parts = run_goes_on p byte rest e in
           step byte rest e ∙ ap (with_front (byte ∷ [])) (run_with p step rest) ∙ rw (parts.0, parts.1) refl
-      | false ↦ λ e. let parts = fails p byte rest e in rw (parts.0, parts.1) refl
+      | false ↦ λ e. let parts = run_stops p byte rest e in rw (parts.0, parts.1) refl
     ] refl
 
 pub text_run : (bytes : List ℕ) → text_of bytes ≡ with_front (take_while is_plain bytes) (text_of (after is_plain bytes))
 text_run bytes = run_with is_plain plain_text bytes
 
--- a spelled byte and the run behind it
-pub text_step : (bytes rest run left : List ℕ) (byte : ℕ) → Spelled byte rest ≡ piece_at bytes → run ≡ take_while is_plain rest → left ≡ after is_plain rest
-    → text_of bytes ≡ with_front (byte ∷ run) (text_of left)
-text_step bytes rest run left byte e f g = text_spelled bytes rest byte (sym e) ∙ ap (with_front (byte ∷ [])) (text_run rest) ∙ rw (f, g) refl
+-- the text of a run and of what stands behind it
+pub text_parts : (bytes run left : List ℕ) → run ≡ take_while is_plain bytes → left ≡ after is_plain bytes
+    → with_front run (text_of left) ≡ text_of bytes
+text_parts bytes run left f g = rw (f, g) (sym (text_run bytes))
 
-pub step_within : (bytes rest run left : List ℕ) (byte : ℕ) → Spelled byte rest ≡ piece_at bytes → run ≡ take_while is_plain rest → left ≡ after is_plain rest
+-- a spelled byte and the run behind it
+pub text_step : (bytes rest run left : List ℕ) (byte : ℕ) → Spelled byte rest ≡ piece_at bytes → run ≡ take_while is_plain rest
+    → left ≡ after is_plain rest
+    → text_of bytes ≡ with_front (byte ∷ run) (text_of left)
+text_step bytes rest run left byte e f g = text_spelled bytes rest byte (sym e) ∙ ap (with_front (byte ∷ [])) (text_run rest)
+    ∙ rw (f, g) refl
+
+pub step_within : (bytes rest run left : List ℕ) (byte : ℕ) → Spelled byte rest ≡ piece_at bytes → run ≡ take_while is_plain rest
+    → left ≡ after is_plain rest
     → length run + length left < length bytes
 step_within bytes rest run left byte e f g =
-    let less : length rest < length bytes = rw (← e) at (shorter bytes) in
+    let less : length rest < length bytes = rw (← e) at (piece_shorter bytes) in
     rw (f, g, length-run is_plain rest) less
-
--- where no byte is spelled, none is read
-abbrev pub IsSpelled : Piece → Type 0
-IsSpelled Nothing = ⊥
-IsSpelled (Spelled byte rest) = Unit {0}
-IsSpelled (Separator rest) = ⊥
-IsSpelled Unfit = ⊥
-
-nothing_read_on : (bytes : List ℕ) (p : Piece) (t : ReadText) → (IsSpelled p → ⊥) → (read_on bytes p t).bytes ≡ []
-nothing_read_on bytes Nothing t h = refl
-nothing_read_on bytes (Spelled byte rest) t h = absurd (h tt)
-nothing_read_on bytes (Separator rest) t h = refl
-nothing_read_on bytes Unfit t h = refl
-
-pub none_read : (bytes : List ℕ) → (IsSpelled (piece_at bytes) → ⊥) → (text_of bytes).bytes ≡ []
-none_read bytes h = ap (λ (t : ReadText). t.bytes) (text_read_on bytes) ∙ nothing_read_on bytes (piece_at bytes) (text_of (behind (piece_at bytes))) h
 
 -- ---- where reading stops
 
 -- nothing is left only where no byte is
-abbrev IsSome : Piece → Type 0
-IsSome Nothing = ⊥
-IsSome (Spelled byte rest) = Unit {0}
-IsSome (Separator rest) = Unit {0}
-IsSome Unfit = Unit {0}
+abbrev IsNotNothing : Piece → Type 0
+IsNotNothing Nothing = ⊥
+IsNotNothing (Spelled byte rest) = Unit {0}
+IsNotNothing (Separator rest) = Unit {0}
+IsNotNothing Unfit = Unit {0}
 
-some_cond : (test : Bool) (p q : Piece) → IsSome p → IsSome q → IsSome (cond test p q)
-some_cond true p q h k = h
-some_cond false p q h k = k
+not_nothing_cond : (test : Bool) (p q : Piece) → IsNotNothing p → IsNotNothing q → IsNotNothing (cond test p q)
+not_nothing_cond true p q h k = h
+not_nothing_cond false p q h k = k
 
-some_hexadecimal : (bytes : List ℕ) → IsSome (hexadecimal_piece bytes)
-some_hexadecimal [] = tt
-some_hexadecimal (high ∷ []) = tt
-some_hexadecimal (high ∷ low ∷ rest) =
+not_nothing_hexadecimal : (bytes : List ℕ) → IsNotNothing (hexadecimal_piece bytes)
+not_nothing_hexadecimal [] = tt
+not_nothing_hexadecimal (high ∷ []) = tt
+not_nothing_hexadecimal (high ∷ low ∷ rest) =
     let byte = 16 * digit_of high + digit_of low in
-    some_cond (ltb (digit_of high) 16 && ltb (digit_of low) 16 && not (is_plain byte) && not (byte == backslash)) (Spelled byte rest) Unfit tt tt
+    not_nothing_cond (ltb (digit_of high) 16 && ltb (digit_of low) 16 && not (is_plain byte) && not (byte == backslash))
+    (Spelled byte rest) Unfit tt tt
 
-some_escaped : (bytes : List ℕ) → IsSome (escaped_piece bytes)
-some_escaped [] = tt
-some_escaped (byte ∷ rest) =
+not_nothing_escaped : (bytes : List ℕ) → IsNotNothing (escaped_piece bytes)
+not_nothing_escaped [] = tt
+not_nothing_escaped (byte ∷ rest) =
     let hexadecimal = cond (byte == 120) (hexadecimal_piece rest) Unfit in
     let separated = cond (byte == 61) (Separator rest) hexadecimal in
-    some_cond (byte == backslash) (Spelled backslash rest) separated tt
-    (some_cond (byte == 61) (Separator rest) hexadecimal tt
-    (some_cond (byte == 120) (hexadecimal_piece rest) Unfit (some_hexadecimal rest) tt))
+    not_nothing_cond (byte == backslash) (Spelled backslash rest) separated tt
+    (not_nothing_cond (byte == 61) (Separator rest) hexadecimal tt
+    (not_nothing_cond (byte == 120) (hexadecimal_piece rest) Unfit (not_nothing_hexadecimal rest) tt))
 
-pub some_piece : (byte : ℕ) (rest : List ℕ) → IsSome (piece_at (byte ∷ rest))
+pub not_nothing : (byte : ℕ) (rest : List ℕ) → IsNotNothing (piece_at (byte ∷ rest))
 unfolding piece_at
-some_piece byte rest =
+not_nothing byte rest =
     let escaped = cond (byte == backslash) (escaped_piece rest) Unfit in
-    some_cond (is_plain byte) (Spelled byte rest) escaped tt (some_cond (byte == backslash) (escaped_piece rest) Unfit (some_escaped rest) tt)
+    not_nothing_cond (is_plain byte) (Spelled byte rest) escaped tt
+    (not_nothing_cond (byte == backslash) (escaped_piece rest) Unfit (not_nothing_escaped rest) tt)
 
 pub nothing_left : (bytes : List ℕ) → piece_at bytes ≡ Nothing → bytes ≡ []
 nothing_left [] e = refl
-nothing_left (byte ∷ rest) e = absurd (subst IsSome e (some_piece byte rest))
+nothing_left (byte ∷ rest) e = absurd (subst IsNotNothing e (not_nothing byte rest))
 
 -- what was read before a place where no byte is spelled is all
-text_done : (front bytes : List ℕ) (stop : Stop) (left : List ℕ) (total : ReadText) → text_of bytes ≡ record { bytes = []; stop = stop; left = left } → with_front front (text_of bytes) ≡ total
+text_done : (front bytes : List ℕ) (stop : Stop) (left : List ℕ) (total : ReadText)
+    → text_of bytes ≡ record { bytes = []; stop = stop; left = left } → with_front front (text_of bytes) ≡ total
     → record { bytes = front; stop = stop; left = left } ≡ total
 text_done front bytes stop left total e so_far =
     ap (λ (x : List ℕ). record { bytes = x; stop = stop; left = left }) (sym (append-nil front)) ∙ ap (with_front front) (sym e) ∙ so_far
 
-pub done_nothing : (front bytes : List ℕ) (total : ReadText) → Nothing ≡ piece_at bytes → with_front front (text_of bytes) ≡ total → record { bytes = front; stop = AtEnd; left = bytes } ≡ total
+pub done_nothing : (front bytes : List ℕ) (total : ReadText) → Nothing ≡ piece_at bytes → with_front front (text_of bytes) ≡ total
+    → record { bytes = front; stop = AtEnd; left = bytes } ≡ total
 done_nothing front bytes total e so_far =
     let nothing = nothing_left bytes (sym e) in
     rw nothing (text_done front bytes AtEnd [] total (text_nothing bytes (sym e)) so_far)
 
-pub done_separator : (front bytes rest : List ℕ) (total : ReadText) → Separator rest ≡ piece_at bytes → with_front front (text_of bytes) ≡ total → record { bytes = front; stop = AtSeparator; left = rest } ≡ total
+pub done_separator : (front bytes rest : List ℕ) (total : ReadText) → Separator rest ≡ piece_at bytes
+    → with_front front (text_of bytes) ≡ total → record { bytes = front; stop = AtSeparator; left = rest } ≡ total
 done_separator front bytes rest total e so_far = text_done front bytes AtSeparator rest total (text_separator bytes rest (sym e)) so_far
 
-pub done_unfit : (front bytes : List ℕ) (total : ReadText) → Unfit ≡ piece_at bytes → with_front front (text_of bytes) ≡ total → record { bytes = front; stop = AtFault; left = bytes } ≡ total
+pub done_unfit : (front bytes : List ℕ) (total : ReadText) → Unfit ≡ piece_at bytes → with_front front (text_of bytes) ≡ total
+    → record { bytes = front; stop = AtFault; left = bytes } ≡ total
 done_unfit front bytes total e so_far = text_done front bytes AtFault bytes total (text_unfit bytes (sym e)) so_far
 
 -- one more byte and the run behind it
-pub read_more : (front bytes rest run left : List ℕ) (byte : ℕ) (total : ReadText) → Spelled byte rest ≡ piece_at bytes → run ≡ take_while is_plain rest → left ≡ after is_plain rest
+pub read_more : (front bytes rest run left : List ℕ) (byte : ℕ) (total : ReadText) → Spelled byte rest ≡ piece_at bytes
+    → run ≡ take_while is_plain rest → left ≡ after is_plain rest
     → with_front front (text_of bytes) ≡ total → with_front ((front ++ byte ∷ []) ++ run) (text_of left) ≡ total
 read_more front bytes rest run left byte total e f g so_far =
     let one = text_step bytes rest run left byte e f g in
-    let joined : ((front ++ byte ∷ []) ++ run) ++ (text_of left).bytes ≡ front ++ ((byte ∷ run) ++ (text_of left).bytes) = simp append_assoc in
+    let joined : ((front ++ byte ∷ []) ++ run) ++ (text_of left).bytes ≡ front ++ ((byte ∷ run) ++ (text_of left).bytes) =
+    simp append_assoc in
     ap (λ (x : List ℕ). record (text_of left) { bytes = x }) joined ∙ ap (with_front front) (sym one) ∙ so_far
 
 pub separator_within : (bytes rest : List ℕ) → Separator rest ≡ piece_at bytes → length rest + 1 < length bytes
-separator_within bytes rest e = rw (← e) at (shorter bytes)
+separator_within bytes rest e = rw (← e) at (piece_shorter bytes)
 
 pub text_empty : text_of [] ≡ record { bytes = []; stop = AtEnd; left = [] }
 unfolding piece_at

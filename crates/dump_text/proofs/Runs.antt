@@ -9,26 +9,32 @@ use Rattle.line_rules.specs.Printing.{is_plain, printed, printable}
 abbrev pub after : (ℕ → Bool) → List ℕ → List ℕ
 after p bytes = drop (prefix_len p bytes) bytes
 
-pub passes : (p : ℕ → Bool) (byte : ℕ) (rest : List ℕ) → p byte ≡ true → (take_while p (byte ∷ rest) ≡ byte ∷ take_while p rest) × (after p (byte ∷ rest) ≡ after p rest)
-passes p byte rest e =
+pub run_goes_on : (p : ℕ → Bool) (byte : ℕ) (rest : List ℕ) → p byte ≡ true
+    → (take_while p (byte ∷ rest) ≡ byte ∷ take_while p rest) × (after p (byte ∷ rest) ≡ after p rest)
+run_goes_on p byte rest e =
     let next : 1 + prefix_len p rest ≡ suc (prefix_len p rest) = omega arith in
     (rw (e, next) refl, rw (e, next) refl)
 
-pub fails : (p : ℕ → Bool) (byte : ℕ) (rest : List ℕ) → p byte ≡ false → (take_while p (byte ∷ rest) ≡ []) × (after p (byte ∷ rest) ≡ byte ∷ rest)
-fails p byte rest e = (rw e refl, rw e refl)
+pub run_stops : (p : ℕ → Bool) (byte : ℕ) (rest : List ℕ) → p byte ≡ false
+    → (take_while p (byte ∷ rest) ≡ []) × (after p (byte ∷ rest) ≡ byte ∷ rest)
+run_stops p byte rest e = (rw e refl, rw e refl)
 
 pub length-run : (p : ℕ → Bool) (bytes : List ℕ) → length (take_while p bytes) + length (after p bytes) ≡ length bytes
 length-run p bytes =
     let n = prefix_len p bytes in
     sym (length-append (take n bytes) (drop n bytes)) ∙ ap length (take-append-drop n bytes)
 
+pub parts_within : (bytes run left : List ℕ) → run ≡ take_while is_plain bytes → left ≡ after is_plain bytes
+    → length run + length left ≡ length bytes
+parts_within bytes run left f g = rw (f, g) (length-run is_plain bytes)
+
 -- behind the run no byte passes at the front
 pub after_stops : (p : ℕ → Bool) (bytes : List ℕ) → prefix_len p (after p bytes) ≡ 0
 after_stops p [] = refl
 after_stops p (byte ∷ rest) =
     elim (p byte) as (λ b. p byte ≡ b → prefix_len p (after p (byte ∷ rest)) ≡ 0) [
-      | true ↦ λ e. let parts = passes p byte rest e in ap (prefix_len p) parts.1 ∙ after_stops p rest
-      | false ↦ λ e. let parts = fails p byte rest e in ap (prefix_len p) parts.1 ∙ rw e refl
+      | true ↦ λ e. let parts = run_goes_on p byte rest e in ap (prefix_len p) parts.1 ∙ after_stops p rest
+      | false ↦ λ e. let parts = run_stops p byte rest e in ap (prefix_len p) parts.1 ∙ rw e refl
     ] refl
 
 pub first_fails : (p : ℕ → Bool) (bytes : List ℕ) → 1 ≤ length bytes → prefix_len p bytes ≡ 0 → p (slice_index_or bytes 0 0) ≡ false
@@ -42,13 +48,14 @@ first_fails p (byte ∷ rest) h e =
 -- ---- printing
 
 -- where what passes is printed as itself
-printed_run : (p : ℕ → Bool) → ((byte : ℕ) → p byte ≡ true → printed byte ≡ byte ∷ []) → (bytes : List ℕ) → printable bytes ≡ take_while p bytes ++ printable (after p bytes)
+printed_run : (p : ℕ → Bool) → ((byte : ℕ) → p byte ≡ true → printed byte ≡ byte ∷ []) → (bytes : List ℕ)
+    → printable bytes ≡ take_while p bytes ++ printable (after p bytes)
 unfolding printable
 printed_run p h [] = refl
 printed_run p h (byte ∷ rest) =
     elim (p byte) as (λ b. p byte ≡ b → printable (byte ∷ rest) ≡ take_while p (byte ∷ rest) ++ printable (after p (byte ∷ rest))) [
-      | true ↦ λ e. let parts = passes p byte rest e in ap (λ (x : List ℕ). x ++ printable rest) (h byte e) ∙ ap (λ (x : List ℕ). byte ∷ x) (printed_run p h rest) ∙ rw (parts.0, parts.1) refl
-      | false ↦ λ e. let parts = fails p byte rest e in rw (parts.0, parts.1) refl
+      | true ↦ λ e. let parts = run_goes_on p byte rest e in ap (λ (x : List ℕ). x ++ printable rest) (h byte e) ∙ ap (λ (x : List ℕ). byte ∷ x) (printed_run p h rest) ∙ rw (parts.0, parts.1) refl
+      | false ↦ λ e. let parts = run_stops p byte rest e in rw (parts.0, parts.1) refl
     ] refl
 
 pub printable_run : (bytes : List ℕ) → printable bytes ≡ take_while is_plain bytes ++ printable (after is_plain bytes)
@@ -63,7 +70,8 @@ unfolding printable
 printable-cons byte rest = refl
 
 pub print_more : (to left total : List ℕ) → 1 ≤ length left → to ++ printable left ≡ total
-    → ((to ++ printed (slice_index_or left 0 0)) ++ take_while is_plain (take (length left - 1) (drop 1 left))) ++ printable (after is_plain (take (length left - 1) (drop 1 left))) ≡ total
+    → ((to ++ printed (slice_index_or left 0 0)) ++ take_while is_plain (take (length left - 1) (drop 1 left))) ++ printable
+    (after is_plain (take (length left - 1) (drop 1 left))) ≡ total
 print_more to left total h so_far =
     let rest = take (length left - 1) (drop 1 left) in
     let byte = slice_index_or left 0 0 in

@@ -1,5 +1,5 @@
 -- What the program's pieces and texts stand for.
-use Rattle.std.specs.Prelude.{ℕ}
+use Rattle.std.specs.Prelude.{ℕ, List, ◌++◌}
 use Rattle.line_rules.specs.Reading as reading
 use Rattle.dump_text.specs.declared.text.Piece.{Piece}
 use Rattle.dump_text.specs.declared.text.Piece.TheVariants as pieces
@@ -19,7 +19,11 @@ stop_is stops.AtSeparator = reading.AtSeparator
 stop_is stops.AtFault = reading.AtFault
 
 abbrev pub text_is : ReadText → reading.ReadText
-text_is text = record { bytes = text.bytes.items; stop = stop_is text.stop; left = text.left.now }
+text_is text = record { bytes = text.bytes; stop = stop_is text.stop; left = text.left.now }
+
+-- what was read before, put before what is read
+abbrev pub with_front : List ℕ → reading.ReadText → reading.ReadText
+with_front front text = record text { bytes = front ++ text.bytes }
 
 -- how many bytes stand between what was read and what is left
 abbrev pub passed : Stop → ℕ

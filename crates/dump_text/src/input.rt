@@ -14,20 +14,20 @@ use key_bytes::{Pair, Pairs};
 use memchr::memchr;
 use std::alloc::Global;
 
-/// How many bytes an input may have.
+// How many bytes an input may have.
 const INPUT_LIMIT: usize = 67_108_864;
 
-/// How many lines of pairs an input may have.
+// How many lines of pairs an input may have.
 const PAIRS_LIMIT: usize = 1_000_000;
 
-/// What stands before a line: so many bytes, and so many lines of pairs.
+// What stands before a line: so many bytes, and so many lines of pairs.
 #[derive(Clone, Copy)]
 struct Place {
     bytes: usize,
     pairs: usize,
 }
 
-/// The first line of bytes that aren't empty, and what is left behind it. It takes no memory.
+// The first line of bytes that aren't empty, and what is left behind it. It takes no memory.
 fn first_line(number: u32, bytes: &[u8]) -> (InputLine<'_>, &[u8])
     requires { 0 < length bytes.now }
     ensures number { result.0.number ≡ number }
@@ -55,7 +55,7 @@ fn first_line(number: u32, bytes: &[u8]) -> (InputLine<'_>, &[u8])
     }
 }
 
-/// Whether a line passes the limits of an input. It takes no memory.
+// Whether a line passes the limits of an input. It takes no memory.
 fn is_too_many(place: Place, line: &InputLine<'_>) -> bool
     requires { place.bytes + size_of (line_is line.now) < 2 ^ 64 }
     ensures { result ≡ is_too_many (place_is line.now.number place) (line_is line.now) }
@@ -64,9 +64,14 @@ fn is_too_many(place: Place, line: &InputLine<'_>) -> bool
     end > INPUT_LIMIT || place.pairs >= PAIRS_LIMIT && line.is_pair()
 }
 
-/// The pair of the line at a place, or its first fault.
+// The pair of the line at a place, or its first fault.
 #[tactic(auto, unfolding(line_rules::specs::Reading::read_line))]
-fn read_line(alloc: Global, place: Place, line: &InputLine<'_>) -> Result<Pair, LineFault>
+fn read_line(
+    alloc: Global,
+    scratch: &mut Vec<u8>,
+    place: Place,
+    line: &InputLine<'_>,
+) -> Result<Pair, LineFault>
     requires { place.bytes + size_of (line_is line.now) < 2 ^ 64 }
     ensures { Gives entry_of result (read_line (place_is line.now.number place) (line_is line.now)) }
 {
@@ -76,14 +81,16 @@ fn read_line(alloc: Global, place: Place, line: &InputLine<'_>) -> Result<Pair, 
     if line.bytes.len() > LINE_LIMIT {
         return Err(LineFault::TooLong { line: line.number });
     }
-    read_pair(alloc, line)
+    read_pair(alloc, scratch, line)
 }
 
-/// The pairs of an input, or its first fault.
+// The pairs of an input, or its first fault.
 fn read_pairs(alloc: Global, bytes: &[u8]) -> Result<Pairs, LineFault>
     ensures { Gives (λ pairs. pairs) result (pairs_of bytes.now) }
 {
     let mut pairs = Pairs::new(alloc);
+    // Each text with an escape in it is built here.
+    let mut scratch = Vec::new(alloc);
     let mut left = bytes;
     let mut number = 1;
     while !left.is_empty() {
@@ -92,7 +99,7 @@ fn read_pairs(alloc: Global, bytes: &[u8]) -> Result<Pairs, LineFault>
             pairs: pairs.len(),
         };
         let (line, rest) = first_line(number, left);
-        let pair = read_line(alloc, place, &line)?;
+        let pair = read_line(alloc, &mut scratch, place, &line)?;
         pairs.push(pair)?;
         left = rest;
         number += 1;
@@ -100,7 +107,8 @@ fn read_pairs(alloc: Global, bytes: &[u8]) -> Result<Pairs, LineFault>
     Ok(pairs)
 }
 
-/// The pairs of an input: its lines are those of pairs. A fault is the first one of the input.
+/// The pairs of an input, in its order: its lines are those of pairs. An error is the first fault of the input, with
+/// its line and its place, or that memory ran out; nothing of the input is kept then.
 pub fn read_lines(alloc: Global, bytes: &[u8]) -> Result<Pairs, LineFault>
     // What is read is spelled so.
     ensures found { IfOk result (λ pairs. IsInput bytes.now pairs) }

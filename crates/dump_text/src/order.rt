@@ -1,6 +1,6 @@
 //! The order in which requests were taken.
 
-ghost use Rattle.std.specs.Prelude.{◌≡◌, ◌==◌, ℕ, ◌<◌, ◌^◌, List, [], ◌∷◌, ◌++◌, Some, length, slice_get, OnOk, OnErr};
+ghost use Rattle.std.specs.Prelude.{◌≡◌, ℕ, ◌<◌, ◌^◌, List, [], ◌∷◌, ◌++◌, Some, length, slice_get, OnOk, OnErr};
 
 use std::alloc::{AllocError, Global};
 use std::marker::Model;
@@ -36,13 +36,6 @@ impl Order {
         self.places.len()
     }
 
-    /// Whether there is no place. It takes no memory.
-    pub fn is_empty(&self) -> bool
-        ensures { result ≡ (length self.now == 0) }
-    {
-        self.places.is_empty()
-    }
-
     /// The machine at place `i`. It takes no memory.
     pub fn get(&self, i: usize) -> u16
         requires { i < length self.now }
@@ -67,8 +60,8 @@ impl Order {
         self.places.as_slice()
     }
 
-    /// That no memory holds an order of 2^62 places. It does nothing when it runs.
-    pub fn is_short(&self)
+    /// For proofs: no memory holds an order of 2^62 places. It does nothing when it runs.
+    pub fn shows_short(&self)
         ensures { length self.now < 2 ^ 62 }
     {
         let _places = self.places.as_slice();

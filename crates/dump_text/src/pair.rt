@@ -15,10 +15,10 @@ use std::alloc::Global;
 /// How many bytes a line may have before its line feed.
 pub const LINE_LIMIT: usize = 440_004;
 
-/// How many bytes a key may have.
+// How many bytes a key may have.
 const KEY_LIMIT: usize = 10_000;
 
-/// How many bytes a value may have.
+// How many bytes a value may have.
 const VALUE_LIMIT: usize = 100_000;
 
 /// A line of an input without its line feed, with its number, and whether the line feed is there.
@@ -37,7 +37,7 @@ impl InputLine<'_> {
         matches!(self.bytes, [b'K', ..])
     }
 
-    /// That the byte at this place fits no rule. It takes no memory.
+    // The fault that the byte at this place fits no rule. It takes no memory.
     fn bad_at(&self, place: usize) -> LineFault
         requires { place < 2 ^ 32 }
         ensures { result ≡ LineFault.BadLine self.now.number place }
@@ -49,7 +49,7 @@ impl InputLine<'_> {
     }
 }
 
-/// Whether a key is less than `FF`, which its first byte tells. It takes no memory.
+// Whether a key is less than `FF`, which its first byte tells. It takes no memory.
 fn is_below_top(key: &[u8]) -> bool
     ensures { result ≡ key_lt key.now top }
 {
@@ -61,49 +61,59 @@ fn is_below_top(key: &[u8]) -> bool
 
 /// The pair that a line spells, or its first fault.
 #[tactic(auto, unfolding(line_rules::specs::Reading::pair_at))]
-pub fn read_pair(alloc: Global, line: &InputLine<'_>) -> Result<Pair, LineFault>
+pub fn read_pair(
+    alloc: Global,
+    scratch: &mut Vec<u8>,
+    line: &InputLine<'_>,
+) -> Result<Pair, LineFault>
     requires { length line.now.bytes.now ≤ line_limit }
     ensures { Gives entry_of result
         (judged line.now.number (pair_at (line_is line.now) line.now.bytes.now)) }
 {
     match line.bytes {
-        [b'K', b' ', fields @ ..] => read_fields(alloc, line, fields),
+        [b'K', b' ', fields @ ..] => read_fields(alloc, scratch, line, fields),
         [b'K', ..] => Err(line.bad_at(1)),
         _ => Err(line.bad_at(0)),
     }
 }
 
-/// The pair of the fields of a line: the key goes up to the separator.
-fn read_fields(alloc: Global, line: &InputLine<'_>, fields: &[u8]) -> Result<Pair, LineFault>
+// The pair of the fields of a line: the key goes up to the separator.
+fn read_fields(
+    alloc: Global,
+    scratch: &mut Vec<u8>,
+    line: &InputLine<'_>,
+    fields: &[u8],
+) -> Result<Pair, LineFault>
     requires limit { length line.now.bytes.now ≤ line_limit }
     requires within { length fields.now ≤ length line.now.bytes.now }
     ensures { Gives entry_of result
         (judged line.now.number (fields_at (line_is line.now) (text_of fields.now))) }
 {
-    let key = read_text(alloc, fields)?;
+    let key = read_text(alloc, scratch, fields)?;
     if !is_below_top(key.bytes.as_slice()) {
         return Err(line.bad_at(2));
     }
     match key.stop {
         Stop::AtEnd => Err(line.bad_at(line.bytes.len())),
-        Stop::AtSeparator => read_value(alloc, line, key.bytes, key.left),
+        Stop::AtSeparator => read_value(alloc, scratch, line, key.bytes, key.left),
         Stop::AtFault => Err(line.bad_at(line.bytes.len() - key.left.len())),
     }
 }
 
-/// The pair of a key and what is left of the line: the value goes up to the line feed.
+// The pair of a key and what is left of the line: the value goes up to the line feed.
 fn read_value(
     alloc: Global,
+    scratch: &mut Vec<u8>,
     line: &InputLine<'_>,
-    key: Vec<u8>,
+    key: Bytes,
     left: &[u8],
 ) -> Result<Pair, LineFault>
     requires limit { length line.now.bytes.now ≤ line_limit }
     requires within { length left.now ≤ length line.now.bytes.now }
     ensures { let value = text_of left.now in Gives entry_of result
-        (judged line.now.number (value_at (line_is line.now) key.items value.stop value)) }
+        (judged line.now.number (value_at (line_is line.now) key value.stop value)) }
 {
-    let value = read_text(alloc, left)?;
+    let value = read_text(alloc, scratch, left)?;
     match value.stop {
         Stop::AtEnd if line.is_whole => pair_within(line, key, value.bytes),
         Stop::AtEnd => Err(line.bad_at(line.bytes.len())),
@@ -112,15 +122,12 @@ fn read_value(
     }
 }
 
-/// The pair, where key and value are within their limits. It takes no memory.
-fn pair_within(line: &InputLine<'_>, key: Vec<u8>, value: Vec<u8>) -> Result<Pair, LineFault>
-    ensures { Gives entry_of result (judged line.now.number (pair_within key.items value.items)) }
+// The pair, where key and value are within their limits. It takes no memory.
+fn pair_within(line: &InputLine<'_>, key: Bytes, value: Bytes) -> Result<Pair, LineFault>
+    ensures { Gives entry_of result (judged line.now.number (pair_within key value)) }
 {
     if key.len() > KEY_LIMIT || value.len() > VALUE_LIMIT {
         return Err(LineFault::TooLong { line: line.number });
     }
-    Ok(Pair {
-        key: Bytes::from_vec(key),
-        value: Bytes::from_vec(value),
-    })
+    Ok(Pair { key, value })
 }

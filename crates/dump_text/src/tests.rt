@@ -3,6 +3,8 @@ use key_bytes::Bytes;
 use std::alloc::{AllocError, Global};
 use std::test::Fail;
 
+// ---- faults
+
 fn fault_of(alloc: Global, input: &[u8]) -> Option<LineFault> {
     match read_lines(alloc, input) {
         Ok(_) => None,
@@ -12,7 +14,7 @@ fn fault_of(alloc: Global, input: &[u8]) -> Option<LineFault> {
 
 #[test]
 fn bad_lines(rt: HostRuntime) {
-    let rows: [(&[u8], u32, u32); 20] = [
+    let rows: [(&[u8], u32, u32); 22] = [
         (b"K a\n", 1, 3),
         (b"K a", 1, 3),
         (b"K\n", 1, 1),
@@ -33,6 +35,8 @@ fn bad_lines(rt: HostRuntime) {
         (b"K \\xff\\=b\n", 1, 2),
         (b"K \\xff\\q", 1, 2),
         (b"K a\\=b\nK \\xfe\\=\n\n", 3, 0),
+        (b"K \\x00\\\\a\\=\\x01bc\\x0\n", 1, 17),
+        (b"K \\x00\\\\a\\=\\x01bc\n\\", 2, 0),
     ];
     for (input, line, place) in rows {
         assert_eq!(rt;
@@ -42,62 +46,124 @@ fn bad_lines(rt: HostRuntime) {
     }
 }
 
-fn input_of(
+// The fault of an input of one pair, whose key and value repeat a byte.
+fn fault_of_long(
     alloc: Global,
     key_len: usize,
     value_len: usize,
     byte: u8,
-) -> Result<Bytes, AllocError> {
+) -> Result<Option<LineFault>, AllocError> {
     let key = vec![in alloc; byte; key_len]?;
     let value = vec![in alloc; byte; value_len]?;
-    let mut input = Bytes::new(alloc);
+    let mut input = Vec::new(alloc);
     write_pair_line(&mut input, key.as_slice(), value.as_slice())?;
-    Ok(input)
+    Ok(fault_of(alloc, input.as_slice()))
+}
+
+// The first row whose pair is refused where it is within its limits, or the other way round.
+fn first_wrong_limit(
+    alloc: Global,
+    rows: &[(usize, usize, u8, bool)],
+) -> Result<Option<usize>, AllocError> {
+    for (i, &(key_len, value_len, byte, is_within)) in rows.iter().enumerate() {
+        let wanted = if is_within {
+            None
+        } else {
+            Some(LineFault::TooLong { line: 1 })
+        };
+        if fault_of_long(alloc, key_len, value_len, byte)? != wanted {
+            return Ok(Some(i));
+        }
+    }
+    Ok(None)
+}
+
+#[test]
+fn long_pairs(rt: HostRuntime) -> Result<(), Fail> {
+    let rows = [
+        (10_000, 100_000, 0, true),
+        (10_001, 1, 0, false),
+        (1, 100_001, 0, false),
+        (10_000, 100_000, b'a', true),
+        (10_001, 1, b'a', false),
+        (1, 100_001, b'a', false),
+    ];
+    assert_eq!(rt; first_wrong_limit(rt.alloc(), &rows)?, None);
+    Ok(())
+}
+
+fn fault_of_line(alloc: Global, len: usize) -> Result<Option<LineFault>, AllocError> {
+    let input = vec![in alloc; b'a'; len]?;
+    Ok(fault_of(alloc, input.as_slice()))
 }
 
 #[test]
 fn long_lines(rt: HostRuntime) -> Result<(), Fail> {
-    let long = Some(LineFault::TooLong { line: 1 });
-    let rows = [
-        (10_000, 100_000, 0, None),
-        (10_001, 1, 0, long),
-        (1, 100_001, 0, long),
-        (10_000, 100_000, b'a', None),
-        (10_001, 1, b'a', long),
-        (1, 100_001, b'a', long),
-    ];
-    for (key_len, value_len, byte, fault) in rows {
-        let input = input_of(rt.alloc(), key_len, value_len, byte)?;
-        assert_eq!(rt; fault_of(rt.alloc(), input.as_slice()), fault);
-    }
     let bad = Some(LineFault::BadLine { line: 1, place: 0 });
-    for (len, fault) in [(440_004, bad), (440_005, long)] {
-        let input = vec![in rt.alloc(); b'a'; len]?;
-        assert_eq!(rt; fault_of(rt.alloc(), input.as_slice()), fault);
-    }
+    let long = Some(LineFault::TooLong { line: 1 });
+    let found = (
+        fault_of_line(rt.alloc(), 440_004)?,
+        fault_of_line(rt.alloc(), 440_005)?,
+    );
+    assert_eq!(rt; found, (bad, long));
     Ok(())
 }
 
-fn all_bytes(alloc: Global) -> Result<Bytes, AllocError> {
-    let mut all = Bytes::new(alloc);
-    for byte in 0..=255u8 {
-        all.push(byte)?;
-    }
-    Ok(all)
+fn text_of(alloc: Global, fault: LineFault) -> Result<String, Fail> {
+    Ok(format!(in alloc; "{fault}")?)
 }
 
-fn written_again(alloc: Global, input: &[u8]) -> Result<Bytes, LineFault> {
+#[test]
+fn fault_text(rt: HostRuntime) -> Result<(), Fail> {
+    let bad = text_of(rt.alloc(), LineFault::BadLine { line: 2, place: 5 })?;
+    assert_eq!(rt; bad.as_str(), "line 2: the byte at 5 fits no rule");
+    Ok(())
+}
+
+// ---- what is read
+
+// Whether the input is of this one pair.
+fn is_one_pair(alloc: Global, input: &[u8], key: &[u8], value: &[u8]) -> bool {
+    match read_lines(alloc, input) {
+        Ok(pairs) if pairs.len() == 1 => {
+            let pair = pairs.get(0);
+            pair.key.as_slice() == key && pair.value.as_slice() == value
+        }
+        _ => false,
+    }
+}
+
+#[test]
+fn one_pair(rt: HostRuntime) {
+    let alloc = rt.alloc();
+    assert!(rt;
+        is_one_pair(
+            alloc,
+            b"K \\x00a\\\\\\=~\\x7f\\xff\n",
+            b"\x00a\\",
+            b"~\x7f\xff"
+        )
+    );
+    assert!(rt; is_one_pair(alloc, b"K a b\\==\n", b"a b", b"="));
+}
+
+fn written_again(alloc: Global, input: &[u8]) -> Result<Vec<u8>, LineFault> {
     let pairs = read_lines(alloc, input)?;
-    let mut to = Bytes::new(alloc);
+    let mut to = Vec::new(alloc);
     for pair in pairs.as_slice() {
         write_pair_line(&mut to, pair.key.as_slice(), pair.value.as_slice())?;
     }
     Ok(to)
 }
 
-fn input_of_all(alloc: Global) -> Result<Bytes, AllocError> {
-    let all = all_bytes(alloc)?;
-    let mut input = Bytes::from_slice(alloc, b"K \\=\nK \\x00a\\\\\\=~\\x7f\\xff\n")?;
+// Some short pairs, the longer ones first, and one of all bytes.
+fn input_of_all(alloc: Global) -> Result<Vec<u8>, AllocError> {
+    let mut all = Vec::new(alloc);
+    for byte in 0..=255u8 {
+        all.push(byte)?;
+    }
+    let short = b"K \\x00a\\\\\\=~\\x7f\\xffabc\nK \\x01\\=\\\\\nK a\\=b\nK \\=\n";
+    let mut input = Vec::from_slice(alloc, short)?;
     write_pair_line(&mut input, all.as_slice(), all.as_slice())?;
     Ok(input)
 }
@@ -110,18 +176,10 @@ fn each_byte_comes_back(rt: HostRuntime) -> Result<(), Fail> {
     Ok(())
 }
 
-#[test]
-fn one_pair(rt: HostRuntime) -> Result<(), Fail> {
-    let pairs = read_lines(rt.alloc(), b"K \\x00a\\\\\\=~\\x7f\\xff\n")?;
-    assert_eq!(rt; pairs.len(), 1);
-    let pair = pairs.get(0);
-    assert_eq!(rt; pair.key.as_slice(), b"\x00a\\".as_slice());
-    assert_eq!(rt; pair.value.as_slice(), b"~\x7f\xff".as_slice());
-    Ok(())
-}
+// ---- what is written
 
-fn dump(alloc: Global) -> Result<Bytes, AllocError> {
-    let mut to = Bytes::new(alloc);
+fn dump(alloc: Global) -> Result<Vec<u8>, AllocError> {
+    let mut to = Vec::new(alloc);
     write_machine_line(&mut to, 0, EndWord::Ended, 12, b"")?;
     write_machine_line(&mut to, 65_535, EndWord::BadInstruction, 0, b"w1\xff")?;
     write_item_line(&mut to, 3, 0, 18_446_744_073_709_551_615, b"\x15\x01")?;
@@ -184,33 +242,41 @@ fn lines_by_kind(rt: HostRuntime) -> Result<(), Fail> {
     Ok(())
 }
 
-#[test]
-fn words(rt: HostRuntime) -> Result<(), Fail> {
-    assert_eq!(rt; EndWord::WaitBound.word(), b"wait-bound".as_slice());
-    assert_eq!(rt; EndWord::MachineLimit.word(), b"machine-limit".as_slice());
-    let mut to = Bytes::new(rt.alloc());
+fn printables(alloc: Global) -> Result<Bytes, AllocError> {
+    let mut to = Bytes::new(alloc);
     write_printable(&mut to, b"a\\\n", None)?;
     write_printable(&mut to, b"a'\\'", Some(b'\''))?;
-    assert_eq!(rt; to.as_slice(), b"a\\\\\\x0aa\\x27\\\\\\x27".as_slice());
+    Ok(to)
+}
+
+#[test]
+fn printable_bytes(rt: HostRuntime) -> Result<(), Fail> {
+    assert_eq!(rt;
+        printables(rt.alloc())?.as_slice(),
+        b"a\\\\\\x0aa\\x27\\\\\\x27".as_slice()
+    );
     Ok(())
+}
+
+#[test]
+fn words(rt: HostRuntime) {
+    let words = (EndWord::WaitBound.word(), EndWord::MachineLimit.word());
+    assert_eq!(rt; words.0, b"wait-bound".as_slice());
+    assert_eq!(rt; words.1, b"machine-limit".as_slice());
+}
+
+// How many places an order has before and after two are added, and those two.
+fn order_of_two(alloc: Global) -> Result<(usize, usize, u16, u16), AllocError> {
+    let mut order = Order::new(alloc);
+    let before = order.len();
+    order.push(63)?;
+    order.push(5)?;
+    order.shows_short();
+    Ok((before, order.len(), order.as_slice()[0], order.get(1)))
 }
 
 #[test]
 fn order(rt: HostRuntime) -> Result<(), Fail> {
-    let mut order = Order::new(rt.alloc());
-    assert!(rt; order.is_empty());
-    order.push(63)?;
-    order.is_short();
-    assert_eq!(rt; order.len(), 1);
-    assert_eq!(rt; order.get(0), 63);
-    assert_eq!(rt; order.as_slice(), [63].as_slice());
-    Ok(())
-}
-
-#[test]
-fn fault_text(rt: HostRuntime) -> Result<(), Fail> {
-    let fault = LineFault::BadLine { line: 2, place: 5 };
-    let text = format!(in rt.alloc(); "{fault}")?;
-    assert_eq!(rt; text.as_str(), "line 2: the byte at 5 fits no rule");
+    assert_eq!(rt; order_of_two(rt.alloc())?, (0, 2, 63, 5));
     Ok(())
 }

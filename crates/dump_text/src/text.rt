@@ -1,10 +1,11 @@
 //! Reading of the printable form of bytes.
 
-ghost use Rattle.std.specs.Prelude.{◌≡◌, ◌+◌, ◌≤◌, ◌∷◌, ◌++◌, length, IfOk, OnOk, OnErr};
+ghost use Rattle.std.specs.Prelude.{◌≡◌, ◌+◌, ◌≤◌, ◌∷◌, length, IfOk};
 ghost use Rattle.line_rules.specs.Reading.{piece_at, escaped_piece, hexadecimal_piece, digit_of, text_of};
-ghost use Rattle.dump_text.specs.Texts.{piece_is, text_is, passed};
+ghost use Rattle.dump_text.specs.Texts.{piece_is, stop_is, text_is, with_front, passed};
 
-use crate::plain::{is_plain, split_plain};
+use crate::plain::{add_run, is_plain, split_plain};
+use key_bytes::Bytes;
 use std::alloc::{AllocError, Global};
 
 /// What the bytes left of a line begin with; each piece that takes bytes has those behind it.
@@ -34,12 +35,12 @@ pub enum Stop {
 /// What was read of a printable form, and what is left: behind the separator, or from the byte on that fits no rule.
 #[derive(Drop)]
 pub struct ReadText<'a> {
-    pub bytes: Vec<u8>,
+    pub bytes: Bytes,
     pub stop: Stop,
     pub left: &'a [u8],
 }
 
-/// The value of a hexadecimal digit, 16 for any other byte. It takes no memory.
+// The value of a hexadecimal digit, 16 for any other byte. It takes no memory.
 #[inline(always)]
 fn digit_of(byte: u8) -> u8
     ensures value { result ≡ digit_of byte }
@@ -52,7 +53,7 @@ fn digit_of(byte: u8) -> u8
     }
 }
 
-/// A byte that has no shorter spelling, by its two digits. It takes no memory.
+// A byte that has no shorter spelling, by its two digits. It takes no memory.
 #[inline(always)]
 fn hexadecimal_piece(high: u8, low: u8, rest: &[u8]) -> Piece<'_>
     ensures { piece_is result ≡ hexadecimal_piece (high ∷ low ∷ rest.now) }
@@ -69,7 +70,7 @@ fn hexadecimal_piece(high: u8, low: u8, rest: &[u8]) -> Piece<'_>
     Piece::Spelled(byte, rest)
 }
 
-/// What stands behind a backslash. It takes no memory.
+// What stands behind a backslash. It takes no memory.
 #[inline(always)]
 fn escaped_piece(bytes: &[u8]) -> Piece<'_>
     ensures { piece_is result ≡ escaped_piece bytes.now }
@@ -82,7 +83,7 @@ fn escaped_piece(bytes: &[u8]) -> Piece<'_>
     }
 }
 
-/// What `bytes` begins with. It takes no memory.
+// What `bytes` begins with. It takes no memory.
 #[inline]
 #[tactic(auto, unfolding(line_rules::specs::Reading::piece_at))]
 fn piece_of(bytes: &[u8]) -> Piece<'_>
@@ -96,65 +97,63 @@ fn piece_of(bytes: &[u8]) -> Piece<'_>
     }
 }
 
-/// How many bytes are spelled before reading stops. It takes no memory.
-fn text_len(bytes: &[u8]) -> usize
-    ensures value { result ≡ length (text_of bytes.now).bytes }
-    ensures within { result ≤ length bytes.now }
+// A copy of what was read, with why reading stopped and what is left.
+fn copy_up_to<'a>(
+    alloc: Global,
+    bytes: &[u8],
+    stop: Stop,
+    left: &'a [u8],
+) -> Result<ReadText<'a>, AllocError>
+    ensures value { IfOk result (λ text. text_is text ≡ record { bytes = bytes.now; stop = stop_is stop; left = left.now }) }
+    ensures place { IfOk result (λ text. length text.left.now + passed text.stop ≡ length left.now + passed stop) }
 {
-    let (run, mut left) = split_plain(bytes);
-    let mut len = run.len();
-    while let Piece::Spelled(_, rest) = piece_of(left) {
-        let (run, after) = split_plain(rest);
-        len += 1 + run.len();
-        left = after;
-    }
-    len
+    let bytes = Bytes::from_slice(alloc, bytes)?;
+    Ok(ReadText { bytes, stop, left })
 }
 
-/// Adds bytes at the end, often none.
-#[inline(always)]
-fn add_run(text: &mut Vec<u8>, run: &[u8]) -> Result<(), AllocError>
-    ensures ok { OnOk result (text.new.items ≡ text.old.items ++ run.now) }
-    ensures err { OnErr result (text.new.items ≡ text.old.items) }
-{
-    if run.is_empty() {
-        return Ok(());
-    }
-    text.extend_from_slice(run)
-}
-
-/// The bytes that are spelled up to the end, the separator or a fault.
-pub fn read_text(alloc: Global, bytes: &[u8]) -> Result<ReadText<'_>, AllocError>
-    ensures value { IfOk result (λ text. text_is text ≡ text_of bytes.now) }
+// What a run and the bytes behind it spell. It is built in the scratch buffer, whatever that held.
+fn read_on<'a>(
+    alloc: Global,
+    scratch: &mut Vec<u8>,
+    run: &[u8],
+    bytes: &'a [u8],
+) -> Result<ReadText<'a>, AllocError>
+    ensures value { IfOk result (λ text. text_is text ≡ with_front run.now (text_of bytes.now)) }
     ensures within { IfOk result (λ text. length text.left.now + passed text.stop ≤ length bytes.now) }
 {
-    let (run, mut left) = split_plain(bytes);
-    // The room is measured first, so that memory is taken once.
-    let mut text = Vec::with_capacity(alloc, run.len() + text_len(left))?;
-    text.extend_from_slice(run)?;
+    scratch.clear();
+    scratch.extend_from_slice(run)?;
+    let mut left = bytes;
     loop {
         match piece_of(left) {
             Piece::Spelled(byte, rest) => {
-                let (run, after) = split_plain(rest);
-                text.push(byte)?;
-                add_run(&mut text, run)?;
+                let (plain, after) = split_plain(rest);
+                scratch.push(byte)?;
+                add_run(scratch, plain)?;
                 left = after;
             }
-            Piece::Nothing => return Ok(ReadText {
-                bytes: text,
-                stop: Stop::AtEnd,
-                left,
-            }),
-            Piece::Separator(rest) => return Ok(ReadText {
-                bytes: text,
-                stop: Stop::AtSeparator,
-                left: rest,
-            }),
-            Piece::Unfit => return Ok(ReadText {
-                bytes: text,
-                stop: Stop::AtFault,
-                left,
-            }),
+            Piece::Nothing => return copy_up_to(alloc, scratch, Stop::AtEnd, left),
+            Piece::Separator(rest) => return copy_up_to(alloc, scratch, Stop::AtSeparator, rest),
+            Piece::Unfit => return copy_up_to(alloc, scratch, Stop::AtFault, left),
         }
+    }
+}
+
+/// The bytes that are spelled up to the end, the separator or a fault. One plain run is copied as it stands; only a
+/// text with an escape in it is built in the scratch buffer, whatever that held.
+pub fn read_text<'a>(
+    alloc: Global,
+    scratch: &mut Vec<u8>,
+    bytes: &'a [u8],
+) -> Result<ReadText<'a>, AllocError>
+    ensures value { IfOk result (λ text. text_is text ≡ text_of bytes.now) }
+    ensures within { IfOk result (λ text. length text.left.now + passed text.stop ≤ length bytes.now) }
+{
+    let (run, left) = split_plain(bytes);
+    match piece_of(left) {
+        Piece::Spelled(..) => read_on(alloc, scratch, run, left),
+        Piece::Nothing => copy_up_to(alloc, run, Stop::AtEnd, left),
+        Piece::Separator(rest) => copy_up_to(alloc, run, Stop::AtSeparator, rest),
+        Piece::Unfit => copy_up_to(alloc, run, Stop::AtFault, left),
     }
 }

@@ -12,124 +12,133 @@ use itoa::Buffer;
 use key_bytes::Bytes;
 use std::alloc::AllocError;
 
-/// Adds a space and a word. After a refusal a part of it stands behind what `to` held.
-fn add_word(to: &mut Bytes, word: &[u8]) -> Result<(), AllocError>
-    ensures ok { OnOk result (to.new ≡ to.old ++ space ∷ word.now) }
-    ensures err { OnErr result (Grew to.old to.new) }
+// Adds a space and a word. After a refusal a part of it stands behind what `to` held.
+fn add_word(to: &mut Vec<u8>, word: &[u8]) -> Result<(), AllocError>
+    ensures ok { OnOk result (to.new.items ≡ to.old.items ++ space ∷ word.now) }
+    ensures err { OnErr result (Grew to.old.items to.new.items) }
 {
     to.push(b' ')?;
-    to.extend(word)
+    to.extend_from_slice(word)
 }
 
-/// Adds a space and a number. After a refusal a part of it stands behind what `to` held.
-fn add_number(to: &mut Bytes, number: u64) -> Result<(), AllocError>
-    ensures ok { OnOk result (to.new ≡ to.old ++ space ∷ decimal number) }
-    ensures err { OnErr result (Grew to.old to.new) }
+// Adds a space and a number. After a refusal a part of it stands behind what `to` held.
+fn add_number(to: &mut Vec<u8>, number: u64) -> Result<(), AllocError>
+    ensures ok { OnOk result (to.new.items ≡ to.old.items ++ space ∷ decimal number) }
+    ensures err { OnErr result (Grew to.old.items to.new.items) }
 {
     let mut buffer = Buffer::new();
     add_word(to, buffer.format(number).as_bytes())
 }
 
-/// Adds a space, the printable form of `bytes` and the line feed. After a refusal a part of it stands behind what `to` held.
-fn add_last(to: &mut Bytes, bytes: &[u8]) -> Result<(), AllocError>
-    ensures ok { OnOk result (to.new ≡ to.old ++ space ∷ (printable bytes.now ++ 10 ∷ [])) }
-    ensures err { OnErr result (Grew to.old to.new) }
+// Adds the letter of a line and the number of a machine. After a refusal a part of it stands behind what `to` held.
+fn add_start(to: &mut Vec<u8>, letter: u8, machine: u16) -> Result<(), AllocError>
+    ensures ok { OnOk result (to.new.items ≡ to.old.items ++ letter ∷ space ∷ decimal machine) }
+    ensures err { OnErr result (Grew to.old.items to.new.items) }
+{
+    to.push(letter)?;
+    add_number(to, u64::from(machine))
+}
+
+// Adds a space, the printable form of `bytes` and the line feed. After a refusal a part of it stands behind what `to` held.
+fn add_last(to: &mut Vec<u8>, bytes: &[u8]) -> Result<(), AllocError>
+    ensures ok { OnOk result (to.new.items ≡ to.old.items ++ space ∷ (printable bytes.now ++ 10 ∷ [])) }
+    ensures err { OnErr result (Grew to.old.items to.new.items) }
 {
     to.push(b' ')?;
     add_printable(to, bytes)?;
-    to.push(b'\n')
+    to.push(b'\n')?;
+    Ok(())
 }
 
-/// Adds the line of how a machine ended. After a refusal a part of it stands behind what `to` held.
+// Adds the line of how a machine ended. After a refusal a part of it stands behind what `to` held.
 #[tactic(auto, unfolding(line_rules::specs::Printing::machine_line))]
 fn add_machine_line(
-    to: &mut Bytes,
+    to: &mut Vec<u8>,
     machine: u16,
     end: EndWord,
     number: u64,
     prefix: &[u8],
 ) -> Result<(), AllocError>
-    ensures ok { OnOk result (to.new ≡ to.old ++ machine_line machine (word_of end) number prefix.now) }
-    ensures err { OnErr result (Grew to.old to.new) }
+    ensures ok { OnOk result (to.new.items ≡ to.old.items ++ machine_line machine (word_of end) number prefix.now) }
+    ensures err { OnErr result (Grew to.old.items to.new.items) }
 {
-    to.push(b'M')?;
-    add_number(to, u64::from(machine))?;
+    add_start(to, b'M', machine)?;
     add_word(to, end.word())?;
     add_number(to, number)?;
     add_last(to, prefix)
 }
 
-/// Adds the line of an item. After a refusal a part of it stands behind what `to` held.
+// Adds the line of an item. After a refusal a part of it stands behind what `to` held.
 #[tactic(auto, unfolding(line_rules::specs::Printing::item_line))]
 fn add_item_line(
-    to: &mut Bytes,
+    to: &mut Vec<u8>,
     machine: u16,
     place: u64,
     instruction: u64,
     packed: &[u8],
 ) -> Result<(), AllocError>
-    ensures ok { OnOk result (to.new ≡ to.old ++ item_line machine place instruction packed.now) }
-    ensures err { OnErr result (Grew to.old to.new) }
+    ensures ok { OnOk result (to.new.items ≡ to.old.items ++ item_line machine place instruction packed.now) }
+    ensures err { OnErr result (Grew to.old.items to.new.items) }
 {
-    to.push(b'S')?;
-    add_number(to, u64::from(machine))?;
+    add_start(to, b'S', machine)?;
     add_number(to, place)?;
     add_number(to, instruction)?;
     add_last(to, packed)
 }
 
-/// Adds the line of an error. After a refusal a part of it stands behind what `to` held.
+// Adds the line of an error. After a refusal a part of it stands behind what `to` held.
 #[tactic(auto, unfolding(line_rules::specs::Printing::error_line))]
 fn add_error_line(
-    to: &mut Bytes,
+    to: &mut Vec<u8>,
     machine: u16,
     instruction: u64,
     word: &[u8],
 ) -> Result<(), AllocError>
-    ensures ok { OnOk result (to.new ≡ to.old ++ error_line machine instruction word.now) }
-    ensures err { OnErr result (Grew to.old to.new) }
+    ensures ok { OnOk result (to.new.items ≡ to.old.items ++ error_line machine instruction word.now) }
+    ensures err { OnErr result (Grew to.old.items to.new.items) }
 {
-    to.push(b'E')?;
-    add_number(to, u64::from(machine))?;
+    add_start(to, b'E', machine)?;
     add_number(to, instruction)?;
     add_word(to, word)?;
-    to.push(b'\n')
+    to.push(b'\n')?;
+    Ok(())
 }
 
-/// Adds the line of a place of the order. After a refusal a part of it stands behind what `to` held.
+// Adds the line of a place of the order. After a refusal a part of it stands behind what `to` held.
 #[tactic(auto, unfolding(line_rules::specs::Printing::order_line))]
-fn add_order_line(to: &mut Bytes, machine: u16) -> Result<(), AllocError>
-    ensures ok { OnOk result (to.new ≡ to.old ++ order_line machine) }
-    ensures err { OnErr result (Grew to.old to.new) }
+fn add_order_line(to: &mut Vec<u8>, machine: u16) -> Result<(), AllocError>
+    ensures ok { OnOk result (to.new.items ≡ to.old.items ++ order_line machine) }
+    ensures err { OnErr result (Grew to.old.items to.new.items) }
 {
-    to.push(b'O')?;
-    add_number(to, u64::from(machine))?;
-    to.push(b'\n')
+    add_start(to, b'O', machine)?;
+    to.push(b'\n')?;
+    Ok(())
 }
 
-/// Adds the line of a pair. After a refusal a part of it stands behind what `to` held.
+// Adds the line of a pair. After a refusal a part of it stands behind what `to` held.
 #[tactic(auto, unfolding(line_rules::specs::Printing::pair_line))]
-fn add_pair_line(to: &mut Bytes, key: &[u8], value: &[u8]) -> Result<(), AllocError>
-    ensures ok { OnOk result (to.new ≡ to.old ++ pair_line key.now value.now) }
-    ensures err { OnErr result (Grew to.old to.new) }
+fn add_pair_line(to: &mut Vec<u8>, key: &[u8], value: &[u8]) -> Result<(), AllocError>
+    ensures ok { OnOk result (to.new.items ≡ to.old.items ++ pair_line key.now value.now) }
+    ensures err { OnErr result (Grew to.old.items to.new.items) }
 {
-    to.extend(b"K ")?;
+    to.extend_from_slice(b"K ")?;
     add_printable(to, key)?;
-    to.extend(b"\\=")?;
+    to.extend_from_slice(b"\\=")?;
     add_printable(to, value)?;
-    to.push(b'\n')
+    to.push(b'\n')?;
+    Ok(())
 }
 
 /// Adds the line of how a machine ended at the end. After a refusal `to` is as before.
 pub fn write_machine_line(
-    to: &mut Bytes,
+    to: &mut Vec<u8>,
     machine: u16,
     end: EndWord,
     number: u64,
     prefix: &[u8],
 ) -> Result<(), AllocError>
-    ensures ok { OnOk result (to.new ≡ to.old ++ machine_line machine (word_of end) number prefix.now) }
-    ensures err { OnErr result (to.new ≡ to.old) }
+    ensures ok { OnOk result (to.new.items ≡ to.old.items ++ machine_line machine (word_of end) number prefix.now) }
+    ensures err { OnErr result (to.new.items ≡ to.old.items) }
 {
     let len = to.len();
     let written = add_machine_line(to, machine, end, number, prefix);
@@ -138,14 +147,14 @@ pub fn write_machine_line(
 
 /// Adds the line of an item at the end. After a refusal `to` is as before.
 pub fn write_item_line(
-    to: &mut Bytes,
+    to: &mut Vec<u8>,
     machine: u16,
     place: u64,
     instruction: u64,
     packed: &[u8],
 ) -> Result<(), AllocError>
-    ensures ok { OnOk result (to.new ≡ to.old ++ item_line machine place instruction packed.now) }
-    ensures err { OnErr result (to.new ≡ to.old) }
+    ensures ok { OnOk result (to.new.items ≡ to.old.items ++ item_line machine place instruction packed.now) }
+    ensures err { OnErr result (to.new.items ≡ to.old.items) }
 {
     let len = to.len();
     let written = add_item_line(to, machine, place, instruction, packed);
@@ -154,13 +163,13 @@ pub fn write_item_line(
 
 /// Adds the line of an error at the end. After a refusal `to` is as before.
 pub fn write_error_line(
-    to: &mut Bytes,
+    to: &mut Vec<u8>,
     machine: u16,
     instruction: u64,
     word: &[u8],
 ) -> Result<(), AllocError>
-    ensures ok { OnOk result (to.new ≡ to.old ++ error_line machine instruction word.now) }
-    ensures err { OnErr result (to.new ≡ to.old) }
+    ensures ok { OnOk result (to.new.items ≡ to.old.items ++ error_line machine instruction word.now) }
+    ensures err { OnErr result (to.new.items ≡ to.old.items) }
 {
     let len = to.len();
     let written = add_error_line(to, machine, instruction, word);
@@ -168,9 +177,9 @@ pub fn write_error_line(
 }
 
 /// Adds the line of a place of the order at the end. After a refusal `to` is as before.
-pub fn write_order_line(to: &mut Bytes, machine: u16) -> Result<(), AllocError>
-    ensures ok { OnOk result (to.new ≡ to.old ++ order_line machine) }
-    ensures err { OnErr result (to.new ≡ to.old) }
+pub fn write_order_line(to: &mut Vec<u8>, machine: u16) -> Result<(), AllocError>
+    ensures ok { OnOk result (to.new.items ≡ to.old.items ++ order_line machine) }
+    ensures err { OnErr result (to.new.items ≡ to.old.items) }
 {
     let len = to.len();
     let written = add_order_line(to, machine);
@@ -178,19 +187,19 @@ pub fn write_order_line(to: &mut Bytes, machine: u16) -> Result<(), AllocError>
 }
 
 /// Adds the line of a pair at the end. After a refusal `to` is as before.
-pub fn write_pair_line(to: &mut Bytes, key: &[u8], value: &[u8]) -> Result<(), AllocError>
-    ensures ok { OnOk result (to.new ≡ to.old ++ pair_line key.now value.now) }
-    ensures err { OnErr result (to.new ≡ to.old) }
+pub fn write_pair_line(to: &mut Vec<u8>, key: &[u8], value: &[u8]) -> Result<(), AllocError>
+    ensures ok { OnOk result (to.new.items ≡ to.old.items ++ pair_line key.now value.now) }
+    ensures err { OnErr result (to.new.items ≡ to.old.items) }
 {
     let len = to.len();
     let written = add_pair_line(to, key, value);
     or_cut_back(to, len, written)
 }
 
-/// Adds a line at the end. After a refusal `to` is as before.
-pub fn write_line(to: &mut Bytes, line: &Line) -> Result<(), AllocError>
-    ensures ok { OnOk result (to.new ≡ to.old ++ line_of line.now) }
-    ensures err { OnErr result (to.new ≡ to.old) }
+// Adds a line. After a refusal a part of it stands behind what `to` held.
+fn add_line(to: &mut Vec<u8>, line: &Line) -> Result<(), AllocError>
+    ensures ok { OnOk result (to.new.items ≡ to.old.items ++ line_of line.now) }
+    ensures err { OnErr result (Grew to.old.items to.new.items) }
 {
     match line {
         Line::M {
@@ -198,19 +207,29 @@ pub fn write_line(to: &mut Bytes, line: &Line) -> Result<(), AllocError>
             end,
             number,
             prefix,
-        } => write_machine_line(to, *machine, *end, *number, prefix.as_slice()),
+        } => add_machine_line(to, *machine, *end, *number, prefix.as_slice()),
         Line::S {
             machine,
             place,
             instruction,
             bytes,
-        } => write_item_line(to, *machine, *place, *instruction, bytes.as_slice()),
+        } => add_item_line(to, *machine, *place, *instruction, bytes.as_slice()),
         Line::E {
             machine,
             instruction,
             word,
-        } => write_error_line(to, *machine, *instruction, word.as_slice()),
-        Line::O { machine } => write_order_line(to, *machine),
-        Line::K { key, value } => write_pair_line(to, key.as_slice(), value.as_slice()),
+        } => add_error_line(to, *machine, *instruction, word.as_slice()),
+        Line::O { machine } => add_order_line(to, *machine),
+        Line::K { key, value } => add_pair_line(to, key.as_slice(), value.as_slice()),
     }
+}
+
+/// Adds a line at the end. After a refusal `to` is as before.
+pub fn write_line(to: &mut Bytes, line: &Line) -> Result<(), AllocError>
+    ensures ok { OnOk result (to.new ≡ to.old ++ line_of line.now) }
+    ensures err { OnErr result (to.new ≡ to.old) }
+{
+    let mut text = Vec::new(to.allocator());
+    add_line(&mut text, line)?;
+    to.extend(text.as_slice())
 }

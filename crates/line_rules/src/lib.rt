@@ -2,5 +2,6 @@
 //!
 //! Nothing here runs. `specs/Printing.antt` has the printable form of bytes and each kind of line;
 //! `specs/Reading.antt` reads an input from left to right, line by line, with the first fault and its place.
-//! Both are stated apart from each other: `dump_text` proves that what is read is what was printed.
+//! Both are stated apart from each other: `dump_text` proves that what is read is what was printed. `proofs/` has laws
+//! of lines that follow from these definitions alone.
 #![tactic(auto)]

@@ -6,16 +6,17 @@ use Rattle.key_bytes.specs.Keys.{key_lt, top}
 use Rattle.dump_text.proofs.pair.is_below_top.Goals as goal
 
 -- nothing stands behind FF, so a key that begins with it isn't less
-decided : (less same : Bool) (rest : List ℕ) → is_lt (ordering_then (cond less Less (cond same Equal Greater)) (slice_cmp nat_cmp rest [])) ≡ less
-decided true same rest = refl
-decided false true [] = refl
-decided false true (byte ∷ rest) = refl
-decided false false rest = refl
+below_top_decided : (less same : Bool) (rest : List ℕ)
+    → is_lt (ordering_then (cond less Less (cond same Equal Greater)) (slice_cmp nat_cmp rest [])) ≡ less
+below_top_decided true same rest = refl
+below_top_decided false true [] = refl
+below_top_decided false true (byte ∷ rest) = refl
+below_top_decided false false rest = refl
 
 -- the first byte of a key decides
-by_first : (key : List ℕ) → 1 ≤ length key → nat_lt (slice_index_or key 0 0) 255 ≡ key_lt key top
-by_first [] h = absurd (omega arith)
-by_first (byte ∷ rest) h = sym (decided (nat_lt byte 255) (byte == 255) rest)
+first_byte_decides : (key : List ℕ) → 1 ≤ length key → nat_lt (slice_index_or key 0 0) 255 ≡ key_lt key top
+first_byte_decides [] h = absurd (omega arith)
+first_byte_decides (byte ∷ rest) h = sym (below_top_decided (nat_lt byte 255) (byte == 255) rest)
 
 pub returns-in-len1-up : goal.returns-in-len1-up
-returns-in-len1-up c = by_first c.args.key.now c.in-len1-up.len_at_least
+returns-in-len1-up c = first_byte_decides c.args.key.now c.in-len1-up.len_at_least

@@ -5,11 +5,15 @@ use Rattle.dump_text.proofs.Grown.{grew_same, grew_more}
 use Rattle.dump_text.proofs.printing.add_printable.Goals as goal
 
 pub loop-left-init : goal.loop-left-init
-loop-left-init c = record {
-  all = rw (c.in_ok-extend.ensures.ok, c.split_plain.ensures.front, c.split_plain.ensures.rest, append_assoc, ← printable_run c.args.bytes.now) refl;
-  stopped = rw c.split_plain.ensures.rest (after_stops is_plain c.args.bytes.now);
-  grew = rw c.in_ok-extend.ensures.ok (grew_more c.args.to.now c.args.to.now c.split_plain.result.0.now (grew_same c.args.to.now));
-}
+loop-left-init c =
+    let s = c.split_plain.ensures in
+    let bytes = c.args.bytes.now in
+    record {
+      all = rw (c.in_ok-extend_from_slice.ensures.items, s.front, s.rest, append_assoc, ← printable_run bytes) refl;
+      stopped = rw s.rest (after_stops is_plain bytes);
+      grew = rw c.in_ok-extend_from_slice.ensures.items
+          (grew_more c.args.to.now.items c.args.to.now.items c.split_plain.result.0.now (grew_same c.args.to.now.items));
+    }
 
 pub add_escape-requires : goal.add_escape-requires
 add_escape-requires c = first_fails is_plain c.loop-left.left.now c.in-len1-up.len_at_least c.loop-left.invariant.stopped
@@ -18,12 +22,19 @@ pub loop-left-preserved : goal.loop-left-preserved
 loop-left-preserved c =
     let s = c.split_plain-in-len1-up in
     let left = c.loop-left.left.now in
-    let now : c.add_run.new.to ≡ (c.loop-left.to ++ printed (slice_index_or left 0 0)) ++ s.result.0.now = rw (c.in_ok-add_run.ensures.ok, c.in_ok-add_escape.ensures.ok) refl in
+    let to = c.args.to.now.items in
+    let front = c.loop-left.to.items in
+    let spelled = printed (slice_index_or left 0 0) in
+    let now : c.add_run.new.to.items ≡ (front ++ spelled) ++ s.result.0.now =
+    rw (c.in_ok-add_run.ensures.ok, c.in_ok-add_escape.ensures.ok) refl in
     record {
-      all = rw (now, s.ensures.front, s.ensures.rest) (print_more c.loop-left.to left (c.args.to.now ++ printable c.args.bytes.now) c.in-len1-up.len_at_least c.loop-left.invariant.all);
+      all = rw (now, s.ensures.front, s.ensures.rest)
+          (print_more front left (to ++ printable c.args.bytes.now) c.in-len1-up.len_at_least c.loop-left.invariant.all);
       stopped = rw s.ensures.rest (after_stops is_plain (take (length left - 1) (drop 1 left)));
-      grew = rw now (grew_more c.args.to.now (c.loop-left.to ++ printed (slice_index_or left 0 0)) s.result.0.now (grew_more c.args.to.now c.loop-left.to (printed (slice_index_or left 0 0)) c.loop-left.invariant.grew));
+      grew = rw now (grew_more to (front ++ spelled) s.result.0.now (grew_more to front spelled c.loop-left.invariant.grew));
     }
 
 pub returns-clause-ok : goal.returns-clause-ok
-returns-clause-ok c = print_done c.loop-left.to c.loop-left.left.now (c.args.to.now ++ printable c.args.bytes.now) c.in_default.len_below c.loop-left.invariant.all
+returns-clause-ok c =
+    print_done c.loop-left.to.items c.loop-left.left.now
+    (c.args.to.now.items ++ printable c.args.bytes.now) c.in_default.len_below c.loop-left.invariant.all

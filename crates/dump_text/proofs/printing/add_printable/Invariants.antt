@@ -7,9 +7,9 @@ use Rattle.dump_text.proofs.printing.add_printable.Given as goal
 -- what was added, before what is still to add, is all, and what is left doesn't begin with a plain byte
 abbrev pub invariant-loop-left : goal.invariant-loop-left
 invariant-loop-left l = record {
-  all : l.to ++ printable l.left ≡ l.fn.to ++ printable l.bytes;
+  all : l.to.items ++ printable l.left ≡ l.fn.to.items ++ printable l.bytes;
   stopped : prefix_len is_plain l.left ≡ 0;
-  grew : Grew l.fn.to l.to;
+  grew : Grew l.fn.to.items l.to.items;
 }
 
 abbrev pub decreases-loop-left : goal.decreases-loop-left

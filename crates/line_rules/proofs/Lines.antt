@@ -13,7 +13,8 @@ IsFeedless-append [] ys h k = k
 IsFeedless-append (x ∷ xs) ys h k = (h.0, IsFeedless-append xs ys h.1 k)
 
 -- bytes without a line feed, and one behind them, are one line
-pub whole_first : (bytes rest : List ℕ) → IsFeedless bytes → lines_of ((bytes ++ 10 ∷ []) ++ rest) ≡ record { bytes = bytes; is_whole = true } ∷ lines_of rest
+pub whole_first : (bytes rest : List ℕ) → IsFeedless bytes
+    → lines_of ((bytes ++ 10 ∷ []) ++ rest) ≡ record { bytes = bytes; is_whole = true } ∷ lines_of rest
 unfolding lines_of
 whole_first [] rest h = refl
 whole_first (byte ∷ bytes) rest h = rw (h.0, whole_first bytes rest h.1) refl
@@ -33,15 +34,18 @@ with_first_begins byte bytes lines h = record {
   size = omega (arith, h.size);
 }
 
-one_begins : (byte : ℕ) (lines : List Line) → Begins (byte ∷ []) (with_first byte lines)
-one_begins byte [] = record { line = record { bytes = byte ∷ []; is_whole = false }; others = []; parts = refl; size = omega arith }
-one_begins byte (line ∷ lines) = record { line = record line { bytes = byte ∷ line.bytes }; others = lines; parts = refl; size = omega arith }
+byte_begins : (byte : ℕ) (lines : List Line) → Begins (byte ∷ []) (with_first byte lines)
+byte_begins byte [] = record { line = record { bytes = byte ∷ []; is_whole = false }; others = []; parts = refl; size = omega arith }
+byte_begins byte (line ∷ lines) =
+    record { line = record line { bytes = byte ∷ line.bytes }; others = lines; parts = refl; size = omega arith }
 
 -- bytes without a line feed stand in the first line, whatever stands behind them
-pub begins : (byte : ℕ) (bytes rest : List ℕ) → IsFeedless (byte ∷ bytes) → Begins (byte ∷ bytes) (lines_of ((byte ∷ bytes) ++ rest))
+pub first_line_begins : (byte : ℕ) (bytes rest : List ℕ) → IsFeedless (byte ∷ bytes)
+    → Begins (byte ∷ bytes) (lines_of ((byte ∷ bytes) ++ rest))
 unfolding lines_of
-begins byte [] rest h = rw h.0 (one_begins byte (lines_of rest))
-begins byte (next ∷ bytes) rest h = rw h.0 (with_first_begins byte (next ∷ bytes) (lines_of ((next ∷ bytes) ++ rest)) (begins next bytes rest h.1))
+first_line_begins byte [] rest h = rw h.0 (byte_begins byte (lines_of rest))
+first_line_begins byte (next ∷ bytes) rest h =
+    rw h.0 (with_first_begins byte (next ∷ bytes) (lines_of ((next ∷ bytes) ++ rest)) (first_line_begins next bytes rest h.1))
 
 -- bytes up to their first line feed, and what stands behind it
 pub record HasFeed (bytes : List ℕ) : Type 0 where
@@ -50,8 +54,10 @@ pub record HasFeed (bytes : List ℕ) : Type 0 where
   pub parts : bytes ≡ (line ++ 10 ∷ []) ++ rest
   pub feedless : IsFeedless line
 
-feed_further : (byte : ℕ) (bytes : List ℕ) → (byte == 10) ≡ false → HasFeed bytes ⊎ IsFeedless bytes → HasFeed (byte ∷ bytes) ⊎ IsFeedless (byte ∷ bytes)
-feed_further byte bytes e (inl h) = inl (record { line = byte ∷ h.line; rest = h.rest; parts = ap (λ (x : List ℕ). byte ∷ x) h.parts; feedless = (e, h.feedless) })
+feed_further : (byte : ℕ) (bytes : List ℕ) → (byte == 10) ≡ false → HasFeed bytes ⊎ IsFeedless bytes
+    → HasFeed (byte ∷ bytes) ⊎ IsFeedless (byte ∷ bytes)
+feed_further byte bytes e (inl h) =
+    inl (record { line = byte ∷ h.line; rest = h.rest; parts = ap (λ (x : List ℕ). byte ∷ x) h.parts; feedless = (e, h.feedless) })
 feed_further byte bytes e (inr h) = inr (e, h)
 
 pub first_feed : (bytes : List ℕ) → HasFeed bytes ⊎ IsFeedless bytes

@@ -4,7 +4,8 @@ use Rattle.std.proofs.lemmas.Bool.{not-false, ltb-false, leb-false}
 use Rattle.line_rules.specs.Reading.{Entry, Flaw, Bad, TooMany, TooLong, Line, Place, size_of, is_pair, is_too_many, text_of, fields_at, pair_at, judged, read_line, input_limit, pairs_limit, line_limit}
 
 -- a test that did not fail
-pub guard_ok : {A E : Type 0} (test : Bool) (fault : E) (read : Result A E) (value : A) → cond test (Err fault) read ≡ Ok value → (test ≡ false) × (read ≡ Ok value)
+pub guard_ok : {A E : Type 0} (test : Bool) (fault : E) (read : Result A E) (value : A) → cond test (Err fault) read ≡ Ok value
+    → (test ≡ false) × (read ≡ Ok value)
 guard_ok true fault read value e = absurd cc
 guard_ok false fault read value e = (refl, e)
 
@@ -38,8 +39,10 @@ pub record IsRead (place : Place) (line : Line) (entry : Entry) : Type 0 where
 pub is_read : (place : Place) (line : Line) (entry : Entry) → read_line place line ≡ Ok entry → IsRead place line entry
 unfolding read_line
 is_read place line entry e =
-    let many = guard_ok (is_too_many place line) (TooMany place.number) (cond (nat_lt line_limit (length line.bytes)) (Err (TooLong place.number)) (judged place.number (pair_at line line.bytes))) entry e in
-    let long = guard_ok (nat_lt line_limit (length line.bytes)) (TooLong place.number) (judged place.number (pair_at line line.bytes)) entry many.1 in
+    let many = guard_ok (is_too_many place line) (TooMany place.number)
+    (cond (nat_lt line_limit (length line.bytes)) (Err (TooLong place.number)) (judged place.number (pair_at line line.bytes))) entry e in
+    let long = guard_ok (nat_lt line_limit (length line.bytes)) (TooLong place.number)
+    (judged place.number (pair_at line line.bytes)) entry many.1 in
     let read = judged_ok place.number (pair_at line line.bytes) entry long.1 in
     let pair = pair_is_pair line line.bytes entry read in
     let limits = neither (nat_lt input_limit (place.bytes + size_of line)) (is_pair line.bytes && nat_le pairs_limit place.pairs) many.0 in

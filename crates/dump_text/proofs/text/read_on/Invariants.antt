@@ -1,12 +1,12 @@
 use Rattle.std.proofs.Common.{◌≡◌, ◌≤◌, length}
 use Rattle.line_rules.specs.Reading.{text_of}
-use Rattle.dump_text.proofs.Pieces.{with_front}
-use Rattle.dump_text.proofs.text.read_text.Given as goal
+use Rattle.dump_text.specs.Texts.{with_front}
+use Rattle.dump_text.proofs.text.read_on.Given as goal
 
 -- what was read, before what is still to read, is all
 abbrev pub invariant-loop-byte : goal.invariant-loop-byte
 invariant-loop-byte l = record {
-  all : with_front l.text.items (text_of l.left) ≡ text_of l.bytes;
+  all : with_front l.scratch.items (text_of l.left) ≡ with_front l.run (text_of l.bytes);
   within : length l.left ≤ length l.bytes;
 }
 
