@@ -19,7 +19,7 @@ use Rattle.future_cell.specs.declared.stage.WaiterStage.{WaiterStage}
 use Rattle.future_cell.specs.declared.stage.View.{View}
 use Rattle.future_cell.specs.declared.stage.View.TheVariants.{Unsplit, Sets, Waits, Meets, Over, Spent}
 use Rattle.future_cell.specs.Rule.{IsSized, Slot, Phase, unsplit, shared, joined, over, words_of, homes_of, views_of, state_of, Agree, ValuesAgree, CallbacksAgree, IsSound, Ruled, word_before}
-use Rattle.future_cell.specs.Plays.{Place, Reached, Published, PublishedIn, Ended, Looked, looked_at, Kept, Reserved, Parked, ParkedIn, Restored, Emptied, emptied_hand, is_known, Closed, setter_in, waiter_in, ran_in, value_in_hand, callback_in_hand, waiter_stage, is_settled, fresh, setter_part, waiter_part, meeting, is_resting}
+use Rattle.future_cell.specs.Plays.{Place, Reached, Published, PublishedIn, HasFinished, Looked, looked_at, Kept, Reserved, Parked, ParkedIn, Restored, Emptied, emptied_hand, is_known, Closed, setter_in, waiter_in, ran_in, value_in_hand, callback_in_hand, waiter_stage, is_settled, fresh, setter_part, waiter_part, meeting, is_resting}
 
 abbrev St : Type 0 → Type 0 → Type 0
 St V C = State (Slot V C) (View V C)
@@ -156,19 +156,19 @@ module _ {V C : Type 0} where
       (setter_steps n id (Sets Filling, (0, Some (Value v)) ∷ []) (λ _. 2) (λ n after. Published v n after) Filling refl
       (λ w sound. publish_at v w.known w.callback w.looks w.found sound.0 sound.1))
 
-  end_at : (v : V) (known : Known V) (k : CallbackStage C) (l f : ℕ) → ValuesAgree (Running v) known → CallbacksAgree {V = V} (Running v) k
-      → Steps 0 (Sets (Running v), (1, None) ∷ []) (λ n. n) (λ _ after. Ended (Running v) after) (state_of (shared (Running v) (waiter_stage known k l f)))
-  end_at v known Unregistered l f a b = cc
-  end_at v known Laying l f a b = cc
-  end_at v known (Lies c) l f a b = (Sets (Finished v true), gives, tt, (shared (Finished v true) (waiter_stage known (Lies c) l f), (a, refl), refl), refl)
-  end_at v known Refused l f a b = cc
-  end_at v known Returned l f a b = cc
+  finish_at : (v : V) (known : Known V) (k : CallbackStage C) (l f : ℕ) → ValuesAgree (Running v) known → CallbacksAgree {V = V} (Running v) k
+      → Steps 0 (Sets (Running v), (1, None) ∷ []) (λ n. n) (λ _ after. HasFinished (Running v) after) (state_of (shared (Running v) (waiter_stage known k l f)))
+  finish_at v known Unregistered l f a b = cc
+  finish_at v known Laying l f a b = cc
+  finish_at v known (Lies c) l f a b = (Sets (Finished v true), gives, tt, (shared (Finished v true) (waiter_stage known (Lies c) l f), (a, refl), refl), refl)
+  finish_at v known Refused l f a b = cc
+  finish_at v known Returned l f a b = cc
 
   -- the setter gives slot 1 back
-  pub ends : (n id : ℕ) (m : Place V C) (v : V) → m ≡ (Sets (Running v), (1, None) ∷ []) → Allows Ruled n id m 0 (λ n. n) (λ _ after. Ended (setter_in m.0) after)
-  ends n id m v is = subst (λ (x : Place V C). Allows Ruled n id x 0 (λ n. n) (λ _ after. Ended (setter_in x.0) after)) (sym is)
-      (setter_steps n id (Sets (Running v), (1, None) ∷ []) (λ n. n) (λ _ after. Ended (Running v) after) (Running v) refl
-      (λ w sound. end_at v w.known w.callback w.looks w.found sound.0 sound.1))
+  pub finishes : (n id : ℕ) (m : Place V C) (v : V) → m ≡ (Sets (Running v), (1, None) ∷ []) → Allows Ruled n id m 0 (λ n. n) (λ _ after. HasFinished (setter_in m.0) after)
+  finishes n id m v is = subst (λ (x : Place V C). Allows Ruled n id x 0 (λ n. n) (λ _ after. HasFinished (setter_in x.0) after)) (sym is)
+      (setter_steps n id (Sets (Running v), (1, None) ∷ []) (λ n. n) (λ _ after. HasFinished (Running v) after) (Running v) refl
+      (λ w sound. finish_at v w.known w.callback w.looks w.found sound.0 sound.1))
 
   look_at : (p : SetterStage V) (k : CallbackStage C) (l f : ℕ) → ValuesAgree p Unseen → CallbacksAgree p k
       → Steps 1 (Waits (waiter_stage Unseen k l f), []) (λ n. n) (Looked (waiter_stage Unseen k l f)) (state_of (shared p (waiter_stage Unseen k l f)))

@@ -117,11 +117,11 @@ module _ {V C : Type 0} where
   PublishedIn (Some v) n m = Published v n m
 
   -- the setter gave slot 1 back
-  abbrev pub Ended : SetterStage V → Place V C → Type 0
-  Ended Unset m = Unit {0}
-  Ended Filling m = Unit {0}
-  Ended (Running v) m = m ≡ (Sets (Finished v true), [])
-  Ended (Finished v ran) m = Unit {0}
+  abbrev pub HasFinished : SetterStage V → Place V C → Type 0
+  HasFinished Unset m = Unit {0}
+  HasFinished Filling m = Unit {0}
+  HasFinished (Running v) m = m ≡ (Sets (Finished v true), [])
+  HasFinished (Finished v ran) m = Unit {0}
 
   -- the waiter looked at the word, and found n
   abbrev pub looked_at : WaiterStage V C → ℕ → WaiterStage V C

@@ -2,6 +2,7 @@
 
 /// The signal that the value is there. It is called once, by value.
 pub trait Call {
+    /// Gives the signal, and uses the callback up. It answers nothing and cannot fail.
     fn run(self);
 }
 

@@ -3,13 +3,14 @@ ghost use Rattle.std.specs.Prelude.{◌≡◌};
 ghost use Rattle.std.specs.Arc.{arc_value};
 ghost use Rattle.future_cell.specs.Rule.{IsSized};
 
-use crate::rule::{Cell, CellSeat, End, Keep, Look, Park, Publish, Reach, Reserve, Restore};
+use crate::rule::{Cell, CellSeat, Finish, Keep, Look, Park, Publish, Reach, Reserve, Restore};
 use crate::slot::{callback_of, expect_empty, value_of};
 use crate::stage::Item;
 use crate::word::{EMPTY, PARKED, SET};
 use std::alloc::Global;
 use std::sync::Arc;
 
+/// A hold on a cell and the seat of one half at its table. Contracts see the cell and what the seat knows and holds.
 #[derive(Drop)]
 pub struct Half<V, C> {
     pub cell: Arc<Cell<V, C>, Global>,
@@ -48,7 +49,7 @@ impl<V, C> Half<V, C> {
     {
         let shared = &self.cell.shared;
         let callback = callback_of(shared.exchange(&mut self.seat, 1, None));
-        shared.load::<End>(&mut self.seat, 0);
+        shared.load::<Finish>(&mut self.seat, 0);
         callback
     }
 

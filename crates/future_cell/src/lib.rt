@@ -39,7 +39,8 @@
 //! A callback is handed over by value and `Call::run` uses it up, so it runs at most once. Neither the value nor the
 //! callback has to be `Drop`, and no code here can throw away one that is not. No clause can say that `run` was called:
 //! that a parked callback runs inside `set`, and any other one inside `on_ready`, is tested, and so is that a wake wakes
-//! the sleeper it was made with. Nothing is said of progress, or of when a sleeping thread wakes.
+//! the sleeper it was made with. Which word a look found is told by the step of that look alone, so it is also tested that
+//! `peek` shows a value which was set. Nothing is said of progress, or of when a sleeping thread wakes.
 //!
 //! The value and the callback are handed over through two slots of an `atomic_table`, by one word. `specs/Rule.antt` has
 //! the rule of the table: its word, its slots and what each half knows, computed from how far the two halves are.

@@ -25,7 +25,8 @@ fn free_table<V, C>(table: Cell<V, C>, seat: CellSeat<V, C>)
     closed.free();
 }
 
-/// A new cell, and its two halves: the setter's and the waiter's.
+/// A new cell, and its two halves: the setter's and the waiter's. It takes all the memory of the cell, and where there is not
+/// enough it answers `AllocError` and keeps none.
 pub fn two_halves<V, C>(alloc: Global) -> Result<(Half<V, C>, Half<V, C>), AllocError>
     ensures { IfOk result (λ halves. (cell_of halves.0 ≡ cell_of halves.1) × (place_of halves.0 ≡ (Sets Unset, [])) × (place_of halves.1 ≡ (Waits fresh, []))) }
 {

@@ -1,6 +1,6 @@
 //! The rule of a cell's table, and what each step on it tells.
 ghost use Rattle.future_cell.specs.Rule.{Ruled};
-ghost use Rattle.future_cell.specs.Plays.{setter_in, waiter_in, value_in_hand, callback_in_hand, Reached, PublishedIn, Ended, Looked, Kept, Reserved, ParkedIn, Restored, Emptied, Closed, setter_part, waiter_part, meeting};
+ghost use Rattle.future_cell.specs.Plays.{setter_in, waiter_in, value_in_hand, callback_in_hand, Reached, PublishedIn, HasFinished, Looked, Kept, Reserved, ParkedIn, Restored, Emptied, Closed, setter_part, waiter_part, meeting};
 ghost use Rattle.future_cell.specs.declared.stage.View.TheVariants.{Unsplit, Over, Spent};
 
 use crate::stage::{Item, View};
@@ -13,6 +13,7 @@ pub type Cell<V, C> = Table<Option<Item<V, C>>, View<V, C>, (), Law, Global>;
 /// A seat at the table of a cell.
 pub type CellSeat<V, C> = Seat<Option<Item<V, C>>, View<V, C>>;
 
+/// The rule of a cell's table (`specs/Rule.antt`).
 pub struct Law;
 
 impl<V, C> TableRule<Option<Item<V, C>>, View<V, C>, ()> for Law {
@@ -36,10 +37,10 @@ impl<V, C> Play<Option<Item<V, C>>, View<V, C>> for Publish {
 }
 
 /// The setter gives slot 1 back.
-pub struct End;
+pub struct Finish;
 
-impl<V, C> Play<Option<Item<V, C>>, View<V, C>> for End {
-    ghost then = { λ _ before _ after. Ended (setter_in before.0) after };
+impl<V, C> Play<Option<Item<V, C>>, View<V, C>> for Finish {
+    ghost then = { λ _ before _ after. HasFinished (setter_in before.0) after };
 }
 
 /// The waiter looks whether the value is there.

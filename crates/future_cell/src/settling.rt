@@ -18,7 +18,7 @@ pub struct Settled<V> {
     ran: u8,
 }
 
-/// A new cell. It takes all the memory of the cell.
+/// A new cell. It takes all the memory of the cell, and where there is not enough it answers `AllocError` and keeps none.
 pub fn pair<V, C: Call>(alloc: Global) -> Result<(Setter<V, C>, Waiter<V, C>), AllocError>
     ensures cell { IfOk result (λ halves. setter_cell halves.0 ≡ waiter_cell halves.1) }
     ensures fresh { IfOk result (λ halves. (shown halves.1 ≡ None) × (registration halves.1 ≡ No) × (looks halves.1 ≡ 0) × (last_found halves.1 ≡ EMPTY)) }

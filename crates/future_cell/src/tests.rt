@@ -114,6 +114,43 @@ fn a_cell_settles_without_a_callback(rt: HostRuntime) -> Result<(), Fail> {
     Ok(())
 }
 
+// What a waiter shows once the value was set, where it had registered nothing.
+fn shown_with_nothing_registered(alloc: Global) -> Result<Option<u64>, AllocError> {
+    let (setter, mut waiter) = pair::<u64, Raise>(alloc)?;
+    let _receipt = setter.set(7);
+    Ok(waiter.peek().copied())
+}
+
+// What a waiter answered to a callback before the value was set, and what it shows after.
+fn shown_after_a_parked_callback(alloc: Global) -> Result<(Ready, Option<u64>), AllocError> {
+    let (_mark, raise) = mark(alloc)?;
+    let (setter, mut waiter) = pair::<u64, Raise>(alloc)?;
+    let ready = waiter.on_ready(raise);
+    let _receipt = setter.set(7);
+    Ok((ready, waiter.peek().copied()))
+}
+
+// No clause rules out a `peek` that answers None here: what the waiter found at the word is what its own step says of it.
+#[test]
+fn a_value_that_was_set_is_shown(rt: HostRuntime) -> Result<(), Fail> {
+    assert_eq!(rt; shown_with_nothing_registered(rt.alloc())?, Some(7));
+    assert_eq!(rt;
+        shown_after_a_parked_callback(rt.alloc())?,
+        (Ready::Parked, Some(7))
+    );
+    Ok(())
+}
+
+// No clause says which sleeper a wake wakes. The wake runs first, so that its own sleeper does not sleep at all; with the
+// wake of another sleeper this one would sleep for ever, and the test would run out of time.
+#[test]
+fn a_wake_wakes_its_own_sleeper(rt: HostRuntime) -> Result<(), Fail> {
+    let (wake, sleeper) = wakes(rt.alloc())?;
+    wake.run();
+    sleeper.parker.park(&rt);
+    Ok(())
+}
+
 // One thread sets a value while another registers a callback. The value, how many callbacks ran, and how often the mark was raised.
 fn meet<R: Threads>(rt: &R, alloc: Global, value: u64) -> Result<(u64, u8, u64), AllocError> {
     let (mark, raise) = mark(alloc)?;

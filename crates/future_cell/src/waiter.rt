@@ -32,6 +32,7 @@ impl<V, C> Waiter<V, C> {
     ghost use Rattle.future_cell.specs.Halves.{place_of};
     ghost use Rattle.future_cell.specs.Cells.{waiter_cell, shown, registration, looks, last_found, Peeked, NotYet};
 
+    /// The waiter of a new cell, from its half: it has shown no value and registered no callback. It takes no memory.
     pub(crate) fn of(half: Half<V, C>) -> Waiter<V, C>
         requires { place_of half ≡ (Waits fresh, []) }
         ensures { (result.half ≡ half) × (result.value ≡ None) × (result.registered ≡ No) }
@@ -52,7 +53,8 @@ impl<V, C> Waiter<V, C> {
         self.value.as_ref()
     }
 
-    // Looks for the value, if it was not shown yet.
+    /// Looks for the value, if it was not shown yet: from then on it is shown, or this look at the word did not find `SET`. It
+    /// takes no memory.
     pub(crate) fn look(&mut self)
         ensures peeked { Peeked self.old self.new }
         ensures missed { IfNone (shown self.new) (NotYet self.old self.new) }
@@ -64,7 +66,7 @@ impl<V, C> Waiter<V, C> {
         refill(&mut self.value, seen);
     }
 
-    // The value, which was shown.
+    /// The value, which was shown. It changes nothing.
     pub(crate) fn shown_value(&self) -> &V
         requires { IsSome (shown self.now) }
         ensures { shown self.now ≡ Some result.now }

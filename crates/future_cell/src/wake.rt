@@ -14,10 +14,11 @@ pub struct Wake {
 /// What a thread sleeps on until the wake of it runs.
 #[derive(Drop)]
 pub struct Sleeper {
-    parker: Parker,
+    pub(crate) parker: Parker,
 }
 
-/// A wake and the sleeper that it wakes. It takes the memory of both.
+/// A wake and the sleeper that it wakes. It takes the memory of both, and where there is not enough it answers `AllocError` and
+/// keeps none.
 pub fn wakes(alloc: Global) -> Result<(Wake, Sleeper), AllocError> {
     let parker = Parker::new(alloc)?;
     let unparker = parker.unparker().clone()?;

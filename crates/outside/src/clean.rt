@@ -1,8 +1,8 @@
 //! A source and a sink that never fail.
 
-ghost use Rattle.std.specs.Prelude.{◌≡◌, ◌≢◌, ◌<◌, length, min, Some, None, IfOk};
+ghost use Rattle.std.specs.Prelude.{◌≡◌, ◌≢◌, ℕ, ◌<◌, length, min, Some, None, IfOk};
 ghost use Rattle.outside.specs.Streams.{GotWithin, Reads, TookWithin, Writes};
-ghost use Rattle.outside.specs.Memory.{clean_of, clean_answer, after_clean_read};
+ghost use Rattle.outside.specs.Memory.{CleanState, clean_of, clean_answer, after_clean_read};
 
 use crate::bytes_left::BytesLeft;
 use crate::sink::{Put, Sink};
@@ -32,7 +32,8 @@ impl CleanSource {
     /// A source that gives `bytes`, at most `piece` of them in a call.
     pub fn new(alloc: Global, bytes: &[u8], piece: usize) -> Result<CleanSource, AllocError>
         requires { 0 < piece }
-        ensures { IfOk result (λ s. s ≡ clean_of bytes.now piece) }
+        ensures made { IfOk result (λ s. s ≡ clean_of bytes.now piece) }
+        ensures never_faults { (s : CleanState) → ⟦<CleanSource as Source>⟧.faults s ≡ 0 }
     {
         Ok(CleanSource {
             left: BytesLeft::new(alloc, bytes)?,
@@ -83,7 +84,8 @@ impl CleanSink {
     /// A sink that takes at most `piece` bytes in a call. It takes no memory.
     pub fn new(piece: usize) -> CleanSink
         requires { 0 < piece }
-        ensures { result ≡ piece }
+        ensures made { result ≡ piece }
+        ensures never_faults { (s : ℕ) → ⟦<CleanSink as Sink>⟧.faults s ≡ 0 }
     {
         CleanSink { piece }
     }
