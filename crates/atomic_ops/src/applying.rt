@@ -6,7 +6,7 @@ ghost use Rattle.database_rules.specs.Atomics.{atom, atom_of_none, atom_of_value
 
 use crate::bits::{Joining, bytewise};
 use crate::numbers;
-use database_rules::AtomicOp;
+use database_rules::{AtomicOp, VALUE_LIMIT};
 use key_bytes::{Bytes, is_below};
 use std::alloc::{AllocError, Global};
 
@@ -82,15 +82,12 @@ fn greater<'a>(old: &'a [u8], operand: &'a [u8]) -> &'a [u8]
     if is_below(old, operand) { operand } else { old }
 }
 
-// The most bytes of a value that something was appended to.
-const APPEND_LIMIT: usize = 100_000;
-
 // The operand behind the old value, or the old value alone where the two have too many bytes.
 #[tactic(auto, unfolding(database_rules::specs::Atomics::appended))]
 fn appended(alloc: Global, old: &[u8], operand: &[u8]) -> Result<Bytes, AllocError>
     ensures { IfOk result (λ value. value ≡ appended old.now operand.now) }
 {
-    if APPEND_LIMIT < old.len() || APPEND_LIMIT - old.len() < operand.len() {
+    if VALUE_LIMIT < old.len() || VALUE_LIMIT - old.len() < operand.len() {
         return Bytes::from_slice(alloc, old);
     }
     let mut value = Vec::with_capacity(alloc, old.len() + operand.len())?;

@@ -8,7 +8,7 @@ use Rattle.database_rules.specs.declared.Phase.{Phase}
 use Rattle.database_rules.specs.declared.Phase.TheVariants as phase
 use Rattle.database_rules.specs.Atomics.{atomic_named}
 use Rattle.database_rules.specs.Databases.{Mutation, History, Commit, Set, Clear, ClearRange}
-use Rattle.database_rules.specs.Transactions.{Transaction, fresh, get_code, set_code, clear_code, clear_range_code, atomic_code, commit_code, is_read_only, is_cancelled, is_retryable, with_version}
+use Rattle.database_rules.specs.Transactions.{Transaction, fresh, one_key_code, set_code, clear_range_code, atomic_code, commit_code, is_read_only, is_cancelled, is_retryable, with_version}
 use Rattle.fdb_calls.specs.Calling.{Called, called, get_by, write_by, atomic_by, commit_by, commit_allowed, commit_refused, on_error_by, error_handled}
 
 -- it makes no commit, and draws one life at most
@@ -66,9 +66,9 @@ commit_lives history life transaction = (commit_few (commit_code transaction) hi
 -- a call but a commit
 quiet : (history : History) (life : ℕ) (transaction : Transaction) (its_call : TxnCall) → (IsQuiet (called history life transaction its_call)) ⊎ (its_call ≡ call.Commit)
 unfolding called
-quiet history life transaction (call.Get key snapshot) = inl (get_quiet (get_code transaction key) history transaction key)
+quiet history life transaction (call.Get key snapshot) = inl (get_quiet (one_key_code transaction key) history transaction key)
 quiet history life transaction (call.Set key value) = inl (write_quiet (set_code transaction key value) transaction (Set key value))
-quiet history life transaction (call.Clear key) = inl (write_quiet (clear_code transaction key) transaction (Clear key))
+quiet history life transaction (call.Clear key) = inl (write_quiet (one_key_code transaction key) transaction (Clear key))
 quiet history life transaction (call.ClearRange range) = inl (write_quiet (clear_range_code transaction range.begin range.end) transaction (ClearRange range.begin range.end))
 quiet history life transaction (call.Atomic name key operand) = inl (atomic_quiet (atomic_code transaction name key operand) (atomic_named name) transaction key operand)
 quiet history life transaction call.Commit = inr refl

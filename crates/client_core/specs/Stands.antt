@@ -39,5 +39,3 @@ Answers (reply.Value value) core words stepped = (stepped.reply ≡ reply.Value 
 Answers (reply.Fault code) core words stepped = (stepped.reply ≡ reply.Fault code) × StandsFor core stepped.world × HasWords stepped.world words
 Answers reply.NoMemory core words stepped = ⊤
 
-abbrev pub number_of : Code → ℕ
-number_of code = code.0

@@ -1,6 +1,7 @@
 -- What an atomic operation makes of a value (API reference of release 6.3, "fdb_transaction_atomic_op").
 use Rattle.std.specs.Prelude.{ℕ, zero, suc, ◌+◌, ◌-◌, ◌*◌, ◌/◌, ◌%◌, ◌^◌, Bool, true, false, ◌||◌, if◌then◌else◌, List, [], ◌∷◌, ◌++◌, length, map, take, replicate, zip, nat_lt, nat_le, bit_and, bit_or, bit_xor, Option, Some, None, bytes_eq, codes}
 use Rattle.key_bytes.specs.Keys.{lesser, greater}
+use Rattle.database_rules.specs.declared.TheConstants.{VALUE_LIMIT}
 use Rattle.database_rules.specs.declared.AtomicOp.{AtomicOp}
 use Rattle.database_rules.specs.declared.AtomicOp.TheVariants as atomic
 
@@ -37,13 +38,9 @@ little_min kept operand = if nat_lt (little kept) (little operand) then kept els
 unfoldable pub bytewise : (ℕ → ℕ → ℕ) → List ℕ → List ℕ → List ℕ
 bytewise joined kept operand = map (λ pair. joined pair.0 pair.1) (zip kept operand)
 
--- the most bytes of a value that something was appended to
-abbrev pub append_limit : ℕ
-append_limit = 100000
-
--- the operand behind the old value, where the two have no more bytes than that
+-- the operand behind the old value, where the two have no more bytes than a value may have
 unfoldable pub appended : List ℕ → List ℕ → List ℕ
-appended old operand = if nat_le (length (old ++ operand)) append_limit then old ++ operand else old
+appended old operand = if nat_le (length (old ++ operand)) VALUE_LIMIT then old ++ operand else old
 
 unfoldable pub cleared_where_equal : List ℕ → List ℕ → Option (List ℕ)
 cleared_where_equal old operand = if bytes_eq old operand then None else Some old

@@ -3,6 +3,8 @@ use Rattle.std.specs.Prelude.{ℕ, ◌+◌, ◌*◌, Bool, true, false, not, ◌
 use Rattle.std.specs.List.{list_any}
 use Rattle.key_bytes.specs.declared.range.KeyRange.{KeyRange}
 use Rattle.key_bytes.specs.Keys.{key_lt, top}
+use Rattle.database_rules.specs.declared.Code.{Code}
+use Rattle.database_rules.specs.declared.TheConstants.{INVALID_MUTATION_TYPE, INVERTED_RANGE, KEY_LIMIT, KEY_OUTSIDE_LEGAL_RANGE, KEY_TOO_LARGE, SIZE_LIMIT, TRANSACTION_CANCELLED, TRANSACTION_TOO_LARGE, USED_DURING_COMMIT, VALUE_LIMIT, VALUE_TOO_LARGE}
 use Rattle.database_rules.specs.declared.Phase.{Phase}
 use Rattle.database_rules.specs.declared.Phase.TheVariants as phase
 use Rattle.database_rules.specs.Atomics.{atomic_named}
@@ -23,47 +25,13 @@ pub record Transaction : Type 0 where
 abbrev pub fresh : ℕ → Transaction
 fresh life = record { life = life; version = None; mutations = []; read_ranges = []; size = 0; phase = phase.Active }
 
--- ---- the codes of the API reference, by their names there
-
-abbrev pub transaction_cancelled : ℕ
-transaction_cancelled = 1025
-
-abbrev pub key_outside_legal_range : ℕ
-key_outside_legal_range = 2004
-
-abbrev pub inverted_range : ℕ
-inverted_range = 2005
-
-abbrev pub used_during_commit : ℕ
-used_during_commit = 2017
-
-abbrev pub invalid_mutation_type : ℕ
-invalid_mutation_type = 2018
-
-abbrev pub transaction_too_large : ℕ
-transaction_too_large = 2101
-
-abbrev pub key_too_large : ℕ
-key_too_large = 2102
-
-abbrev pub value_too_large : ℕ
-value_too_large = 2103
+abbrev pub number_of : Code → ℕ
+number_of code = code.0
 
 -- the codes after which a transaction may be tried again: 1007 transaction_too_old, 1009 future_version, 1020 not_committed,
 -- 1021 commit_unknown_result and 1037 process_behind
 abbrev pub retryable : List ℕ
 retryable = 1007 ∷ 1009 ∷ 1020 ∷ 1021 ∷ 1037 ∷ []
-
--- ---- limits in bytes
-
-abbrev pub key_limit : ℕ
-key_limit = 10000
-
-abbrev pub value_limit : ℕ
-value_limit = 100000
-
-abbrev pub size_limit : ℕ
-size_limit = 10000000
 
 -- ---- checks
 
@@ -82,7 +50,7 @@ is_tried _ = false
 
 -- a call on a life that takes no further call, and then other checks
 abbrev pub after_phase : Phase → List (Bool × ℕ) → List (Bool × ℕ)
-after_phase phase checks = (is_cancelled phase, transaction_cancelled) ∷ (is_tried phase, used_during_commit) ∷ checks
+after_phase phase checks = (is_cancelled phase, TRANSACTION_CANCELLED) ∷ (is_tried phase, USED_DURING_COMMIT) ∷ checks
 
 -- a key of a client is less than FF
 abbrev pub is_outside : List ℕ → Bool
@@ -94,24 +62,22 @@ is_end_outside key = key_lt top key
 
 abbrev pub key_checks : List ℕ → List ℕ → List (Bool × ℕ)
 key_checks key value =
-    (is_outside key, key_outside_legal_range) ∷ (nat_lt key_limit (length key), key_too_large) ∷ (nat_lt value_limit (length value), value_too_large) ∷ []
+    (is_outside key, KEY_OUTSIDE_LEGAL_RANGE) ∷ (nat_lt KEY_LIMIT (length key), KEY_TOO_LARGE) ∷ (nat_lt VALUE_LIMIT (length value), VALUE_TOO_LARGE) ∷ []
 
-unfoldable pub get_code : Transaction → List ℕ → Option ℕ
-get_code transaction key = first_failing (after_phase transaction.phase ((is_outside key, key_outside_legal_range) ∷ []))
+-- of a read of one key, and of a clear of one
+unfoldable pub one_key_code : Transaction → List ℕ → Option ℕ
+one_key_code transaction key = first_failing (after_phase transaction.phase ((is_outside key, KEY_OUTSIDE_LEGAL_RANGE) ∷ []))
 
 unfoldable pub set_code : Transaction → List ℕ → List ℕ → Option ℕ
 set_code transaction key value = first_failing (after_phase transaction.phase (key_checks key value))
 
-unfoldable pub clear_code : Transaction → List ℕ → Option ℕ
-clear_code transaction key = first_failing (after_phase transaction.phase ((is_outside key, key_outside_legal_range) ∷ []))
-
 unfoldable pub clear_range_code : Transaction → List ℕ → List ℕ → Option ℕ
 clear_range_code transaction begin end = first_failing (after_phase transaction.phase
-    ((is_end_outside begin || is_end_outside end, key_outside_legal_range) ∷ (key_lt end begin, inverted_range) ∷ []))
+    ((is_end_outside begin || is_end_outside end, KEY_OUTSIDE_LEGAL_RANGE) ∷ (key_lt end begin, INVERTED_RANGE) ∷ []))
 
 unfoldable pub atomic_code : Transaction → List ℕ → List ℕ → List ℕ → Option ℕ
 atomic_code transaction name key operand = first_failing (after_phase transaction.phase
-    ((is_none (atomic_named name), invalid_mutation_type) ∷ key_checks key operand))
+    ((is_none (atomic_named name), INVALID_MUTATION_TYPE) ∷ key_checks key operand))
 
 -- without a mutation the commit is read-only: it succeeds and makes no version
 abbrev pub is_read_only : Transaction → Bool
@@ -119,7 +85,7 @@ is_read_only transaction = nat_lt (length transaction.mutations) 1
 
 unfoldable pub commit_code : Transaction → Option ℕ
 commit_code transaction = first_failing (after_phase transaction.phase
-    ((not (is_read_only transaction) && nat_lt size_limit transaction.size, transaction_too_large) ∷ []))
+    ((not (is_read_only transaction) && nat_lt SIZE_LIMIT transaction.size, TRANSACTION_TOO_LARGE) ∷ []))
 
 -- ---- reading
 
@@ -138,7 +104,7 @@ with_version history transaction = record transaction { version = Some (version_
 
 -- the size after some bytes more, counted no further than one past its limit
 abbrev pub grown : ℕ → ℕ → ℕ
-grown size bytes = min (size + bytes) (size_limit + 1)
+grown size bytes = min (size + bytes) (SIZE_LIMIT + 1)
 
 -- how many bytes a mutation counts: key and value, or twice the key and 1 of a clear, or both ends
 abbrev pub mutation_size : Mutation → ℕ

@@ -6,6 +6,41 @@
 //! `specs/Transactions.antt` a transaction and the checks of its calls.
 #![tactic(auto)]
 
+ghost use Rattle.std.specs.Prelude.{◌≡◌};
+
+/// The longest key of a write, in bytes.
+pub const KEY_LIMIT: usize = 10_000;
+
+/// The longest value of a write, in bytes.
+pub const VALUE_LIMIT: usize = 100_000;
+
+/// The greatest size of a transaction that may commit, in bytes.
+pub const SIZE_LIMIT: u64 = 10_000_000;
+
+/// The life of the transaction was cancelled.
+pub const TRANSACTION_CANCELLED: u16 = 1025;
+
+/// A key isn't less than `FF`, or an end of a range is greater.
+pub const KEY_OUTSIDE_LEGAL_RANGE: u16 = 2004;
+
+/// The begin of a range is greater than its end.
+pub const INVERTED_RANGE: u16 = 2005;
+
+/// A commit of this life was tried.
+pub const USED_DURING_COMMIT: u16 = 2017;
+
+/// No atomic operation has this name.
+pub const INVALID_MUTATION_TYPE: u16 = 2018;
+
+/// The mutations of a transaction have more bytes than may be committed.
+pub const TRANSACTION_TOO_LARGE: u16 = 2101;
+
+/// A key of a write has more bytes than a key may have.
+pub const KEY_TOO_LARGE: u16 = 2102;
+
+/// A value of a write, or an operand, has more bytes than a value may have.
+pub const VALUE_TOO_LARGE: u16 = 2103;
+
 /// An error code of the API reference ("Error Codes").
 #[derive(Clone, Copy, Debug, PartialEq, Eq)]
 pub struct Code(pub u16);
@@ -62,4 +97,18 @@ pub enum AtomicOp {
     SetVersionstampedKey,
     /// Sets a value that has the commit's versionstamp in it.
     SetVersionstampedValue,
+}
+
+impl AtomicOp {
+    ghost use Rattle.database_rules.specs.Atomics.{is_versionstamped};
+
+    /// Whether a commit fills its versionstamp into the key or the value. It takes no memory.
+    pub fn is_versionstamped(self) -> bool
+        ensures { result ≡ is_versionstamped self }
+    {
+        matches!(
+            self,
+            AtomicOp::SetVersionstampedKey | AtomicOp::SetVersionstampedValue
+        )
+    }
 }

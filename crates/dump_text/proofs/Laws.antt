@@ -6,9 +6,10 @@ use Rattle.std.proofs.lemmas.Bool.Decides.{nat_tests}
 use Rattle.std.proofs.lemmas.List.{append-nil, length-append}
 use Rattle.std.proofs.lemmas.List.Elements.{All-from_recursion, recursion_from_All}
 use Rattle.key_bytes.specs.Keys.{IsByteString, key_lt, top}
+use Rattle.database_rules.specs.declared.TheConstants.{KEY_LIMIT, VALUE_LIMIT}
 use Rattle.line_rules.specs.Inputs.{pair_lines, IsSmall, IsInput}
 use Rattle.line_rules.specs.Printing.{separator, printed, printable, hexadecimal_digit, is_plain, backslash, pair_line}
-use Rattle.line_rules.specs.Reading.{ReadText, text_of, Stop, AtEnd, AtSeparator, AtFault, Line, Flaw, Bad, Long, Entry, pair_within, value_at, key_at, fields_at, pair_at, lines_of, with_first, size_of, Fault, Place, start, next_place, read_line, read_lines, joined, pairs_of, input_limit, pairs_limit, line_limit, key_limit, value_limit}
+use Rattle.line_rules.specs.Reading.{ReadText, text_of, Stop, AtEnd, AtSeparator, AtFault, Line, Flaw, Bad, Long, Entry, pair_within, value_at, key_at, fields_at, pair_at, lines_of, with_first, size_of, Fault, Place, start, next_place, read_line, read_lines, joined, pairs_of, input_limit, pairs_limit, line_limit}
 use Rattle.dump_text.specs.Texts.{with_front}
 use Rattle.dump_text.proofs.Pieces.{text_empty, text_parted}
 use Rattle.dump_text.proofs.Printed.{ending, text_was, text_printed}
@@ -29,11 +30,11 @@ ok_is : (x y : Entry) → found x ≡ found y → x ≡ y
 ok_is x y e = cc
 
 within_was : (key value : List ℕ) (entry : Entry) → pair_within key value ≡ Ok entry
-    → (length key ≤ key_limit) × (length value ≤ value_limit) × ((key, value) ≡ entry)
+    → (length key ≤ KEY_LIMIT) × (length value ≤ VALUE_LIMIT) × ((key, value) ≡ entry)
 within_was key value entry e =
-    let all = guard_ok (nat_lt key_limit (length key) || nat_lt value_limit (length value)) Long (found (key, value)) entry e in
-    let limits = neither (nat_lt key_limit (length key)) (nat_lt value_limit (length value)) all.0 in
-    (ltb-false key_limit (length key) limits.0, ltb-false value_limit (length value) limits.1, ok_is (key, value) entry all.1)
+    let all = guard_ok (nat_lt KEY_LIMIT (length key) || nat_lt VALUE_LIMIT (length value)) Long (found (key, value)) entry e in
+    let limits = neither (nat_lt KEY_LIMIT (length key)) (nat_lt VALUE_LIMIT (length value)) all.0 in
+    (ltb-false KEY_LIMIT (length key) limits.0, ltb-false VALUE_LIMIT (length value) limits.1, ok_is (key, value) entry all.1)
 
 value_was : (line : Line) (key : List ℕ) (stop : Stop) (value : ReadText) (entry : Entry) → value_at line key stop value ≡ Ok entry
     → (stop ≡ AtEnd) × (line.is_whole ≡ true) × (pair_within key value.bytes ≡ Ok entry)
@@ -196,7 +197,7 @@ unfolding printable
 length-printable [] = omega arith
 length-printable (byte ∷ bytes) = omega (arith, length-append (printed byte) (printable bytes), length-printed byte, length-printable bytes)
 
-length-content : (entry : Entry) → length entry.0 ≤ key_limit → length entry.1 ≤ value_limit → length (content entry) ≤ line_limit
+length-content : (entry : Entry) → length entry.0 ≤ KEY_LIMIT → length entry.1 ≤ VALUE_LIMIT → length (content entry) ≤ line_limit
 length-content entry h k =
     let key = printable entry.0 in
     let value = printable entry.1 in
@@ -219,8 +220,8 @@ key_again key rest h =
 pair_again : (line : Line) (entry : Entry) → line.is_whole ≡ true → IsSmall entry → pair_at line (content entry) ≡ Ok entry
 unfolding pair_at
 pair_again line entry whole small =
-    let key_test : nat_lt key_limit (length entry.0) ≡ false = le-ltb key_limit (length entry.0) small.key_len in
-    let value_test : nat_lt value_limit (length entry.1) ≡ false = le-ltb value_limit (length entry.1) small.value_len in
+    let key_test : nat_lt KEY_LIMIT (length entry.0) ≡ false = le-ltb KEY_LIMIT (length entry.0) small.key_len in
+    let value_test : nat_lt VALUE_LIMIT (length entry.1) ≡ false = le-ltb VALUE_LIMIT (length entry.1) small.value_len in
     rw (key_again entry.0 (printable entry.1) small.key, small.below_top, text_again entry.1 small.value, whole, key_test, value_test) refl
 
 -- ---- lines without a line feed in them

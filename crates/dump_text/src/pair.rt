@@ -9,17 +9,12 @@ ghost use Rattle.dump_text.specs.InputLines.{line_is};
 
 use crate::fault::LineFault;
 use crate::text::{Stop, read_text};
+use database_rules::{KEY_LIMIT, VALUE_LIMIT};
 use key_bytes::{Bytes, Pair};
 use std::alloc::Global;
 
 /// How many bytes a line may have before its line feed.
 pub const LINE_LIMIT: usize = 440_004;
-
-// How many bytes a key may have.
-const KEY_LIMIT: usize = 10_000;
-
-// How many bytes a value may have.
-const VALUE_LIMIT: usize = 100_000;
 
 /// A line of an input without its line feed, with its number, and whether the line feed is there.
 #[derive(Clone, Copy)]

@@ -1,6 +1,7 @@
 -- A call on a transaction over a history: what it answers, and what it leaves.
 use Rattle.std.specs.Prelude.{ℕ, ◌+◌, Bool, true, false, List, [], ◌∷◌, Option, Some, None, unwrap_or}
 use Rattle.std.specs.FinMap as finite
+use Rattle.database_rules.specs.declared.TheConstants.{TRANSACTION_CANCELLED}
 use Rattle.database_rules.specs.declared.Code.{Code}
 use Rattle.database_rules.specs.declared.Tried.TheVariants as tried
 use Rattle.database_rules.specs.declared.Phase.{Phase}
@@ -8,7 +9,7 @@ use Rattle.database_rules.specs.declared.Phase.TheVariants as phase
 use Rattle.database_rules.specs.declared.AtomicOp.{AtomicOp}
 use Rattle.database_rules.specs.Atomics.{atomic_named}
 use Rattle.database_rules.specs.Databases.{Mutation, Set, Clear, ClearRange, Atomic, History, Commit, last}
-use Rattle.database_rules.specs.Transactions.{Transaction, fresh, transaction_cancelled, get_code, set_code, clear_code, clear_range_code, atomic_code, commit_code, is_read_only, is_cancelled, is_retryable, view, with_version, with_mutation, with_phase, cancelled}
+use Rattle.database_rules.specs.Transactions.{Transaction, fresh, one_key_code, set_code, clear_range_code, atomic_code, commit_code, is_read_only, is_cancelled, is_retryable, view, with_version, with_mutation, with_phase, cancelled}
 use Rattle.fdb_calls.specs.declared.TxnCall.{TxnCall}
 use Rattle.fdb_calls.specs.declared.TxnCall.TheVariants as call
 use Rattle.fdb_calls.specs.declared.Reply.{Reply}
@@ -81,19 +82,19 @@ error_handled true life transaction code = reset life
 error_handled false life transaction code = answers (with_phase transaction phase.Cancelled) (reply.Fault code)
 
 abbrev pub on_error_by : Bool → ℕ → Transaction → Code → Called
-on_error_by true life transaction code = refuses transaction transaction_cancelled
+on_error_by true life transaction code = refuses transaction TRANSACTION_CANCELLED
 on_error_by false life transaction code = error_handled (is_retryable code.0) life transaction code
 
 -- ---- each call: its checks in their order, and then what it does
 
 abbrev pub get_called : History → Transaction → List ℕ → Called
-get_called history transaction key = get_by (get_code transaction key) history transaction key
+get_called history transaction key = get_by (one_key_code transaction key) history transaction key
 
 abbrev pub set_called : Transaction → List ℕ → List ℕ → Called
 set_called transaction key value = write_by (set_code transaction key value) transaction (Set key value)
 
 abbrev pub clear_called : Transaction → List ℕ → Called
-clear_called transaction key = write_by (clear_code transaction key) transaction (Clear key)
+clear_called transaction key = write_by (one_key_code transaction key) transaction (Clear key)
 
 abbrev pub clear_range_called : Transaction → List ℕ → List ℕ → Called
 clear_range_called transaction begin end = write_by (clear_range_code transaction begin end) transaction (ClearRange begin end)

@@ -2,8 +2,9 @@
 use Rattle.std.specs.Prelude.{◌≡◌, ◌≤◌, ℕ, true, List, length, flat_map}
 use Rattle.std.specs.List.{AllByRecursion}
 use Rattle.key_bytes.specs.Keys.{IsByteString, key_lt, top}
+use Rattle.database_rules.specs.declared.TheConstants.{KEY_LIMIT, VALUE_LIMIT}
 use Rattle.line_rules.specs.Printing.{pair_line}
-use Rattle.line_rules.specs.Reading.{Entry, input_limit, pairs_limit, key_limit, value_limit}
+use Rattle.line_rules.specs.Reading.{Entry, input_limit, pairs_limit}
 
 -- the lines of pairs, one after the other
 abbrev pub pair_lines : List Entry → List ℕ
@@ -14,8 +15,8 @@ pub record IsSmall (e : Entry) : Type 0 where
   pub key : IsByteString e.0
   pub value : IsByteString e.1
   pub below_top : key_lt e.0 top ≡ true
-  pub key_len : length e.0 ≤ key_limit
-  pub value_len : length e.1 ≤ value_limit
+  pub key_len : length e.0 ≤ KEY_LIMIT
+  pub value_len : length e.1 ≤ VALUE_LIMIT
 
 -- the bytes are the lines of these pairs, and all is within its limit
 pub record IsInput (bytes : List ℕ) (pairs : List Entry) : Type 0 where

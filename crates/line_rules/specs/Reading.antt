@@ -1,9 +1,10 @@
 -- How an input is read: line after line, each from left to right, up to the first fault.
 use Rattle.std.specs.Prelude.{ℕ, zero, suc, ◌+◌, ◌-◌, ◌*◌, Bool, true, false, not, ◌&&◌, ◌||◌, if◌then◌else◌, cond, List, [], ◌∷◌, length, nat_lt, nat_le, ◌==◌, Result, Ok, Err}
 use Rattle.key_bytes.specs.Keys.{key_lt, top}
+use Rattle.database_rules.specs.declared.TheConstants.{KEY_LIMIT, VALUE_LIMIT}
 use Rattle.line_rules.specs.Printing.{space, line_feed, backslash, is_plain}
 
--- limits: of the input in bytes, of its pairs, of a line before its line feed, of a key and of a value in bytes
+-- limits: of the input in bytes, of its pairs, and of a line before its line feed; those of a key and of a value are the database's
 abbrev pub input_limit : ℕ
 input_limit = 67108864
 
@@ -12,12 +13,6 @@ pairs_limit = 1000000
 
 abbrev pub line_limit : ℕ
 line_limit = 440004
-
-abbrev pub key_limit : ℕ
-key_limit = 10000
-
-abbrev pub value_limit : ℕ
-value_limit = 100000
 
 -- ---- the printable form, piece by piece
 
@@ -112,7 +107,7 @@ Entry = List ℕ × List ℕ
 -- the pair of a line whose key and value were read without a fault, where both are within their limits
 abbrev pub pair_within : List ℕ → List ℕ → Result Entry Flaw
 pair_within key value =
-    if nat_lt key_limit (length key) || nat_lt value_limit (length value) then Err Long else Ok (key, value)
+    if nat_lt KEY_LIMIT (length key) || nat_lt VALUE_LIMIT (length value) then Err Long else Ok (key, value)
 
 -- where what is left of a line begins
 abbrev pub place_of : Line → List ℕ → ℕ

@@ -111,10 +111,7 @@ fn pop_atomic_name(stack: &mut Stack) -> Result<Bytes, StackFault>
 fn is_versionstamped(op: Option<AtomicOp>) -> bool
     ensures { result ≡ option_map_or is_versionstamped op false }
 {
-    matches!(
-        op,
-        Some(AtomicOp::SetVersionstampedKey | AtomicOp::SetVersionstampedValue)
-    )
+    op.is_some_and(|op| op.is_versionstamped())
 }
 
 /// The request that an operation makes on the transaction of a name, by what it pops.

@@ -2,13 +2,14 @@
 use Rattle.std.proofs.Common.{◌≡◌, ℕ, zero, suc, ◌+◌, ◌≤◌, Bool, true, false, cond, List, [], ◌∷◌, ◌++◌, length, take, Option, Some, None, Result, Ok, Err, nat_lt, refl, sym, ap, subst, ◌∙◌, append-nil, length-append, le-ltb, arith}
 use Rattle.std.specs.Prelude.{unwrap_or, if◌then◌else◌, not, ◌&&◌}
 use Rattle.std.specs.FinMap as finite
+use Rattle.database_rules.specs.declared.TheConstants.{SIZE_LIMIT, TRANSACTION_TOO_LARGE}
 use Rattle.database_rules.specs.declared.Code.{Code}
 use Rattle.database_rules.specs.declared.Phase.{Phase}
 use Rattle.database_rules.specs.declared.Phase.TheVariants as phase
 use Rattle.database_rules.specs.declared.AtomicOp.{AtomicOp}
 use Rattle.database_rules.specs.Atomics.{atomic_named}
 use Rattle.database_rules.specs.Databases.{Database, Mutation, Set, Clear, ClearRange, Atomic, Commit, History, do_all, after_commits, at, last}
-use Rattle.database_rules.specs.Transactions.{Transaction, fresh, first_failing, after_phase, get_code, set_code, clear_code, clear_range_code, atomic_code, commit_code, is_read_only, is_cancelled, is_tried, is_retryable, grown, mutation_size, size_limit, transaction_too_large, version_in, view, with_version, with_mutation, with_phase, cancelled}
+use Rattle.database_rules.specs.Transactions.{Transaction, fresh, first_failing, after_phase, one_key_code, set_code, clear_range_code, atomic_code, commit_code, is_read_only, is_cancelled, is_tried, is_retryable, grown, mutation_size, version_in, view, with_version, with_mutation, with_phase, cancelled}
 use Rattle.fdb_calls.specs.declared.fault.TrFault.{TrFault}
 use Rattle.fdb_calls.specs.declared.fault.TrFault.TheVariants as fault
 use Rattle.fdb_calls.specs.declared.Reply.{Reply}
@@ -178,7 +179,7 @@ reset_alike life = record { reply = refl; lives = refl; stands = stands_itself (
 pub commit_code_alike : (kept transaction : Transaction) → StandsFor kept transaction → commit_code kept ≡ commit_code transaction
 unfolding commit_code
 commit_code_alike kept transaction stands =
-    λ i. first_failing (after_phase (stands.phase i) ((not (stands.writes i) && nat_lt size_limit (stands.size i), transaction_too_large) ∷ []))
+    λ i. first_failing (after_phase (stands.phase i) ((not (stands.writes i) && nat_lt SIZE_LIMIT (stands.size i), TRANSACTION_TOO_LARGE) ∷ []))
 
 handled_alike : (retryable : Bool) (life : ℕ) (kept transaction : Transaction) (code : Code) → StandsFor kept transaction → Alike (error_handled retryable life kept code) (error_handled retryable life transaction code)
 unfolding SameCommits
@@ -197,9 +198,9 @@ cancel_alike kept transaction stands =
 -- ---- each call
 
 pub get_called_alike : (history : History) (kept transaction : Transaction) (key : List ℕ) → StandsFor kept transaction → Alike (get_called history kept key) (get_called history transaction key)
-unfolding get_code
+unfolding one_key_code
 get_called_alike history kept transaction key stands =
-    subst (λ now. Alike (get_called history kept key) (get_by (get_code (with_phase transaction now) key) history transaction key)) stands.phase (get_alike (get_code kept key) history kept transaction key stands)
+    subst (λ now. Alike (get_called history kept key) (get_by (one_key_code (with_phase transaction now) key) history transaction key)) stands.phase (get_alike (one_key_code kept key) history kept transaction key stands)
 
 pub set_called_alike : (kept transaction : Transaction) (key value : List ℕ) → StandsFor kept transaction → Alike (set_called kept key value) (set_called transaction key value)
 unfolding set_code
@@ -207,9 +208,9 @@ set_called_alike kept transaction key value stands =
     subst (λ now. Alike (set_called kept key value) (write_by (set_code (with_phase transaction now) key value) transaction (Set key value))) stands.phase (write_alike (set_code kept key value) kept transaction (Set key value) stands)
 
 pub clear_called_alike : (kept transaction : Transaction) (key : List ℕ) → StandsFor kept transaction → Alike (clear_called kept key) (clear_called transaction key)
-unfolding clear_code
+unfolding one_key_code
 clear_called_alike kept transaction key stands =
-    subst (λ now. Alike (clear_called kept key) (write_by (clear_code (with_phase transaction now) key) transaction (Clear key))) stands.phase (write_alike (clear_code kept key) kept transaction (Clear key) stands)
+    subst (λ now. Alike (clear_called kept key) (write_by (one_key_code (with_phase transaction now) key) transaction (Clear key))) stands.phase (write_alike (one_key_code kept key) kept transaction (Clear key) stands)
 
 pub clear_range_called_alike : (kept transaction : Transaction) (begin end : List ℕ) → StandsFor kept transaction → Alike (clear_range_called kept begin end) (clear_range_called transaction begin end)
 unfolding clear_range_code
@@ -255,7 +256,7 @@ pub record IsInPlace (called : Called) : Type 0 where
   pub lives : called.lives ≡ 0
 
 pub get_in_place : (history : History) (transaction : Transaction) (key : List ℕ) → IsInPlace (get_called history transaction key)
-get_in_place history transaction key = by (get_code transaction key)
+get_in_place history transaction key = by (one_key_code transaction key)
   where
     by : (code : Option ℕ) → IsInPlace (get_by code history transaction key)
     by (Some code) = record { commits = refl; lives = refl }

@@ -1,10 +1,11 @@
 -- The checks of a commit come to the same for a transaction and for each that it stands for.
 use Rattle.std.proofs.Common.{◌≡◌, [], ◌∷◌, Result, Ok, Err, None, nat_lt, refl, sym, subst, ◌∙◌}
 use Rattle.std.specs.Prelude.{not, ◌&&◌}
+use Rattle.database_rules.specs.declared.TheConstants.{SIZE_LIMIT, TRANSACTION_TOO_LARGE}
 use Rattle.database_rules.specs.declared.Phase.{Phase}
 use Rattle.database_rules.specs.declared.Phase.TheVariants as phase
 use Rattle.database_rules.specs.Databases.{History}
-use Rattle.database_rules.specs.Transactions.{Transaction, commit_code, is_read_only, first_failing, after_phase, size_limit, transaction_too_large, with_version}
+use Rattle.database_rules.specs.Transactions.{Transaction, commit_code, is_read_only, first_failing, after_phase, with_version}
 use Rattle.fdb_calls.specs.declared.fault.TrFault.{TrFault}
 use Rattle.fdb_calls.specs.declared.fault.TrFault.TheVariants as fault
 use Rattle.txn_core.specs.declared.verdict.Verdict.{Verdict}
@@ -18,7 +19,7 @@ pub active_of : (transaction : Transaction) → commit_code transaction ≡ None
 unfolding commit_code
 active_of transaction accepted = by transaction.phase accepted
   where
-    by : (now : Phase) → first_failing (after_phase now ((not (is_read_only transaction) && nat_lt size_limit transaction.size, transaction_too_large) ∷ [])) ≡ None → now ≡ phase.Active
+    by : (now : Phase) → first_failing (after_phase now ((not (is_read_only transaction) && nat_lt SIZE_LIMIT transaction.size, TRANSACTION_TOO_LARGE) ∷ [])) ≡ None → now ≡ phase.Active
     by phase.Active accepted = refl
     by phase.Cancelled accepted = absurd cc
     by (phase.Tried outcome) accepted = absurd cc

@@ -8,7 +8,7 @@ use Rattle.version_store.specs.declared.fault.VersionFault.{VersionFault}
 use Rattle.version_store.specs.declared.fault.VersionFault.TheVariants.{TooOld, Future}
 use Rattle.version_store.specs.Versions.{Versions, last_of, oldest_of, IsFaultAt}
 use Rattle.version_store.specs.Versions as versions
-use Rattle.database_rules.specs.Transactions.{Transaction, get_code, version_in, view, with_version}
+use Rattle.database_rules.specs.Transactions.{Transaction, one_key_code, version_in, view, with_version}
 use Rattle.fdb_calls.specs.declared.Reply.TheVariants as reply
 use Rattle.fdb_calls.specs.Calling.{get_by, get_called}
 use Rattle.txn_core.specs.KeyByKey.{at_keys}
@@ -80,6 +80,6 @@ keeps_next old new history commit keeps next before after = record {
         before version (omega (arith, keeps.last_is)) ∙ keeps.at_is version earlier ∙ sym (at_earlier history commit version earlier)
 
 -- a read that is not refused answers what the transaction sees, and takes the version
-pub read_called : (history : History) (kept : Transaction) (key : List ℕ) → None ≡ get_code kept key
+pub read_called : (history : History) (kept : Transaction) (key : List ℕ) → None ≡ one_key_code kept key
     → ((get_called history kept key).reply ≡ reply.Value (finite.get (view history kept) key)) × ((get_called history kept key).transaction ≡ with_version history kept)
 read_called history kept key accepted = (ap (λ code. (get_by code history kept key).reply) (sym accepted), ap (λ code. (get_by code history kept key).transaction) (sym accepted))

@@ -40,9 +40,6 @@ pub record Answers (answer : Answer) (kept : Transaction) (store : Versions) (hi
   pub stands : StandsFor kept called.transaction
   pub keeps : Keeps store (history ++ called.commits)
 
-abbrev pub number_of : Code → ℕ
-number_of code = code.0
-
 -- a commit was answered and left the transaction as is said, and the store stands for the history that it left
 pub record Does (answer : Answer) (kept : Transaction) (store : Versions) (history : History) (called : Called) : Type 0 where
   pub reply : answer.reply ≡ called.reply

@@ -3,36 +3,15 @@
 ghost use Rattle.std.specs.Prelude.{◌≡◌, ◌<◌, [], option_map, IfOk, IfErr, OnOk};
 ghost use Rattle.database_rules.specs.Atomics.{atomic_named};
 ghost use Rattle.database_rules.specs.Transactions as rules;
-ghost use Rattle.txn_core.specs.Stands.{number_of};
+ghost use Rattle.database_rules.specs.Transactions.{number_of};
 
 use crate::txn::Txn;
-use database_rules::{AtomicOp, Code, Phase};
+use database_rules::{
+    AtomicOp, Code, INVALID_MUTATION_TYPE, INVERTED_RANGE, KEY_LIMIT, KEY_OUTSIDE_LEGAL_RANGE,
+    KEY_TOO_LARGE, Phase, SIZE_LIMIT, TRANSACTION_CANCELLED, TRANSACTION_TOO_LARGE,
+    USED_DURING_COMMIT, VALUE_LIMIT, VALUE_TOO_LARGE,
+};
 use key_bytes::{KeyRange, is_below};
-
-pub(crate) const TRANSACTION_CANCELLED: u16 = 1025;
-
-const KEY_OUTSIDE_LEGAL_RANGE: u16 = 2004;
-
-const INVERTED_RANGE: u16 = 2005;
-
-const USED_DURING_COMMIT: u16 = 2017;
-
-const INVALID_MUTATION_TYPE: u16 = 2018;
-
-const TRANSACTION_TOO_LARGE: u16 = 2101;
-
-const KEY_TOO_LARGE: u16 = 2102;
-
-const VALUE_TOO_LARGE: u16 = 2103;
-
-/// The longest key of a write, in bytes.
-const KEY_LIMIT: usize = 10_000;
-
-/// The longest value of a write, in bytes.
-const VALUE_LIMIT: usize = 100_000;
-
-/// The greatest size of a transaction that may commit.
-pub(crate) const SIZE_LIMIT: u64 = 10_000_000;
 
 // The code of a call on a life that takes no further call.
 fn phase_code(phase: Phase) -> Option<Code>
@@ -61,10 +40,10 @@ fn key_code(key: &[u8], value: &[u8]) -> Option<Code>
 }
 
 impl Txn {
-    /// The code of the first check of a read of `key` that fails. It takes no memory.
-    #[tactic(auto, unfolding(database_rules::specs::Transactions::get_code))]
-    pub(crate) fn get_code(&self, key: &[u8]) -> Option<Code>
-        ensures { option_map number_of result ≡ rules.get_code self.now key.now }
+    /// The code of the first check of a read or a clear of `key` that fails. It takes no memory.
+    #[tactic(auto, unfolding(database_rules::specs::Transactions::one_key_code))]
+    pub(crate) fn one_key_code(&self, key: &[u8]) -> Option<Code>
+        ensures { option_map number_of result ≡ rules.one_key_code self.now key.now }
     {
         if let Some(code) = phase_code(self.phase) {
             Some(code)
@@ -84,20 +63,6 @@ impl Txn {
             Some(code)
         } else {
             key_code(key, value)
-        }
-    }
-
-    /// The code of the first check of a clear that fails. It takes no memory.
-    #[tactic(auto, unfolding(database_rules::specs::Transactions::clear_code))]
-    pub(crate) fn clear_code(&self, key: &[u8]) -> Option<Code>
-        ensures { option_map number_of result ≡ rules.clear_code self.now key.now }
-    {
-        if let Some(code) = phase_code(self.phase) {
-            Some(code)
-        } else if !is_below(key, &[0xff]) {
-            Some(Code(KEY_OUTSIDE_LEGAL_RANGE))
-        } else {
-            None
         }
     }
 

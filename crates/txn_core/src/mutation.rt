@@ -1,7 +1,6 @@
 //! A write that a transaction keeps.
 
 ghost use Rattle.std.specs.Prelude.{◌≡◌};
-ghost use Rattle.database_rules.specs.Atomics.{is_versionstamped};
 ghost use Rattle.database_rules.specs.Transactions as rules;
 ghost use Rattle.txn_core.specs.Mutations.{mutation_of};
 ghost use Rattle.database_rules.specs.States.{touches};
@@ -55,14 +54,4 @@ impl Mutation {
             Mutation::Atomic { key: own, .. } => key == own,
         }
     }
-}
-
-/// Whether an atomic operation has a versionstamp, and so changes nothing as yet. It takes no memory.
-pub(crate) fn is_versionstamped(op: AtomicOp) -> bool
-    ensures { result ≡ is_versionstamped op }
-{
-    matches!(
-        op,
-        AtomicOp::SetVersionstampedKey | AtomicOp::SetVersionstampedValue
-    )
 }

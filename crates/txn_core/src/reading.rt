@@ -14,7 +14,7 @@ ghost use Rattle.txn_core.specs.KeyByKey.{at_key, at_keys};
 ghost use Rattle.txn_core.specs.Seen.{seen_value};
 ghost use Rattle.txn_core.specs.Stands.{Keeps};
 
-use crate::mutation::{Mutation, is_versionstamped};
+use crate::mutation::Mutation;
 use crate::txn::Txn;
 use database_rules::AtomicOp;
 use fdb_calls::TrFault;
@@ -80,7 +80,7 @@ impl<'a> Seen<'a> {
     ) -> Result<Seen<'a>, AllocError>
         ensures { IfOk result (λ seen. seen_value seen ≡ atom op (seen_value self.entry) operand.now) }
     {
-        if is_versionstamped(op) {
+        if op.is_versionstamped() {
             return Ok(self);
         }
         let value = atomic_ops::apply(alloc, op, self.as_slice(), operand.as_slice())?;
@@ -132,7 +132,7 @@ impl Txn {
         ensures { (history : History) → Keeps store.now history
             → Answered reply.Value result (λ t. self.new ≡ t) self.old (get_called history self.old key.now) }
     {
-        if let Some(code) = self.get_code(key.as_slice()) {
+        if let Some(code) = self.one_key_code(key.as_slice()) {
             return Err(TrFault::Code(code));
         }
         let version = self.read_version(store);

@@ -14,7 +14,7 @@ ghost use Rattle.txn_core.specs.Mutations.{mutation_of};
 ghost use Rattle.txn_core.specs.KeyByKey.{at_key, at_keys, modifies, is_modified_by};
 ghost use Rattle.txn_core.specs.Touched.{stands_at, entries_from, IsNextInside, HasNoneInside};
 
-use crate::mutation::{Mutation, is_versionstamped};
+use crate::mutation::Mutation;
 use crate::reading::stored;
 use crate::txn::Txn;
 use database_rules::AtomicOp;
@@ -108,7 +108,7 @@ fn touch_atomic(
     ensures others { OnOk result ((q : List ℕ) → modifies q (database.Atomic op key.now operand.now) ≡ false
         → finite.get touched.new q ≡ finite.get touched.old q) }
 {
-    if is_versionstamped(op) {
+    if op.is_versionstamped() {
         return Ok(());
     }
     let value = atomic_ops::apply(alloc, op, standing(touched, store, key), operand.as_slice())?;

@@ -8,10 +8,9 @@ ghost use Rattle.fdb_calls.specs.Answers.{Answered};
 ghost use Rattle.fdb_calls.specs.Calling.{set_called, clear_called, clear_range_called, atomic_called, named_atomic_called};
 ghost use Rattle.txn_core.specs.Mutations.{mutation_of};
 
-use crate::codes::SIZE_LIMIT;
 use crate::mutation::Mutation;
 use crate::txn::Txn;
-use database_rules::AtomicOp;
+use database_rules::{AtomicOp, SIZE_LIMIT};
 use fdb_calls::TrFault;
 use key_bytes::{Bytes, KeyRange};
 use std::alloc::AllocError;
@@ -65,7 +64,7 @@ impl Txn {
     pub(crate) fn clear(&mut self, key: &[u8]) -> Result<(), TrFault>
         ensures { Answered (λ _. reply.Done) result (λ t. self.new ≡ t) self.old (clear_called self.old key.now) }
     {
-        if let Some(code) = self.clear_code(key) {
+        if let Some(code) = self.one_key_code(key) {
             return Err(TrFault::Code(code));
         }
         let key = Bytes::from_slice(self.allocator(), key)?;

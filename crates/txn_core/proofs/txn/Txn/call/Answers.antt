@@ -1,7 +1,7 @@
 use Rattle.std.proofs.Common.{◌≡◌, ap, subst, sym}
 use Rattle.std.proofs.lemmas.Result.{IfOk-weaker}
 use Rattle.database_rules.specs.Databases.{Set, Clear, ClearRange}
-use Rattle.database_rules.specs.Transactions.{set_code, clear_code, clear_range_code}
+use Rattle.database_rules.specs.Transactions.{set_code, one_key_code, clear_range_code}
 use Rattle.fdb_calls.specs.declared.Reply.TheVariants as reply
 use Rattle.fdb_calls.specs.Answers.{Answered}
 use Rattle.fdb_calls.specs.Calling.{Called, called, set_called, clear_called, named_atomic_called}
@@ -55,7 +55,7 @@ returns-in-Clear c =
     let kept = c.args.self.now in
     IfOk-weaker c.of_write-in-Clear.result _ _ (λ answer tells t history stands keeps.
     subst (λ (made : Called). Answers answer c.clear.new.self c.args.store.now history made) (sym (ap (called history c.args.life t) c.in-Clear.is))
-    (answers_told (λ _. reply.Done) c.clear.result answer c.clear.new.self kept c.args.store.now history _ _ (write_in_place (clear_code kept c.in-Clear.key) kept (Clear c.in-Clear.key))
+    (answers_told (λ _. reply.Done) c.clear.result answer c.clear.new.self kept c.args.store.now history _ _ (write_in_place (one_key_code kept c.in-Clear.key) kept (Clear c.in-Clear.key))
     (clear_called_alike kept t c.in-Clear.key stands) keeps (subst (λ (made : Called). Answered (λ _. reply.Done) c.clear.result (λ s. c.clear.new.self ≡ s) kept made) (λ i. clear_called kept (c.as_slice-in-Clear.ensures i)) c.clear.ensures) tells)) c.of_write-in-Clear.ensures
 
 pub returns-in-ClearRange : goal.returns-in-ClearRange
