@@ -16,10 +16,17 @@ use std::marker::Model;
 
 /// A byte string. Contracts see the list of its bytes. Up to 22 bytes lie in place; more lie in memory that copies
 /// share, or, once bytes were added to them, in memory of their own.
-#[derive(Debug, Drop)]
+#[derive(Debug)]
 pub struct Bytes {
     alloc: Global,
     form: Form,
+}
+
+// Written out, so that a caller's proof sees one call where a byte string is dropped, and not one case for each form.
+impl Drop for Bytes {
+    fn drop(self) {
+        let Bytes { alloc: _, form: _ } = self;
+    }
 }
 
 /// A key of the database: a byte string.

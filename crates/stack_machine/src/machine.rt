@@ -39,7 +39,7 @@ pub enum Step {
 pub struct Machine {
     number: u16,
     prefix: Bytes,
-    instructions: Pairs,
+    instructions: Vec<Bytes>,
     next: usize,
     name: Bytes,
     stack: Stack,
@@ -50,8 +50,8 @@ pub struct Machine {
 }
 
 impl Model for Machine {
-    ghost use Rattle.std.specs.Prelude.{map, length};
-    ghost use Rattle.stack_machine.specs.MachineModel.{MachineModel, IsInside, values_of};
+    ghost use Rattle.std.specs.Prelude.{length};
+    ghost use Rattle.stack_machine.specs.MachineModel.{MachineModel, IsInside};
 
     ghost Value = { MachineModel };
 
@@ -64,7 +64,7 @@ impl Model for Machine {
       machine = record {
         number = m.number;
         prefix = m.prefix;
-        instructions = values_of m.instructions;
+        instructions = m.instructions.items;
         next = m.next;
         name = m.name;
         stack = m.stack;
@@ -74,11 +74,11 @@ impl Model for Machine {
       is_out_of_memory = m.is_out_of_memory;
     } };
 
-    ghost invariant = { λ m. IsInside m.state m.next (length m.instructions) };
+    ghost invariant = { λ m. IsInside m.state m.next (length m.instructions.items) };
 }
 
 impl Machine {
-    ghost use Rattle.stack_machine.specs.MachineModel.{MachineModel, values_of};
+    ghost use Rattle.stack_machine.specs.MachineModel.{MachineModel};
     ghost use Rattle.stack_machine.specs.Steps.{MayStep, moved, Moves, end_of};
 
     /// A machine before its first instruction, under a number and a prefix, with the values of these pairs as
@@ -102,6 +102,7 @@ impl Machine {
         ensures ready { IfOk result (λ machine. machine.is_out_of_memory ≡ false) }
     {
         let name = prefix.copy()?;
+        let instructions = values_of(alloc, instructions)?;
         Ok(Machine {
             number,
             prefix,
@@ -267,7 +268,7 @@ impl Machine {
         ensures { IfOk result (λ step. Moves self.old (acted self.old.machine (next_act self.old.machine (slice_get self.old.machine.instructions self.old.machine.next))) step self.new) }
     {
         if self.next < self.instructions.len() {
-            let value = self.instructions.get(self.next).value.as_slice();
+            let value = self.instructions[self.next].as_slice();
             let instruction = instruction_of(self.alloc, value)?;
             self.run(instruction)
         } else {
@@ -423,4 +424,17 @@ impl Machine {
         self.state = State::Awaiting(awaits);
         Step::Ask(request)
     }
+}
+
+ghost use Rattle.stack_machine.specs.MachineModel.{values_of};
+
+// The values of these pairs, in order.
+fn values_of(alloc: Global, pairs: Pairs) -> Result<Vec<Bytes>, AllocError>
+    ensures { IfOk result (λ values. values.items ≡ values_of pairs) }
+{
+    pairs
+        .into_vec()
+        .into_iter()
+        .map(|pair| pair.value)
+        .collect(alloc)
 }
