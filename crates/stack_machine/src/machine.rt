@@ -432,9 +432,9 @@ ghost use Rattle.stack_machine.specs.MachineModel.{values_of};
 fn values_of(alloc: Global, pairs: Pairs) -> Result<Vec<Bytes>, AllocError>
     ensures { IfOk result (λ values. values.items ≡ values_of pairs) }
 {
-    pairs
-        .into_vec()
-        .into_iter()
-        .map(|pair| pair.value)
-        .collect(alloc)
+    let mut values = Vec::with_capacity(alloc, pairs.len())?;
+    for pair in pairs.into_vec() {
+        values.push(pair.value)?;
+    }
+    Ok(values)
 }

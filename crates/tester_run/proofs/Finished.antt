@@ -16,7 +16,8 @@ use Rattle.machine_rules.specs.Runs.{words_of_run, started, instructions_in, new
 use Rattle.machine_rules.specs.Laws.{at_rest_still}
 use Rattle.line_rules.specs.Printing.{order_line}
 use Rattle.tester_run.specs.Driving.{Leads, run_of}
-use Rattle.tester_run.specs.Dumps.{pair_lines, machine_dump}
+use Rattle.line_rules.specs.Inputs.{pair_lines}
+use Rattle.tester_run.specs.Dumps.{machine_dump}
 use Rattle.tester_run.specs.Rendered.{Renders}
 use Rattle.tester_run.specs.declared.running.Rendered.{Rendered}
 
@@ -71,7 +72,7 @@ status_alone world machine = ap (λ b. cond b 0 3) (and_true (has_ended machine.
 
 -- where the order leads to a machine that has stopped, what was rendered is what the run leaves
 pub finishes : (pairs : List (List ℕ × List ℕ)) (prefix : List ℕ) (core : CoreModel) (words : ℕ → ℕ) (machine : Machine) (rendered : Rendered) → Leads pairs prefix core words machine rendered.order → has_stopped machine.state ≡ true
-    → rendered.dump ≡ machine_dump machine rendered.order (finite.entries (kept_map core)) → rendered.status ≡ cond (has_ended machine.state) 0 3 → Renders pairs prefix rendered
+    → rendered.dump.items ≡ machine_dump machine rendered.order (finite.entries (kept_map core)) → rendered.status ≡ cond (has_ended machine.state) 0 3 → Renders pairs prefix rendered
 finishes pairs prefix core words machine rendered leads stopped dump_is status_is = record {
   run = record { world = leads.world; machines = silent machine ∷ [] };
   runs = record {

@@ -5,9 +5,9 @@ use Rattle.std.specs.Io.KnownBytes.{Appends, Consumes}
 use Rattle.std.proofs.lemmas.List.{append-nil}
 use Rattle.outside.specs.Streams.{AppendsFront}
 use Rattle.line_rules.specs.Reading.{Entry, Fault, pairs_of, input_limit}
-use Rattle.line_rules.specs.Limits.{too_long_is_refused}
+use Rattle.line_rules.proofs.Limits.{too_long_is_refused}
 use Rattle.machine_rules.specs.Runs.{Run, RunsTo, dump}
-use Rattle.tester_run.specs.Inputs.{IsRefusedBy, AreRead}
+use Rattle.tester_run.specs.Inputs.{IsRefusedBy, AreRead, read_limit}
 use Rattle.tester_run.specs.Outcomes.{write_fault, IsFinal, HasRun, Finishes, BreaksOff}
 use Rattle.tester_run.specs.Rendered.{Renders}
 use Rattle.tester_run.specs.declared.running.Rendered.{Rendered}
@@ -32,11 +32,14 @@ full_refused None after items long consumed = tt
 full_refused (Some bytes) None items long consumed = absurd consumed
 full_refused (Some bytes) (Some rest) items long consumed = subst (λ (b : List ℕ). IsErr (pairs_of b)) (sym consumed) (too_long_is_refused items rest long)
 
-pub refused_full : (given : Refusal) (left after : Option (List ℕ)) (faults faults_after : ℕ) (items : List ℕ) → given ≢ refusal.Source → input_limit < length items → Consumes left after items
-    → IsRefusedBy given left faults faults_after
-refused_full refusal.Source left after faults faults_after items is long consumed = absurd (is refl)
-refused_full (refusal.Line fault) left after faults faults_after items is long consumed = full_refused left after items long consumed
-refused_full refusal.Memory left after faults faults_after items is long consumed = tt
+pub refused_full : (given : Refusal) (left after : Option (List ℕ)) (faults faults_after : ℕ) (items : List ℕ) → given ≢ refusal.Source → length items ≡ read_limit → Consumes left after items
+    → IsRefusedBy given left after faults faults_after
+refused_full refusal.Source left after faults faults_after items is exact consumed = absurd (is refl)
+refused_full (refusal.Line fault) left after faults faults_after items is exact consumed = record {
+  fault = full_refused left after items (omega arith) consumed;
+  out = inr (items, (exact, consumed));
+}
+refused_full refusal.Memory left after faults faults_after items is exact consumed = tt
 
 -- the status of a run is final
 final_by : (b : Bool) → IsFinal (cond b 0 3)
@@ -59,13 +62,13 @@ final_is : (status run_status : ℕ) → (status ≡ run_status) ⊎ (status ≡
 final_is status run_status (inl e) final = e
 final_is status run_status (inr e) final = absurd (not_write_fault status final e)
 
-dump_moved : (rendered : Rendered) (order : List ℕ) (run : Run) → rendered.dump ≡ dump rendered.order run → order ≡ rendered.order → rendered.dump ≡ dump order run
+dump_moved : (rendered : Rendered) (order : List ℕ) (run : Run) → rendered.dump.items ≡ dump rendered.order run → order ≡ rendered.order → rendered.dump.items ≡ dump order run
 dump_moved rendered order run e is = e ∙ ap (λ (o : List ℕ). dump o run) (sym is)
 
 -- a final status
 pub delivered : (words : Option (List ℕ)) (prefix : List ℕ) (left after before written : Option (List ℕ)) (pairs : List (List ℕ × List ℕ)) (rendered : Rendered) (order : List ℕ) (status : ℕ)
     → some_word prefix ≡ words → AreRead left after pairs → Renders pairs prefix rendered → order ≡ rendered.order → (status ≡ rendered.status) ⊎ (status ≡ write_fault)
-    → (status ≢ write_fault → Appends before written rendered.dump) → IsFinal status → IfSome words (λ prefix. Finishes left prefix order status before written)
+    → (status ≢ write_fault → Appends before written rendered.dump.items) → IsFinal status → IfSome words (λ prefix. Finishes left prefix order status before written)
 delivered words prefix left after before written pairs rendered order status words_are read renders order_is status_is whole final =
     subst (λ (w : Option (List ℕ)). IfSome w (λ prefix. Finishes left prefix order status before written)) words_are (record {
       run = renders.run;
@@ -76,7 +79,7 @@ delivered words prefix left after before written pairs rendered order status wor
 
 -- a sink that failed
 pub broken_off : (words : Option (List ℕ)) (prefix : List ℕ) (left after before written : Option (List ℕ)) (pairs : List (List ℕ × List ℕ)) (rendered : Rendered) (order : List ℕ)
-    → some_word prefix ≡ words → AreRead left after pairs → Renders pairs prefix rendered → order ≡ rendered.order → AppendsFront before written rendered.dump → IfSome words (λ prefix. BreaksOff left prefix order before written)
+    → some_word prefix ≡ words → AreRead left after pairs → Renders pairs prefix rendered → order ≡ rendered.order → AppendsFront before written rendered.dump.items → IfSome words (λ prefix. BreaksOff left prefix order before written)
 broken_off words prefix left after before written pairs rendered order words_are read renders order_is front =
     subst (λ (w : Option (List ℕ)). IfSome w (λ prefix. BreaksOff left prefix order before written)) words_are (record {
       run = renders.run;

@@ -1,4 +1,4 @@
-pub mod Words
+pub mod Arguments
 pub mod Driving
 pub mod Dumps
 pub mod Rendered

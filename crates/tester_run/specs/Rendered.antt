@@ -7,5 +7,5 @@ use Rattle.tester_run.specs.declared.running.Rendered.{Rendered}
 pub record Renders (pairs : List (List ℕ × List ℕ)) (prefix : List ℕ) (rendered : Rendered) : Type 0 where
   pub run : Run
   pub runs : RunsTo pairs prefix rendered.order run
-  pub dump_is : rendered.dump ≡ dump rendered.order run
+  pub dump_is : rendered.dump.items ≡ dump rendered.order run
   pub status_is : rendered.status ≡ status_of run

@@ -1,12 +1,10 @@
 //! Running a machine over the core.
 
-ghost use Rattle.std.specs.Prelude.{◌≡◌, ◌≢◌, ◌<◌, false, true, length, Some, Ok, OnOk, IfOk};
+ghost use Rattle.std.specs.Prelude.{◌≡◌, ◌↔◌, ◌<◌, ◌^◌, false, true, length, Ok, IsTrue, OnOk};
 ghost use Rattle.fdb_calls.specs.declared.Reply.TheVariants.{NoMemory};
-ghost use Rattle.machine_rules.specs.Machines.{resumed};
-ghost use Rattle.machine_rules.specs.Runs.{has_stopped, is_running};
+ghost use Rattle.machine_rules.specs.Runs.{has_stopped};
 ghost use Rattle.machine_rules.specs.Laws.{is_awaiting};
-ghost use Rattle.stack_machine.specs.Steps.{IsDue};
-ghost use Rattle.tester_run.specs.Driving.{GoesOn, GoesOnFromAsking, IsNearerThanAsking, Takes, work_left};
+ghost use Rattle.tester_run.specs.Driving.{GoesOn, GoesOnFromAsking, IsNearerThanAsking, work_left};
 
 use client_core::Core;
 use dump_text::Order;
@@ -66,15 +64,15 @@ fn turn<W: Words>(
     match machine.step(None)? {
         Step::Again => Ok(Motion::GoesOn),
         Step::Ask(request) => {
-            answer(core, words, machine, order, &request)?;
+            take(core, words, machine, order, &request)?;
             Ok(Motion::GoesOn)
         }
         Step::Stopped(_) => Ok(Motion::Stopped),
     }
 }
 
-// Gives the machine the reply to what it asks.
-fn answer<W: Words>(
+// Has the core take the request that the machine asks: one more place of the order, and the machine uses the reply.
+fn take<W: Words>(
     core: &mut Core,
     words: &mut W,
     machine: &mut Machine,
@@ -90,50 +88,25 @@ fn answer<W: Words>(
     ensures counted { OnOk result (core.new.applied ≡ length order.new) }
     ensures nearer { OnOk result (IsNearerThanAsking machine.old.machine request.now machine.new.machine) }
 {
-    take(core, words, machine, order, request)
-}
-
-// Has the core take the request that the machine asks: one more place of the order.
-fn take<W: Words>(
-    core: &mut Core,
-    words: &mut W,
-    machine: &mut Machine,
-    order: &mut Order,
-    request: &Request,
-) -> Result<(), AllocError>
-    requires ready { machine.old.is_out_of_memory ≡ false }
-    requires awaits { is_awaiting machine.old.machine.state ≡ true }
-    requires counted { core.old.applied ≡ length order.old }
-    ensures taken { OnOk result (Takes core.old (W.words words.old) machine.old.machine order.old request.now core.new (W.words words.new) machine.new.machine order.new) }
-    ensures ready { OnOk result (machine.new.is_out_of_memory ≡ false) }
-    ensures counted { OnOk result (core.new.applied ≡ length order.new) }
-{
-    order.is_short();
+    shows_short(order);
     order.push(MACHINE)?;
     let reply = core.apply(MACHINE, request, words);
-    hand(machine, &reply)
-}
-
-// Has the machine use a reply.
-fn hand(machine: &mut Machine, reply: &Reply) -> Result<(), AllocError>
-    requires ready { machine.old.is_out_of_memory ≡ false }
-    requires awaits { is_awaiting machine.old.machine.state ≡ true }
-    ensures resumed { OnOk result (machine.new.machine ≡ resumed machine.old.machine reply.now) }
-    ensures ready { OnOk result (machine.new.is_out_of_memory ≡ false) }
-    ensures given { OnOk result (reply.now ≢ NoMemory) }
-{
-    match reply {
-        Reply::NoMemory => Err(AllocError),
-        Reply::Done | Reply::Value(_) | Reply::Fault(_) => use_reply(machine, reply),
+    if is_no_memory(&reply) {
+        return Err(AllocError);
     }
+    machine.step(Some(&reply))?;
+    Ok(())
 }
 
-fn use_reply(machine: &mut Machine, reply: &Reply) -> Result<(), AllocError>
-    requires ready { machine.old.is_out_of_memory ≡ false }
-    requires due { IsDue machine.old.machine.state (Some reply.now) }
-    ensures resumed { OnOk result (machine.new.machine ≡ resumed machine.old.machine reply.now) }
-    ensures ready { OnOk result (machine.new.is_out_of_memory ≡ false) }
+fn is_no_memory(reply: &Reply) -> bool
+    ensures { IsTrue result ↔ (reply.now ≡ NoMemory) }
 {
-    machine.step(Some(reply))?;
-    Ok(())
+    matches!(reply, Reply::NoMemory)
+}
+
+// For proofs: no memory holds an order of 2^62 places. It does nothing when it runs.
+fn shows_short(order: &Order)
+    ensures { length order.now < 2 ^ 62 }
+{
+    let _places = order.as_slice();
 }

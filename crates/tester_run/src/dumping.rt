@@ -4,14 +4,15 @@ ghost use Rattle.std.specs.Prelude.{◌≡◌, ℕ, ◌++◌, length, IfOk, OnOk
 ghost use Rattle.std.specs.List.{flat_map};
 ghost use Rattle.line_rules.specs.Printing.{order_line};
 ghost use Rattle.machine_rules.specs.Runs.{end_line, stack_lines, error_lines};
-ghost use Rattle.tester_run.specs.Dumps.{pair_lines, machine_dump};
+ghost use Rattle.line_rules.specs.Inputs.{pair_lines};
+ghost use Rattle.tester_run.specs.Dumps.{newest_pairs, machine_dump};
 
+use client_core::Core;
 use dump_text::{
     EndWord, Order, write_error_line, write_item_line, write_machine_line, write_order_line,
     write_pair_line,
 };
-use fdb_tuple::pack_element;
-use key_bytes::{Bytes, Pairs};
+use fdb_tuple::pack_element_into;
 use stack_machine::{End, Machine, State};
 use std::alloc::{AllocError, Global};
 
@@ -21,21 +22,21 @@ pub fn render(
     alloc: Global,
     machine: &Machine,
     order: &Order,
-    pairs: &Pairs,
-) -> Result<Bytes, AllocError>
-    ensures { IfOk result (λ dump. dump ≡ machine_dump machine.now.machine order.now pairs.now) }
+    core: &Core,
+) -> Result<Vec<u8>, AllocError>
+    ensures { IfOk result (λ dump. dump.items ≡ machine_dump machine.now.machine order.now (newest_pairs core.now.store)) }
 {
-    let mut dump = Bytes::new(alloc);
+    let mut dump = Vec::new(alloc);
     add_end_line(&mut dump, machine)?;
     add_stack_lines(alloc, &mut dump, machine)?;
     add_error_lines(&mut dump, machine)?;
     add_order_lines(&mut dump, order)?;
-    add_pair_lines(&mut dump, pairs)?;
+    add_pair_lines(&mut dump, core)?;
     Ok(dump)
 }
 
-fn add_end_line(to: &mut Bytes, machine: &Machine) -> Result<(), AllocError>
-    ensures { OnOk result (to.new ≡ to.old ++ end_line machine.now.machine machine.now.machine.state) }
+fn add_end_line(to: &mut Vec<u8>, machine: &Machine) -> Result<(), AllocError>
+    ensures { OnOk result (to.new.items ≡ to.old.items ++ end_line machine.now.machine machine.now.machine.state) }
 {
     match machine.state() {
         State::Running | State::Awaiting(_) => Ok(()),
@@ -43,8 +44,8 @@ fn add_end_line(to: &mut Bytes, machine: &Machine) -> Result<(), AllocError>
     }
 }
 
-fn add_end(to: &mut Bytes, machine: &Machine, end: End) -> Result<(), AllocError>
-    ensures { OnOk result (to.new ≡ to.old ++ end_line machine.now.machine (State.Stopped end)) }
+fn add_end(to: &mut Vec<u8>, machine: &Machine, end: End) -> Result<(), AllocError>
+    ensures { OnOk result (to.new.items ≡ to.old.items ++ end_line machine.now.machine (State.Stopped end)) }
 {
     let number = machine.number();
     let prefix = machine.prefix().as_slice();
@@ -62,26 +63,22 @@ fn add_end(to: &mut Bytes, machine: &Machine, end: End) -> Result<(), AllocError
     }
 }
 
-fn add_stack_lines(alloc: Global, to: &mut Bytes, machine: &Machine) -> Result<(), AllocError>
-    ensures { OnOk result (to.new ≡ to.old ++ stack_lines machine.now.machine) }
+fn add_stack_lines(alloc: Global, to: &mut Vec<u8>, machine: &Machine) -> Result<(), AllocError>
+    ensures { OnOk result (to.new.items ≡ to.old.items ++ stack_lines machine.now.machine) }
 {
     let number = machine.number();
     let items = machine.stack().as_slice();
+    let mut packed = Vec::new(alloc);
     for (place, item) in items.iter().enumerate() {
-        let packed = pack_element(alloc, &item.element)?;
-        write_item_line(
-            to,
-            number,
-            place as u64,
-            item.instruction,
-            packed.as_slice(),
-        )?;
+        packed.clear();
+        pack_element_into(&mut packed, &item.element)?;
+        write_item_line(to, number, place as u64, item.instruction, &packed)?;
     }
     Ok(())
 }
 
-fn add_error_lines(to: &mut Bytes, machine: &Machine) -> Result<(), AllocError>
-    ensures { OnOk result (to.new ≡ to.old ++ error_lines machine.now.machine) }
+fn add_error_lines(to: &mut Vec<u8>, machine: &Machine) -> Result<(), AllocError>
+    ensures { OnOk result (to.new.items ≡ to.old.items ++ error_lines machine.now.machine) }
 {
     let number = machine.number();
     for note in machine.errors().as_slice() {
@@ -90,8 +87,8 @@ fn add_error_lines(to: &mut Bytes, machine: &Machine) -> Result<(), AllocError>
     Ok(())
 }
 
-fn add_order_lines(to: &mut Bytes, order: &Order) -> Result<(), AllocError>
-    ensures { OnOk result (to.new ≡ to.old ++ flat_map order_line order.now) }
+fn add_order_lines(to: &mut Vec<u8>, order: &Order) -> Result<(), AllocError>
+    ensures { OnOk result (to.new.items ≡ to.old.items ++ flat_map order_line order.now) }
 {
     for machine in order.as_slice() {
         write_order_line(to, *machine)?;
@@ -99,11 +96,11 @@ fn add_order_lines(to: &mut Bytes, order: &Order) -> Result<(), AllocError>
     Ok(())
 }
 
-fn add_pair_lines(to: &mut Bytes, pairs: &Pairs) -> Result<(), AllocError>
-    ensures { OnOk result (to.new ≡ to.old ++ pair_lines pairs.now) }
+fn add_pair_lines(to: &mut Vec<u8>, core: &Core) -> Result<(), AllocError>
+    ensures { OnOk result (to.new.items ≡ to.old.items ++ pair_lines (newest_pairs core.now.store)) }
 {
-    for pair in pairs.as_slice() {
-        write_pair_line(to, pair.key.as_slice(), pair.value.as_slice())?;
+    for (key, value) in core.pairs_left() {
+        write_pair_line(to, key.as_slice(), value.as_slice())?;
     }
     Ok(())
 }

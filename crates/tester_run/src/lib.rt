@@ -5,13 +5,15 @@
 //! stand in `specs/Outcomes.antt` and, for the run and its dump, in `machine_rules`.
 #![tactic(auto)]
 
+mod args;
+mod clean;
 mod driving;
 mod dumping;
 mod running;
 #[cfg(test)]
 mod tests;
 mod top;
-mod words;
 
+pub use args::ArgWords;
+pub use clean::status_over_bytes;
 pub use top::{Outcome, tester};
-pub use words::ArgWords;

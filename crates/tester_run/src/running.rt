@@ -25,7 +25,7 @@ const CUT_SHORT: u8 = 3;
 /// What a run wrote, before any of it is written: its dump, its order and its exit status.
 #[derive(Debug, Drop)]
 pub struct Rendered {
-    pub dump: Bytes,
+    pub dump: Vec<u8>,
     pub order: Order,
     pub status: u8,
 }
@@ -39,8 +39,7 @@ pub fn run(alloc: Global, prefix: &[u8], pairs: Pairs) -> Result<Rendered, Alloc
     let mut order = Order::new(alloc);
     let mut words = ListWords::new(alloc, &[])?;
     drive(&mut core, &mut words, &mut machine, &mut order)?;
-    let pairs = core.dump_pairs()?;
-    let dump = render(alloc, &machine, &order, &pairs)?;
+    let dump = render(alloc, &machine, &order, &core)?;
     let status = status_of(&machine);
     Ok(Rendered {
         dump,

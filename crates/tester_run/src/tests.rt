@@ -1,20 +1,9 @@
 use super::*;
-use dump_text::Order;
-use key_bytes::Bytes;
 use outside::{MemSink, MemSource, OpenGate, Source, Taken};
 use std::alloc::{AllocError, Global};
 use std::sync::Wait;
 use std::test::Fail;
 use std::thread::Threads;
-
-// What a call of `tester` did: how it ended, what it wrote, and the first byte that it left of its input.
-#[derive(Drop)]
-struct Report {
-    status: u8,
-    order: Order,
-    written: Bytes,
-    left: Option<u8>,
-}
 
 const WORDS: [&str; 3] = ["run", "p", "630"];
 
@@ -48,6 +37,61 @@ const SET_ALONE: &[u8] = b"K \\x01p\\x00\\x14\\=\\x02SET\\x00\n";
 const UNDERFLOW: &[u8] = b"M 0 underflow 0 p\n\
 K \\x01p\\x00\\x14\\=\\x02SET\\x00\n";
 
+// A call of `tester`, and what it must do: its status, how many places its order has, the first byte that it leaves of
+// its input, and what it writes.
+#[derive(Clone, Copy)]
+struct Row {
+    words: &'static [&'static str],
+    input: &'static [u8],
+    status: u8,
+    places: usize,
+    left: Option<u8>,
+    dump: &'static [u8],
+}
+
+// A call of the lawful words that reads all its input.
+const fn run_row(input: &'static [u8], status: u8, places: usize, dump: &'static [u8]) -> Row {
+    Row {
+        words: &WORDS,
+        input,
+        status,
+        places,
+        left: None,
+        dump,
+    }
+}
+
+// A call over one line.
+const fn word_row(
+    words: &'static [&'static str],
+    status: u8,
+    left: Option<u8>,
+    dump: &'static [u8],
+) -> Row {
+    Row {
+        words,
+        input: b"K a\\=b\n",
+        status,
+        places: 0,
+        left,
+        dump,
+    }
+}
+
+const ROWS: [Row; 11] = [
+    run_row(b"", 0, 0, b"M 0 ended 0 p\n"),
+    run_row(SET_ONE_KEY, 0, 2, ONE_KEY_SET),
+    run_row(HELLO, 3, 0, HELLO_SAID),
+    run_row(SET_ALONE, 3, 0, UNDERFLOW),
+    run_row(b"K a\n", 2, 0, b""),
+    run_row(b"K \\xff\\=b\n", 2, 0, b""),
+    word_row(&["run", "-", "630"], 0, None, b"M 0 ended 0 -\nK a\\=b\n"),
+    word_row(&["run", "p", "620"], 1, Some(b'K'), b""),
+    word_row(&["run", "p"], 1, Some(b'K'), b""),
+    word_row(&["run", "-x", "630"], 1, Some(b'K'), b""),
+    word_row(&[], 1, Some(b'K'), b""),
+];
+
 fn args_of(alloc: Global, words: &[&str]) -> Result<ArgWords, AllocError> {
     let mut args = ArgWords::new(alloc);
     for word in words {
@@ -56,27 +100,39 @@ fn args_of(alloc: Global, words: &[&str]) -> Result<ArgWords, AllocError> {
     Ok(args)
 }
 
-fn ran_on<R: Threads + Wait>(
+// What a call of `tester` did.
+#[derive(Drop)]
+struct Report {
+    status: u8,
+    places: usize,
+    left: Option<u8>,
+    written: Vec<u8>,
+    told: usize,
+}
+
+// A call over a source and a sink.
+fn ran_on<R: Threads + Wait + Sync>(
     rt: &R,
     alloc: Global,
     args: &ArgWords,
     mut source: MemSource,
     mut out: MemSink,
 ) -> Result<Report, AllocError> {
-    let mut err = MemSink::new(alloc, 0, 1, &[])?;
+    let mut err = MemSink::new(alloc, 100, 100, &[])?;
     let outcome = tester(rt, alloc, args, &mut source, &mut out, &mut err, &OpenGate);
     let mut first = [0];
     let left = source.read(&mut first);
     Ok(Report {
         status: outcome.status,
-        order: outcome.order,
-        written: Bytes::from_slice(alloc, out.written())?,
+        places: outcome.order.len(),
         left: (left == Taken::Got(1)).then_some(first[0]),
+        written: Vec::from_slice(alloc, out.written())?,
+        told: err.written().len(),
     })
 }
 
 // A call over input in pieces of 7 bytes, with room for a small dump.
-fn ran<R: Threads + Wait>(
+fn ran<R: Threads + Wait + Sync>(
     rt: &R,
     alloc: Global,
     words: &[&str],
@@ -88,99 +144,90 @@ fn ran<R: Threads + Wait>(
     ran_on(rt, alloc, &args, source, out)
 }
 
-#[test]
-fn runs_and_writes_the_dump(rt: HostRuntime) -> Result<(), Fail> {
-    for (input, status, places, dump) in [
-        (b"".as_slice(), 0, 0, b"M 0 ended 0 p\n".as_slice()),
-        (SET_ONE_KEY, 0, 2, ONE_KEY_SET),
-        (HELLO, 3, 0, HELLO_SAID),
-        (SET_ALONE, 3, 0, UNDERFLOW),
-        (b"K a\n".as_slice(), 2, 0, b"".as_slice()),
-        (b"K \\xff\\=b\n".as_slice(), 2, 0, b"".as_slice()),
-    ] {
-        let ran = ran(&rt, rt.alloc(), &WORDS, input)?;
-        assert_eq!(rt; ran.written.as_slice(), dump);
-        assert_eq!(rt;
-            (ran.status, ran.order.len(), ran.left),
-            (status, places, None),
-            "at status {status}"
-        );
+fn is_as_said<R: Threads + Wait + Sync>(
+    rt: &R,
+    alloc: Global,
+    row: &Row,
+) -> Result<bool, AllocError> {
+    let ran = ran(rt, alloc, row.words, row.input)?;
+    let same = ran.status == row.status && ran.places == row.places && ran.left == row.left;
+    Ok(same && ran.told == 0 && ran.written.as_slice() == row.dump)
+}
+
+// The first row that isn't as it says.
+fn first_other<R: Threads + Wait + Sync>(
+    rt: &R,
+    alloc: Global,
+) -> Result<Option<usize>, AllocError> {
+    for (i, row) in ROWS.iter().enumerate() {
+        if !is_as_said(rt, alloc, row)? {
+            return Ok(Some(i));
+        }
     }
-    Ok(())
+    Ok(None)
 }
 
 #[test]
-fn judges_the_words_before_it_reads(rt: HostRuntime) -> Result<(), Fail> {
-    for (words, status, left, dump) in [
-        (
-            ["run", "-", "630"].as_slice(),
-            0,
-            None,
-            b"M 0 ended 0 -\nK a\\=b\n".as_slice(),
-        ),
-        (
-            ["run", "p", "620"].as_slice(),
-            1,
-            Some(b'K'),
-            b"".as_slice(),
-        ),
-        (["run", "p"].as_slice(), 1, Some(b'K'), b"".as_slice()),
-        (
-            ["run", "-x", "630"].as_slice(),
-            1,
-            Some(b'K'),
-            b"".as_slice(),
-        ),
-        ([].as_slice(), 1, Some(b'K'), b"".as_slice()),
-    ] {
-        let ran = ran(&rt, rt.alloc(), words, b"K a\\=b\n")?;
-        assert_eq!(rt; (ran.status, ran.left), (status, left));
-        assert_eq!(rt; ran.written.as_slice(), dump);
-    }
+fn runs_and_writes_the_dump(rt: HostRuntime) -> Result<(), Fail> {
+    assert_eq!(rt; first_other(&rt, rt.alloc())?, None);
     Ok(())
+}
+
+// The status of a run under a prefix of so many bytes.
+fn status_under<R: Threads + Wait + Sync>(
+    rt: &R,
+    alloc: Global,
+    len: usize,
+) -> Result<u8, AllocError> {
+    let mut prefix = String::new(alloc);
+    for _ in 0..len {
+        prefix.push('a')?;
+    }
+    Ok(ran(rt, alloc, &["run", prefix.as_str(), "630"], b"")?.status)
 }
 
 #[test]
 fn takes_a_prefix_of_a_thousand_bytes(rt: HostRuntime) -> Result<(), Fail> {
-    let mut prefix = String::new(rt.alloc());
-    for _ in 0..1_000 {
-        prefix.push('a')?;
-    }
-    let words = ["run", prefix.as_str(), "630"];
-    assert_eq!(rt; ran(&rt, rt.alloc(), &words, b"")?.status, 0);
-    prefix.push('a')?;
-    let words = ["run", prefix.as_str(), "630"];
-    assert_eq!(rt; ran(&rt, rt.alloc(), &words, b"")?.status, 1);
+    assert_eq!(rt; status_under(&rt, rt.alloc(), 1_000)?, 0);
+    assert_eq!(rt; status_under(&rt, rt.alloc(), 1_001)?, 1);
     Ok(())
+}
+
+// The status and the written bytes of a run whose calls of the source and of the sink fail at these numbers, and whether
+// these bytes are a front of the dump.
+fn failing<R: Threads + Wait + Sync>(
+    rt: &R,
+    alloc: Global,
+    reads: &[u64],
+    writes: &[u64],
+) -> Result<(u8, usize, bool), AllocError> {
+    let args = args_of(alloc, &WORDS)?;
+    let source = MemSource::new(alloc, SET_ONE_KEY, 100, reads)?;
+    let out = MemSink::new(alloc, 10_000, 10, writes)?;
+    let ran = ran_on(rt, alloc, &args, source, out)?;
+    let is_front = ONE_KEY_SET.starts_with(&ran.written);
+    Ok((ran.status, ran.written.len(), is_front))
 }
 
 #[test]
 fn tells_a_failing_source_and_a_failing_sink(rt: HostRuntime) -> Result<(), Fail> {
-    let alloc = rt.alloc();
-    for (reads, writes, status, len) in [
-        ([1].as_slice(), [].as_slice(), 4, 0),
-        ([].as_slice(), [2].as_slice(), 5, 10),
-    ] {
-        let args = args_of(alloc, &WORDS)?;
-        let source = MemSource::new(alloc, SET_ONE_KEY, 100, reads)?;
-        let out = MemSink::new(alloc, 10_000, 10, writes)?;
-        let ran = ran_on(&rt, alloc, &args, source, out)?;
-        assert_eq!(rt; (ran.status, ran.written.len()), (status, len));
-        assert!(rt;
-            ONE_KEY_SET.starts_with(ran.written.as_slice()),
-            "at status {status}"
-        );
-    }
+    assert_eq!(rt; failing(&rt, rt.alloc(), &[1], &[])?, (4, 0, true));
+    assert_eq!(rt; failing(&rt, rt.alloc(), &[], &[2])?, (5, 10, true));
+    Ok(())
+}
+
+#[test]
+fn runs_where_nothing_fails(rt: HostRuntime) -> Result<(), Fail> {
+    let args = args_of(rt.alloc(), &WORDS)?;
+    let status = status_over_bytes(&rt, rt.alloc(), &args, HELLO, &OpenGate)?;
+    assert_eq!(rt; status, 3);
     Ok(())
 }
 
 #[test]
 fn words_stand_in_their_order(rt: HostRuntime) -> Result<(), Fail> {
-    let mut args = ArgWords::new(rt.alloc());
-    assert!(rt; args.is_empty());
-    for word in WORDS {
-        args.push(word)?;
-    }
+    let args = args_of(rt.alloc(), &WORDS)?;
+    assert!(rt; !args.is_empty());
     assert_eq!(rt; args.len(), 3);
     assert_eq!(rt; args.prefix(), Some(b"p".as_slice()));
     assert!(rt; args.len() > 2 && args.get(2).as_str() == "630");

@@ -1,16 +1,16 @@
 //! The top call.
 
 ghost use Rattle.std.specs.Prelude.{◌≡◌, ◌≢◌, ◌<◌, ◌≤◌, ◌⊎◌, [], None, Ok, length, IfOk, IfErr, IfSome, IsErr};
-ghost use Rattle.std.specs.Io.KnownBytes.{Appends, Keeps, IsAtEnd};
+ghost use Rattle.std.specs.Io.KnownBytes.{Appends, IsAtEnd};
 ghost use Rattle.outside.specs.Counts.{Rose};
 ghost use Rattle.outside.specs.Streams.{AppendsFront};
 ghost use Rattle.line_rules.specs.Reading.{pairs_of, input_limit};
-ghost use Rattle.tester_run.specs.Words.{prefix_in};
+ghost use Rattle.tester_run.specs.Arguments.{prefix_in};
 ghost use Rattle.tester_run.specs.Outcomes.{usage, bad_input, read_fault, write_fault, out_of_memory, IsFinal, IsSilent, Finishes, BreaksOff};
-ghost use Rattle.tester_run.specs.Inputs.{IsRefusedBy, IsJudged, AreRead, status_for};
+ghost use Rattle.tester_run.specs.Inputs.{IsRefusedBy, IsJudged, AreRead, IsReadOut, ReadsWithin, status_for};
 
+use crate::args::ArgWords;
 use crate::running::{Rendered, run};
-use crate::words::ArgWords;
 use dump_text::{LineFault, Order, read_lines};
 use key_bytes::Pairs;
 use outside::{Gate, Input, Sink, Source, read_all, write_all};
@@ -53,13 +53,13 @@ enum Refusal {
 
 /// Does all that the program does: judges the words after the program's name, reads the source to its end, runs
 /// machine 0 over the pairs that it read, and writes the dump to `out`. The clauses say what each status means.
-pub fn tester<R: Threads + Wait, S: Source, K: Sink, N: Sink, G: Gate>(
+pub fn tester<R: Threads + Wait + Sync, S: Source, K: Sink, N: Sink, G: Gate>(
     _rt: &R,
     alloc: Global,
     args: &ArgWords,
     source: &mut S,
     out: &mut K,
-    _err: &mut N,
+    err: &mut N,
     _gate: &G,
 ) -> Outcome
     // 1: the words are not the three that exist. Nothing was read.
@@ -67,8 +67,9 @@ pub fn tester<R: Threads + Wait, S: Source, K: Sink, N: Sink, G: Gate>(
     ensures words { prefix_in args.now ≡ None → (result.status ≡ usage) ⊎ (result.status ≡ out_of_memory) }
     ensures unread { result.status ≡ usage → source.new ≡ source.old }
 
-    // 2: a line has a fault or passes a limit, where the source tells its bytes.
+    // 2: a line has a fault or passes a limit, where the source tells its bytes; it was read to its end or its limit.
     ensures input { result.status ≡ bad_input → IfSome (S.left source.old) (λ bytes. IsErr (pairs_of bytes)) }
+    ensures judged { result.status ≡ bad_input → IsReadOut (S.left source.old) (S.left source.new) }
 
     // 0 and 3: the dump of the complete run of the order was written, and the status is that of the run.
     ensures finished { IsFinal result.status → IfSome (prefix_in args.now) (λ prefix.
@@ -81,11 +82,16 @@ pub fn tester<R: Threads + Wait, S: Source, K: Sink, N: Sink, G: Gate>(
     ensures front { result.status ≡ write_fault → IfSome (prefix_in args.now) (λ prefix.
         BreaksOff (S.left source.old) prefix result.order (K.written out.old) (K.written out.new)) }
 
-    // 1, 2, 4 and 6: nothing was written, and there is no order. There is no other status.
-    ensures untouched { IsSilent result.status → Keeps (K.written out.old) (K.written out.new) }
+    // 1, 2, 4 and 6: out is as it was, and there is no order. There is no other status.
+    ensures untouched { IsSilent result.status → out.new ≡ out.old }
     ensures no_order { IsSilent result.status → result.order ≡ [] }
     ensures statuses { result.status ≤ out_of_memory }
+
+    // At each status: no more was read than the limit, and nothing was written to err.
+    ensures limit { result.status ≢ usage → ReadsWithin (S.left source.old) (S.left source.new) }
+    ensures quiet { err.new ≡ err.old }
 {
+    let _silent = err;
     let Some(prefix) = args.prefix() else {
         return without_order(alloc, USAGE);
     };
@@ -110,7 +116,8 @@ fn without_order(alloc: Global, status: u8) -> Outcome
 // The pairs of the source's bytes, which is read to its end, or why there are none.
 fn read_pairs<S: Source>(alloc: Global, source: &mut S) -> Result<Pairs, Refusal>
     ensures found { IfOk result (AreRead (S.left source.old) (S.left source.new)) }
-    ensures refused { IfErr result (λ refusal. IsRefusedBy refusal (S.left source.old) (S.faults source.old) (S.faults source.new)) }
+    ensures refused { IfErr result (λ refusal. IsRefusedBy refusal (S.left source.old) (S.left source.new) (S.faults source.old) (S.faults source.new)) }
+    ensures limit { ReadsWithin (S.left source.old) (S.left source.new) }
 {
     match read_all(alloc, source, READ_LIMIT) {
         Input::Whole(bytes) => judge(alloc, &bytes),
@@ -158,8 +165,8 @@ fn deliver<K: Sink>(out: &mut K, rendered: Rendered) -> Outcome
     requires { IsFinal rendered.status }
     ensures order { result.order ≡ rendered.order }
     ensures status { (result.status ≡ rendered.status) ⊎ (result.status ≡ write_fault) }
-    ensures written { result.status ≢ write_fault → Appends (K.written out.old) (K.written out.new) rendered.dump }
-    ensures front { result.status ≡ write_fault → AppendsFront (K.written out.old) (K.written out.new) rendered.dump }
+    ensures written { result.status ≢ write_fault → Appends (K.written out.old) (K.written out.new) rendered.dump.items }
+    ensures front { result.status ≡ write_fault → AppendsFront (K.written out.old) (K.written out.new) rendered.dump.items }
     ensures cause { result.status ≡ write_fault → Rose (K.faults out.old) (K.faults out.new) }
 {
     if write_all(out, rendered.dump.as_slice()) {

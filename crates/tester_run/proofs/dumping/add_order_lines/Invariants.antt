@@ -4,4 +4,4 @@ use Rattle.line_rules.specs.Printing.{order_line}
 use Rattle.tester_run.proofs.dumping.add_order_lines.Given as goal
 
 abbrev pub invariant-loop-machine : goal.invariant-loop-machine
-invariant-loop-machine l = l.to ≡ l.fn.to ++ flat_map order_line (take l.machine-index l.machine-items)
+invariant-loop-machine l = l.to.items ≡ l.fn.to.items ++ flat_map order_line (take l.machine-index l.machine-items)

@@ -1,7 +1,8 @@
-use Rattle.std.proofs.Common.{◌≡◌, ◌++◌, take}
-use Rattle.key_bytes.specs.Entries.{entries_of}
-use Rattle.tester_run.specs.Dumps.{pair_lines}
+use Rattle.std.proofs.Common.{◌≡◌, ◌++◌}
+use Rattle.line_rules.specs.Inputs.{pair_lines}
+use Rattle.tester_run.specs.Dumps.{newest_pairs}
 use Rattle.tester_run.proofs.dumping.add_pair_lines.Given as goal
 
-abbrev pub invariant-loop-pair : goal.invariant-loop-pair
-invariant-loop-pair l = l.to ≡ l.fn.to ++ pair_lines (entries_of (take l.pair-index l.pair-items))
+-- what was written, and the lines of the pairs that are left, are all
+abbrev pub invariant-loop-key : goal.invariant-loop-key
+invariant-loop-key l = l.to.items ++ pair_lines l.key-iterator ≡ l.fn.to.items ++ pair_lines (newest_pairs l.core.store)

@@ -5,4 +5,4 @@ use Rattle.tester_run.proofs.dumping.add_stack_lines.Given as goal
 
 -- what was written, and the lines of the items that are left, are all
 abbrev pub invariant-loop-place : goal.invariant-loop-place
-invariant-loop-place l = l.to ++ lines_from l.number l.items l.place ≡ l.fn.to ++ stack_lines l.machine.machine
+invariant-loop-place l = l.to.items ++ lines_from l.number l.items l.place ≡ l.fn.to.items ++ stack_lines l.machine.machine

@@ -1,8 +1,7 @@
-use Rattle.std.proofs.Common.{ℕ, List, sym, ap, subst, ◌∙◌}
+use Rattle.std.proofs.Common.{ℕ, List, sym, subst}
 use Rattle.std.specs.Prelude.{slice_index}
 use Rattle.machine_rules.specs.Runs.{words_of_run}
 use Rattle.tester_run.specs.Driving.{Leads}
-use Rattle.tester_run.specs.Dumps.{machine_dump}
 use Rattle.tester_run.proofs.Finished.{begins, finishes}
 use Rattle.tester_run.proofs.running.run.Goals as goal
 
@@ -11,4 +10,4 @@ returns c =
     let first = begins c.args.pairs c.args.prefix.now c.in_ok-core.core (λ place. slice_index c.in_ok-words.words place) c.in_ok-machine.machine.machine (c.in_ok-core.ensures.begun words_of_run) c.in_ok-words.ensures.to_come c.in_ok-machine.ensures.machine in
     let start = subst (λ (order : List ℕ). Leads c.args.pairs c.args.prefix.now c.in_ok-core.core (λ place. slice_index c.in_ok-words.words place) c.in_ok-machine.machine.machine order) (sym c.new-order.ensures) first in
     finishes c.args.pairs c.args.prefix.now c.drive.new.core _ c.drive.new.machine.machine _ (c.in_ok-drive.ensures.goes_on c.args.pairs c.args.prefix.now start) c.in_ok-drive.ensures.stopped
-    (c.in_ok-dump.ensures ∙ ap (machine_dump c.drive.new.machine.machine c.drive.new.order) c.in_ok-pairs.ensures) c.status_of-status.ensures
+    c.in_ok-dump.ensures c.status_of-status.ensures

@@ -1,7 +1,7 @@
 //! The words of the command line.
 
 ghost use Rattle.std.specs.Prelude.{◌≡◌, ◌==◌, ◌<◌, [], ◌∷◌, ◌++◌, Some, length, slice_get, option_map, OnOk, OnErr};
-ghost use Rattle.tester_run.specs.Words.{is_prefix, prefix_in};
+ghost use Rattle.tester_run.specs.Arguments.{is_prefix, prefix_in};
 
 use fdb_tuple::Text;
 use std::alloc::{AllocError, Global};
@@ -68,7 +68,7 @@ impl ArgWords {
     }
 
     /// The prefix, where the words are the three that exist: `run`, a prefix and `630`. It takes no memory.
-    #[tactic(auto, unfolding(crate::specs::Words::prefix_in))]
+    #[tactic(auto, unfolding(crate::specs::Arguments::prefix_in))]
     pub fn prefix(&self) -> Option<&[u8]>
         ensures { option_map (λ prefix. prefix.now) result ≡ prefix_in self.now }
     {
@@ -81,7 +81,7 @@ impl ArgWords {
     }
 }
 
-#[tactic(auto, unfolding(crate::specs::Words::prefix_in))]
+#[tactic(auto, unfolding(crate::specs::Arguments::prefix_in))]
 fn lawful_prefix<'a>(command: &[u8], prefix: &'a [u8], version: &[u8]) -> Option<&'a [u8]>
     ensures { option_map (λ word. word.now) result ≡ prefix_in (command.now ∷ prefix.now ∷ version.now ∷ []) }
 {
