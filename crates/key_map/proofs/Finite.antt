@@ -43,22 +43,28 @@ module _ {X : Type 0} where
   map_of-same fs n h = same_map nat_list_cmp_total exact_bytes _ _ (λ q. get-map_of fs q ∙ h q)
 
   -- fs are es but for the value of one key
-  pub map_of-inserted : (es fs : List (List ℕ × X)) (m : FinMap key_cmp X) → map_of es ≡ m → (k : List ℕ) (v : X) → ((q : List ℕ) → lookup (is_key q) fs ≡ cond (is_key k q) (Some v) (lookup (is_key q) es)) → map_of fs ≡ insert m k v
+  pub map_of-inserted : (es fs : List (List ℕ × X)) (m : FinMap key_cmp X) → map_of es ≡ m → (k : List ℕ) (v : X)
+      → ((q : List ℕ) → lookup (is_key q) fs ≡ cond (is_key k q) (Some v) (lookup (is_key q) es)) → map_of fs ≡ insert m k v
   map_of-inserted es fs m seen k v h = map_of-same fs (insert m k v) (λ q. h q
-      ∙ (λ i. cond ((eq_by_cmp_equiv nat_list_cmp_total).symm k q i) (Some v) (lookup-map_of es m seen q i)) ∙ sym (get-insert nat_list_cmp_total m k v q))
+      ∙ (λ i. cond ((eq_by_cmp_equiv nat_list_cmp_total).symm k q i) (Some v) (lookup-map_of es m seen q i))
+      ∙ sym (get-insert nat_list_cmp_total m k v q))
 
   -- fs are es without one key
-  pub map_of-removed : (es fs : List (List ℕ × X)) (m : FinMap key_cmp X) → map_of es ≡ m → (k : List ℕ) → ((q : List ℕ) → lookup (is_key q) fs ≡ cond (is_key k q) None (lookup (is_key q) es)) → map_of fs ≡ remove m k
+  pub map_of-removed : (es fs : List (List ℕ × X)) (m : FinMap key_cmp X) → map_of es ≡ m → (k : List ℕ)
+      → ((q : List ℕ) → lookup (is_key q) fs ≡ cond (is_key k q) None (lookup (is_key q) es)) → map_of fs ≡ remove m k
   map_of-removed es fs m seen k h = map_of-same fs (remove m k) (λ q. h q
-      ∙ (λ i. cond ((eq_by_cmp_equiv nat_list_cmp_total).symm k q i) None (lookup-map_of es m seen q i)) ∙ sym (get-remove nat_list_cmp_total m k q))
+      ∙ (λ i. cond ((eq_by_cmp_equiv nat_list_cmp_total).symm k q i) None (lookup-map_of es m seen q i))
+      ∙ sym (get-remove nat_list_cmp_total m k q))
 
   -- fs are es but for the keys that fail a test
-  pub map_of-retained : (es fs : List (List ℕ × X)) (m : FinMap key_cmp X) → map_of es ≡ m → (p : List ℕ → Bool) → fs ≡ filter (λ e. p e.0) es → map_of fs ≡ retain_keys m p
+  pub map_of-retained : (es fs : List (List ℕ × X)) (m : FinMap key_cmp X) → map_of es ≡ m → (p : List ℕ → Bool)
+      → fs ≡ filter (λ e. p e.0) es → map_of fs ≡ retain_keys m p
   map_of-retained es fs m seen p h = map_of-same fs (retain_keys m p) (λ q.
       ap (lookup (is_key q)) h ∙ lookup-filter-keys (is_key q) p (p q) (λ k same. ap p (sym (tells_apart exact_bytes q k same))) es
       ∙ ap (λ v. cond (p q) v None) (lookup-map_of es m seen q) ∙ sym (get-retain_keys m p q (λ k same. ap p (sym (exact_bytes q k same)))))
 
-  put-below : (k : List ℕ) (v : X) (es : List (List ℕ × X)) → AllByRecursion (λ y. key_cmp k y ≡ Less) (keys_of es) → put key_cmp k v es ≡ (k, v) ∷ es
+  put-below : (k : List ℕ) (v : X) (es : List (List ℕ × X)) → AllByRecursion (λ y. key_cmp k y ≡ Less) (keys_of es)
+      → put key_cmp k v es ≡ (k, v) ∷ es
   put-below k v [] below = refl
   put-below k v (e ∷ es) below = ap (λ o. by_order o ((k, v) ∷ e ∷ es) ((e.0, v) ∷ es) (e ∷ put key_cmp k v es)) below.0
 
@@ -70,16 +76,21 @@ module _ {X : Type 0} where
       ∙ ap (put key_cmp e.0 e.1) (entries-map_of es (sorted_tail key_cmp e.0 (keys_of es) rising))
       ∙ put-below e.0 e.1 es (sorted_head key_cmp e.0 (keys_of es) rising)
 
-  pub entries-tree : (es : List (List ℕ × X)) (m : FinMap key_cmp X) → map_of es ≡ m → IsStrictlySortedBy key_cmp (keys_of es) → entries m ≡ es
+  pub entries-tree : (es : List (List ℕ × X)) (m : FinMap key_cmp X) → map_of es ≡ m → IsStrictlySortedBy key_cmp (keys_of es)
+      → entries m ≡ es
   entries-tree es m seen rising = ap entries (sym seen) ∙ entries-map_of es rising
 
-  get-inserted : (xs : List (List ℕ × X)) (m : FinMap key_cmp X) (q : List ℕ) → get (inserted xs m) q ≡ update_all (eq_by_cmp key_cmp) (get m) xs q
+  get-inserted : (xs : List (List ℕ × X)) (m : FinMap key_cmp X) (q : List ℕ)
+      → get (inserted xs m) q ≡ update_all (eq_by_cmp key_cmp) (get m) xs q
   get-inserted [] m q = refl
   get-inserted (x ∷ xs) m q =
       get-inserted xs (insert m x.0 x.1) q
-      ∙ ap (λ f. update_all (eq_by_cmp key_cmp) f xs q) (λ i r. (get-insert nat_list_cmp_total m x.0 x.1 r ∙ ap (λ b. cond b (Some x.1) (get m r)) ((eq_by_cmp_equiv nat_list_cmp_total).symm r x.0)) i)
+      ∙ ap (λ f. update_all (eq_by_cmp key_cmp) f xs q)
+      (λ i r. (get-insert nat_list_cmp_total m x.0 x.1 r
+      ∙ ap (λ b. cond b (Some x.1) (get m r)) ((eq_by_cmp_equiv nat_list_cmp_total).symm r x.0)) i)
 
   -- fs are what `collect` makes of the pairs xs
-  pub map_of-collected : (xs fs : List (List ℕ × X)) → ((q : List ℕ) → lookup (is_key q) fs ≡ update_all (eq_by_cmp key_cmp) (λ _. None) xs q) → map_of fs ≡ inserted xs empty
+  pub map_of-collected : (xs fs : List (List ℕ × X))
+      → ((q : List ℕ) → lookup (is_key q) fs ≡ update_all (eq_by_cmp key_cmp) (λ _. None) xs q) → map_of fs ≡ inserted xs empty
   map_of-collected xs fs h = map_of-same fs (inserted xs empty) (λ q. h q
       ∙ ap (λ f. update_all (eq_by_cmp key_cmp) f xs q) (λ i r. sym (get-empty key_cmp r) i) ∙ sym (get-inserted xs empty q))

@@ -48,7 +48,8 @@ pub range_contains-within : (b e q : List ℕ) → range_contains key_cmp (Inclu
 range_contains-within b e q = λ i. is_le-key_cmp b q i && not-is_le-key_cmp e q i
 
 -- what `next` gave is the first of what was left
-pub option_map-TakesFirst : {A X : Type 0} (shows : A → X) (s t : List X) (r : Option A) → TakesFirst shows s r t → option_map shows r ≡ first s
+pub option_map-TakesFirst : {A X : Type 0} (shows : A → X) (s t : List X) (r : Option A) → TakesFirst shows s r t
+    → option_map shows r ≡ first s
 option_map-TakesFirst shows s t None step = ap first (sym step.0)
 option_map-TakesFirst shows s t (Some x) step = ap first (sym step)
 
@@ -58,7 +59,8 @@ last-append (y ∷ []) x = refl
 last-append (y ∷ z ∷ xs) x = last-append (z ∷ xs) x
 
 -- what `next_back` gave is the last of what was left
-pub option_map-TakesLast : {A X : Type 0} (shows : A → X) (s t : List X) (r : Option A) → TakesLast shows s r t → option_map shows r ≡ last s
+pub option_map-TakesLast : {A X : Type 0} (shows : A → X) (s t : List X) (r : Option A) → TakesLast shows s r t
+    → option_map shows r ≡ last s
 option_map-TakesLast shows s t None step = ap last (sym step.0)
 option_map-TakesLast shows s t (Some x) step = sym (ap last step ∙ last-append t (shows x))
 
@@ -72,7 +74,11 @@ less-at_most q e b lt back = below (key_cmp e b) refl
   where
     below : (o : Ordering) → key_cmp e b ≡ o → key_cmp q b ≡ Less
     below Less is = nat_list_cmp_total.trans q e b lt is
-    below Equal is = nat_list_cmp_total.antisymm q b ∙ ap ordering_reverse (sym (nat_list_cmp_total.congr e b q is)) ∙ sym (nat_list_cmp_total.antisymm q e) ∙ lt
+    below Equal is =
+        nat_list_cmp_total.antisymm q b
+        ∙ ap ordering_reverse (sym (nat_list_cmp_total.congr e b q is))
+        ∙ sym (nat_list_cmp_total.antisymm q e)
+        ∙ lt
     below Greater is = absurd (true≢false (sym (ap is_lt (nat_list_cmp_total.antisymm b e ∙ ap ordering_reverse is)) ∙ back))
 
 within-backward : (b e q : List ℕ) → key_lt b e ≡ false → within b e q ≡ false
@@ -84,12 +90,16 @@ within-backward b e q back = outside (key_cmp q e) refl
     outside Greater is = ap (λ o. key_le b q && is_lt o) is ∙ and-false (key_le b q)
 
 -- no key is in a range that does not end above its begin
-pub filter-within-backward : {X : Type 0} (b e : List ℕ) (es : List (List ℕ × X)) → key_lt b e ≡ false → filter (λ x. within b e x.0) es ≡ []
+pub filter-within-backward : {X : Type 0} (b e : List ℕ) (es : List (List ℕ × X)) → key_lt b e ≡ false
+    → filter (λ x. within b e x.0) es ≡ []
 filter-within-backward b e [] back = refl
-filter-within-backward b e (x ∷ es) back = ap (λ t. cond t (x ∷ filter (λ x. within b e x.0) es) (filter (λ x. within b e x.0) es)) (within-backward b e x.0 back) ∙ filter-within-backward b e es back
+filter-within-backward b e (x ∷ es) back =
+    ap (λ t. cond t (x ∷ filter (λ x. within b e x.0) es) (filter (λ x. within b e x.0) es)) (within-backward b e x.0 back)
+    ∙ filter-within-backward b e es back
 
 -- where `next` gave nothing, nothing was left
-pub OnFalse-TakesFirst : {A X : Type 0} (shows : A → X) (s t fs : List X) (r : Option A) (b : Bool) → TakesFirst shows s r t → s ≡ fs → b ≡ is_some r → OnFalse b (fs ≡ [])
+pub OnFalse-TakesFirst : {A X : Type 0} (shows : A → X) (s t fs : List X) (r : Option A) (b : Bool) → TakesFirst shows s r t → s ≡ fs
+    → b ≡ is_some r → OnFalse b (fs ≡ [])
 OnFalse-TakesFirst shows s t fs None b step same is = subst (λ b. OnFalse b (fs ≡ [])) (sym is) (sym same ∙ step.0)
 OnFalse-TakesFirst shows s t fs (Some x) b step same is = subst (λ b. OnFalse b (fs ≡ [])) (sym is) tt
 
@@ -101,6 +111,8 @@ pub filter-not : {X : Type 0} (p : X → Bool) (xs : List X) → filter p xs ≡
 filter-not p [] none = refl
 filter-not p (x ∷ xs) none = kept (p x) refl none (filter-not p xs)
   where
-    kept : (b : Bool) → p x ≡ b → cond b (x ∷ filter p xs) (filter p xs) ≡ [] → (filter p xs ≡ [] → filter (λ x. not (p x)) xs ≡ xs) → filter (λ x. not (p x)) (x ∷ xs) ≡ x ∷ xs
+    kept : (b : Bool) → p x ≡ b → cond b (x ∷ filter p xs) (filter p xs) ≡ [] → (filter p xs ≡ [] → filter (λ x. not (p x)) xs ≡ xs)
+        → filter (λ x. not (p x)) (x ∷ xs) ≡ x ∷ xs
     kept true is none rest = absurd (cons≢nil x (filter p xs) none)
-    kept false is none rest = ap (λ b. cond (not b) (x ∷ filter (λ x. not (p x)) xs) (filter (λ x. not (p x)) xs)) is ∙ ap (λ ys. x ∷ ys) (rest none)
+    kept false is none rest =
+        ap (λ b. cond (not b) (x ∷ filter (λ x. not (p x)) xs) (filter (λ x. not (p x)) xs)) is ∙ ap (λ ys. x ∷ ys) (rest none)

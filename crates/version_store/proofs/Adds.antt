@@ -37,10 +37,13 @@ module _ (a b : List (List ℕ × Head)) (added : AddsKeys a b) where
   IsSome-added key = IsSome-kept (head_of a key) (head_of b key) (added key)
 
 -- a key with an empty chain was inserted
-pub AddsKeys-inserted : (old new : List (List ℕ × Head)) (key : List ℕ) (head : Head) → head_of old key ≡ None → head.len ≡ 0 → ((q : List ℕ) → head_of new q ≡ cond (is_at (key_cmp key) q) (Some head) (head_of old q)) → AddsKeys old new
+pub AddsKeys-inserted : (old new : List (List ℕ × Head)) (key : List ℕ) (head : Head) → head_of old key ≡ None → head.len ≡ 0
+    → ((q : List ℕ) → head_of new q ≡ cond (is_at (key_cmp key) q) (Some head) (head_of old q)) → AddsKeys old new
 AddsKeys-inserted old new key head none empty updates q =
-    elim (is_at (key_cmp key) q) as (λ b. is_at (key_cmp key) q ≡ b → head_of new q ≡ cond b (Some head) (head_of old q) → IsKept (head_of old q) (head_of new q)) [
-      | true ↦ λ same is. subst (λ o. IsKept o (head_of new q)) (sym none ∙ ap (head_of old) (tells_apart exact_bytes key q same)) (subst (IsKept None) (sym is) empty)
+    elim (is_at (key_cmp key) q)
+    as (λ b. is_at (key_cmp key) q ≡ b → head_of new q ≡ cond b (Some head) (head_of old q) → IsKept (head_of old q) (head_of new q)) [
+      | true ↦ λ same is. subst (λ o. IsKept o (head_of new q)) (sym none ∙ ap (head_of old) (tells_apart exact_bytes key q same))
+          (subst (IsKept None) (sym is) empty)
       | false ↦ λ _ is. subst (IsKept (head_of old q)) (sym is) (IsKept-refl (head_of old q))
     ] refl (updates q)
 
@@ -50,7 +53,8 @@ is_some-false None none = refl
 is_some-false (Some head) none = absurd (false≢true none)
 
 -- an empty chain is sound, and holds nothing
-IsSoundHead-empty : (slots : Slots) (nodes last newest len : ℕ) → len ≡ 0 → IsSoundHead slots nodes last (record { newest = newest; len = len })
+IsSoundHead-empty : (slots : Slots) (nodes last newest len : ℕ) → len ≡ 0
+    → IsSoundHead slots nodes last (record { newest = newest; len = len })
 unfolding IsWhole spelled
 IsSoundHead-empty slots nodes last newest zero empty = record { whole = tt; short = omega arith; versions = tt }
 IsSoundHead-empty slots nodes last newest (suc n) empty = absurd (omega arith)
@@ -60,7 +64,8 @@ unfolding holding spelled
 holding-empty version slots newest zero empty = refl
 holding-empty version slots newest (suc n) empty = absurd (omega arith)
 
-module _ (slots : Slots) (old new : List (List ℕ × Head)) (rising : IsStrictlySortedBy key_cmp (keys_of new)) (added : AddsKeys old new) where
+module _ (slots : Slots) (old new : List (List ℕ × Head)) (rising : IsStrictlySortedBy key_cmp (keys_of new))
+    (added : AddsKeys old new) where
   pub Sound-added : (nodes last : ℕ) → Sound slots nodes last old → Sound slots nodes last new
   Sound-added nodes last sound = record {
     rising = rising;
@@ -72,7 +77,8 @@ module _ (slots : Slots) (old new : List (List ℕ × Head)) (rising : IsStrictl
       sound_after None (Some head) kept all = IsSoundHead-empty slots nodes last head.newest head.len kept
       sound_after (Some head) b kept all = subst (λ o. IfSome o (IsSoundHead slots nodes last)) (sym kept) all
 
-  pub database_of-added : (version : ℕ) → IsStrictlySortedBy key_cmp (keys_of old) → database_of version slots new ≡ database_of version slots old
+  pub database_of-added : (version : ℕ) → IsStrictlySortedBy key_cmp (keys_of old)
+      → database_of version slots new ≡ database_of version slots old
   database_of-added version was_rising = same_map nat_list_cmp_total exact_bytes _ _ (λ q.
       get-database_of slots version new q rising
       ∙ same_held (head_of old q) (head_of new q) (added q)

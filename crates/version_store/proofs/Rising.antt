@@ -24,11 +24,13 @@ less-is_lt Greater h = absurd (false≢true h)
 abbrev IsBelow : List ℕ → List (List ℕ × Option (List ℕ)) → Type 0
 IsBelow key changes = AllByRecursion (λ y. key_cmp key y ≡ Less) (keys_of changes)
 
-IsBelow-push : (key : List ℕ) (changes : List (List ℕ × Option (List ℕ))) (change : List ℕ × Option (List ℕ)) → IsBelow key changes → key_cmp key change.0 ≡ Less → IsBelow key (changes ++ change ∷ [])
+IsBelow-push : (key : List ℕ) (changes : List (List ℕ × Option (List ℕ))) (change : List ℕ × Option (List ℕ)) → IsBelow key changes
+    → key_cmp key change.0 ≡ Less → IsBelow key (changes ++ change ∷ [])
 IsBelow-push key [] change below lt = (lt, tt)
 IsBelow-push key (c ∷ cs) change below lt = (below.0, IsBelow-push key cs change below.1 lt)
 
-IsBelow-last : (key : List ℕ) (changes : List (List ℕ × Option (List ℕ))) (change : List ℕ × Option (List ℕ)) → IsBelow key (changes ++ change ∷ []) → key_cmp key change.0 ≡ Less
+IsBelow-last : (key : List ℕ) (changes : List (List ℕ × Option (List ℕ))) (change : List ℕ × Option (List ℕ))
+    → IsBelow key (changes ++ change ∷ []) → key_cmp key change.0 ≡ Less
 IsBelow-last key [] change below = below.0
 IsBelow-last key (c ∷ cs) change below = IsBelow-last key cs change below.1
 
@@ -37,7 +39,8 @@ unfolding IsStrictlySortedBy
 IsRising-nil = tt
 
 -- a key above all others may come last
-pub IsRising-push : (changes : List (List ℕ × Option (List ℕ))) (change : List ℕ × Option (List ℕ)) → IsRising changes → IsTrue (is_above changes change.0) → IsRising (changes ++ change ∷ [])
+pub IsRising-push : (changes : List (List ℕ × Option (List ℕ))) (change : List ℕ × Option (List ℕ)) → IsRising changes
+    → IsTrue (is_above changes change.0) → IsRising (changes ++ change ∷ [])
 unfolding IsStrictlySortedBy
 IsRising-push [] change rising above = (tt, tt)
 IsRising-push (c ∷ []) change rising above = ((less-is_lt _ above, tt), (tt, tt))
@@ -47,7 +50,8 @@ IsRising-push (c ∷ d ∷ cs) change rising above =
     (IsBelow-push c.0 (d ∷ cs) change rising.0 later, rest)
 
 -- the last change, read by its place
-pub last-changes_of : (changes : List Change) (change : Change) → Some change ≡ slice_get changes (length changes - 1) → last (changes_of changes) ≡ Some (change_of change)
+pub last-changes_of : (changes : List Change) (change : Change) → Some change ≡ slice_get changes (length changes - 1)
+    → last (changes_of changes) ≡ Some (change_of change)
 last-changes_of [] change is = absurd (none-some change (sym is))
 last-changes_of (c ∷ []) change is = ap (option_map change_of) (sym is)
 last-changes_of (c ∷ d ∷ cs) change is =

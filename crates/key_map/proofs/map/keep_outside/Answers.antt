@@ -10,4 +10,5 @@ returns-then-not-has_between g c =
 
 pub returns : goal.returns
 returns g c =
-    filter_same_pairs _ (λ e. not (within c.args.begin.now c.args.end.now e.0)) _ (λ k v b w f' t. search rules) _ _ c.retain.ensures.filtered
+    filter_same_pairs _ (λ e. not (within c.args.begin.now c.args.end.now e.0)) _ (λ k v b w f' t. search rules) _ _
+    c.retain.ensures.filtered

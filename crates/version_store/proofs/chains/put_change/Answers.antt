@@ -11,7 +11,10 @@ abbrev placed : After-drop-change → Head
 placed c = record { newest = c.insert_reserved-newest.result; len = c.unwrap-head.result.now.len + 1 }
 
 -- the node came before the chain of the key
-puts : (c : After-drop-change) → Puts c.args.nodes.now.slots c.insert_reserved-newest.new.self.slots c.args.tree.now.entries (c.get_mut.follows.lender (placed c)).entries c.args.version c.insert_reserved-newest.result c.args.change.key c.args.change.value c.unwrap-head.result.now
+puts : (c : After-drop-change)
+    → Puts c.args.nodes.now.slots c.insert_reserved-newest.new.self.slots c.args.tree.now.entries
+    (c.get_mut.follows.lender (placed c)).entries c.args.version c.insert_reserved-newest.result c.args.change.key c.args.change.value
+    c.unwrap-head.result.now
 puts c =
     let holds = c.get_mut.follows.holds (placed c) in
     record {
@@ -25,7 +28,8 @@ puts c =
 
 pub returns-clause-sound : goal.returns-clause-sound
 returns-clause-sound c =
-    subst (λ nodes. Sound c.insert_reserved-newest.new.self.slots nodes c.args.version (c.get_mut.follows.lender (placed c)).entries) (sym c.insert_reserved-newest.ensures.len)
+    subst (λ nodes. Sound c.insert_reserved-newest.new.self.slots nodes c.args.version (c.get_mut.follows.lender (placed c)).entries)
+    (sym c.insert_reserved-newest.ensures.len)
     (Sound-put _ _ _ _ _ _ _ _ _ (puts c) (slab_len c.args.nodes.now) c.requires.sound)
 
 pub returns-clause-keys : goal.returns-clause-keys

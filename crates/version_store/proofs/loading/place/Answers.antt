@@ -11,8 +11,10 @@ returns-clause-chain c =
 
 pub returns-clause-sound : goal.returns-clause-sound
 returns-clause-sound c =
-    subst (λ nodes. IsSoundHead c.insert.new.self.slots nodes 1 (record { newest = c.in_ok-newest.newest; len = 1 })) (sym c.in_ok-newest.ensures.len)
-    (IsSoundHead-placed_alone c.insert.new.self.slots c.in_ok-newest.newest 0 c.args.value c.in_ok-newest.ensures.updates.changed (slab_len c.args.nodes.now))
+    subst (λ nodes. IsSoundHead c.insert.new.self.slots nodes 1 (record { newest = c.in_ok-newest.newest; len = 1 }))
+    (sym c.in_ok-newest.ensures.len)
+    (IsSoundHead-placed_alone c.insert.new.self.slots c.in_ok-newest.newest 0 c.args.value c.in_ok-newest.ensures.updates.changed
+    (slab_len c.args.nodes.now))
 
 pub returns-clause-others : goal.returns-clause-others
 returns-clause-others c head sound =

@@ -10,5 +10,8 @@ use Rattle.version_store.proofs.changes.Changes.is_below.Goals as goal
 pub returns-in-Some : goal.returns-in-Some
 returns-in-Some c =
     c.is_lt.ensures ∙ ap is_lt c.cmp.ensures
-    ∙ sym (ap (λ change. option_map_or (λ change. key_lt change.0 c.args.key.now) change true) (last-changes_of c.self.inside.items.items c.in-Some.change.now ((c.in-Some.ensures {u = tt}).value ∙ ap (λ items. slice_get items (length items - 1)) c.deref.ensures.value)))
+    ∙ sym
+    (ap (λ change. option_map_or (λ change. key_lt change.0 c.args.key.now) change true)
+    (last-changes_of c.self.inside.items.items c.in-Some.change.now
+    ((c.in-Some.ensures {u = tt}).value ∙ ap (λ items. slice_get items (length items - 1)) c.deref.ensures.value)))
     ∙ ap (λ changes. is_above changes c.args.key.now) c.self.view_is

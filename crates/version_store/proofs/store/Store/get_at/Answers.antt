@@ -8,7 +8,8 @@ pub returns-in_default-clause-ok : goal.returns-in_default-clause-ok
 unfolding at
 returns-in_default-clause-ok c = (
   c.in_ok-check.ensures.ok,
-  get-without_head c.args.version c.self.inside.nodes.slots c.self.inside.tree.entries c.self.invariant.rising c.args.key.now ((c.in_default.ensures {u = tt}).value)
+  get-without_head c.args.version c.self.inside.nodes.slots c.self.inside.tree.entries c.self.invariant.rising c.args.key.now
+      ((c.in_default.ensures {u = tt}).value)
       ∙ ap (λ versions. get (at versions c.args.version) c.args.key.now) c.self.view_is,
 )
 
@@ -17,7 +18,8 @@ unfolding at
 returns-in-Some-value_at-clause-ok c = (
   c.in_ok-check.ensures.ok,
   ap Some c.as_slice.ensures
-      ∙ get-with_head c.args.version c.self.inside.nodes.slots c.self.inside.tree.entries c.self.invariant.rising c.args.key.now c.in-Some.head.now (Some c.in-Some-value_at.value.now) (c.in-Some.ensures {u = tt}).value (c.in-Some-value_at.ensures {u = tt})
+      ∙ get-with_head c.args.version c.self.inside.nodes.slots c.self.inside.tree.entries c.self.invariant.rising c.args.key.now
+      c.in-Some.head.now (Some c.in-Some-value_at.value.now) (c.in-Some.ensures {u = tt}).value (c.in-Some-value_at.ensures {u = tt})
       ∙ ap (λ versions. get (at versions c.args.version) c.args.key.now) c.self.view_is,
 )
 
@@ -25,6 +27,7 @@ pub returns-in-None-clause-ok : goal.returns-in-None-clause-ok
 unfolding at
 returns-in-None-clause-ok c = (
   c.in_ok-check.ensures.ok,
-  get-with_head c.args.version c.self.inside.nodes.slots c.self.inside.tree.entries c.self.invariant.rising c.args.key.now c.in-Some.head.now None (c.in-Some.ensures {u = tt}).value (c.in-None.ensures {u = tt})
+  get-with_head c.args.version c.self.inside.nodes.slots c.self.inside.tree.entries c.self.invariant.rising c.args.key.now
+      c.in-Some.head.now None (c.in-Some.ensures {u = tt}).value (c.in-None.ensures {u = tt})
       ∙ ap (λ versions. get (at versions c.args.version) c.args.key.now) c.self.view_is,
 )

@@ -17,6 +17,7 @@ returns-clause-ok c = (
   option_map-TakesFirst deref_pair _ _ _ c.next.ensures.steps
       ∙ ap first c.new.ensures
       ∙ ap (λ heads. first (present_of c.args.version c.self.inside.nodes.slots heads)) (c.range.ensures.between tt)
-      ∙ ap first (present_of-from c.args.version c.self.inside.nodes.slots c.self.inside.tree.entries c.self.invariant.rising c.args.key.now)
+      ∙ ap first
+      (present_of-from c.args.version c.self.inside.nodes.slots c.self.inside.tree.entries c.self.invariant.rising c.args.key.now)
       ∙ ap (λ versions. first (filter (λ e. key_le c.args.key.now e.0) (entries (at versions c.args.version)))) c.self.view_is,
 )

@@ -12,7 +12,8 @@ use Rattle.version_store.proofs.store.Store.pairs_between.Goals as goal
 pub returns-then-not-is_lt : goal.returns-then-not-is_lt
 returns-then-not-is_lt c =
     c.new.ensures
-    ∙ sym (filter-within-backward c.args.begin.now c.args.end.now _ (sym (ap is_lt c.cmp.ensures) ∙ sym c.is_lt.ensures ∙ c.if-not-is_lt.true))
+    ∙ sym
+    (filter-within-backward c.args.begin.now c.args.end.now _ (sym (ap is_lt c.cmp.ensures) ∙ sym c.is_lt.ensures ∙ c.if-not-is_lt.true))
 
 pub returns : goal.returns
 unfolding at last_of
