@@ -27,59 +27,70 @@ module _ {X : Type 0} where
   abbrev pub map_of : List (List ℕ × X) → FinMap key_cmp X
   map_of = from_entries
 
-  found : (es : List (List ℕ × X)) (q : List ℕ) → find key_cmp q es ≡ lookup (is_key q) es
-  found [] q = refl
-  found (e ∷ es) q = ap (cond (is_key q e.0) (Some e.1)) (found es q)
+  find-lookup : (es : List (List ℕ × X)) (q : List ℕ) → find key_cmp q es ≡ lookup (is_key q) es
+  find-lookup [] q = refl
+  find-lookup (e ∷ es) q = ap (cond (is_key q e.0) (Some e.1)) (find-lookup es q)
 
-  pub get_of : (es : List (List ℕ × X)) (q : List ℕ) → get (map_of es) q ≡ lookup (is_key q) es
-  get_of es q = get-from_entries nat_list_cmp_total es q ∙ found es q
+  pub get-map_of : (es : List (List ℕ × X)) (q : List ℕ) → get (map_of es) q ≡ lookup (is_key q) es
+  get-map_of es q = get-from_entries nat_list_cmp_total es q ∙ find-lookup es q
 
   -- Below, es are the entries of a tree that stands for m, and fs those of another tree.
-  pub looked_up : (es : List (List ℕ × X)) (m : FinMap key_cmp X) → map_of es ≡ m → (q : List ℕ) → lookup (is_key q) es ≡ get m q
-  looked_up es m seen q = sym (get_of es q) ∙ ap (λ n. get n q) seen
+  pub lookup-map_of : (es : List (List ℕ × X)) (m : FinMap key_cmp X) → map_of es ≡ m → (q : List ℕ) → lookup (is_key q) es ≡ get m q
+  lookup-map_of es m seen q = sym (get-map_of es q) ∙ ap (λ n. get n q) seen
 
   -- a map is known by what it answers at each key
-  same_of : (fs : List (List ℕ × X)) (n : FinMap key_cmp X) → ((q : List ℕ) → lookup (is_key q) fs ≡ get n q) → map_of fs ≡ n
-  same_of fs n h = same_map nat_list_cmp_total exact_bytes _ _ (λ q. get_of fs q ∙ h q)
+  map_of-same : (fs : List (List ℕ × X)) (n : FinMap key_cmp X) → ((q : List ℕ) → lookup (is_key q) fs ≡ get n q) → map_of fs ≡ n
+  map_of-same fs n h = same_map nat_list_cmp_total exact_bytes _ _ (λ q. get-map_of fs q ∙ h q)
 
   -- fs are es but for the value of one key
-  pub inserted_of : (es fs : List (List ℕ × X)) (m : FinMap key_cmp X) → map_of es ≡ m → (k : List ℕ) (v : X) → ((q : List ℕ) → lookup (is_key q) fs ≡ cond (is_key k q) (Some v) (lookup (is_key q) es)) → map_of fs ≡ insert m k v
-  inserted_of es fs m seen k v h = same_of fs (insert m k v) (λ q. h q
-      ∙ (λ i. cond ((eq_by_cmp_equiv nat_list_cmp_total).symm k q i) (Some v) (looked_up es m seen q i)) ∙ sym (get-insert nat_list_cmp_total m k v q))
+  pub map_of-inserted : (es fs : List (List ℕ × X)) (m : FinMap key_cmp X) → map_of es ≡ m → (k : List ℕ) (v : X)
+      → ((q : List ℕ) → lookup (is_key q) fs ≡ cond (is_key k q) (Some v) (lookup (is_key q) es)) → map_of fs ≡ insert m k v
+  map_of-inserted es fs m seen k v h = map_of-same fs (insert m k v) (λ q. h q
+      ∙ (λ i. cond ((eq_by_cmp_equiv nat_list_cmp_total).symm k q i) (Some v) (lookup-map_of es m seen q i))
+      ∙ sym (get-insert nat_list_cmp_total m k v q))
 
   -- fs are es without one key
-  pub removed_of : (es fs : List (List ℕ × X)) (m : FinMap key_cmp X) → map_of es ≡ m → (k : List ℕ) → ((q : List ℕ) → lookup (is_key q) fs ≡ cond (is_key k q) None (lookup (is_key q) es)) → map_of fs ≡ remove m k
-  removed_of es fs m seen k h = same_of fs (remove m k) (λ q. h q
-      ∙ (λ i. cond ((eq_by_cmp_equiv nat_list_cmp_total).symm k q i) None (looked_up es m seen q i)) ∙ sym (get-remove nat_list_cmp_total m k q))
+  pub map_of-removed : (es fs : List (List ℕ × X)) (m : FinMap key_cmp X) → map_of es ≡ m → (k : List ℕ)
+      → ((q : List ℕ) → lookup (is_key q) fs ≡ cond (is_key k q) None (lookup (is_key q) es)) → map_of fs ≡ remove m k
+  map_of-removed es fs m seen k h = map_of-same fs (remove m k) (λ q. h q
+      ∙ (λ i. cond ((eq_by_cmp_equiv nat_list_cmp_total).symm k q i) None (lookup-map_of es m seen q i))
+      ∙ sym (get-remove nat_list_cmp_total m k q))
 
   -- fs are es but for the keys that fail a test
-  pub retained_of : (es fs : List (List ℕ × X)) (m : FinMap key_cmp X) → map_of es ≡ m → (p : List ℕ → Bool) → fs ≡ filter (λ e. p e.0) es → map_of fs ≡ retain_keys m p
-  retained_of es fs m seen p h = same_of fs (retain_keys m p) (λ q.
+  pub map_of-retained : (es fs : List (List ℕ × X)) (m : FinMap key_cmp X) → map_of es ≡ m → (p : List ℕ → Bool)
+      → fs ≡ filter (λ e. p e.0) es → map_of fs ≡ retain_keys m p
+  map_of-retained es fs m seen p h = map_of-same fs (retain_keys m p) (λ q.
       ap (lookup (is_key q)) h ∙ lookup-filter-keys (is_key q) p (p q) (λ k same. ap p (sym (tells_apart exact_bytes q k same))) es
-      ∙ ap (λ v. cond (p q) v None) (looked_up es m seen q) ∙ sym (get-retain_keys m p q (λ k same. ap p (sym (exact_bytes q k same)))))
+      ∙ ap (λ v. cond (p q) v None) (lookup-map_of es m seen q) ∙ sym (get-retain_keys m p q (λ k same. ap p (sym (exact_bytes q k same)))))
 
-  put_first : (k : List ℕ) (v : X) (es : List (List ℕ × X)) → AllByRecursion (λ y. key_cmp k y ≡ Less) (keys_of es) → put key_cmp k v es ≡ (k, v) ∷ es
-  put_first k v [] below = refl
-  put_first k v (e ∷ es) below = ap (λ o. by_order o ((k, v) ∷ e ∷ es) ((e.0, v) ∷ es) (e ∷ put key_cmp k v es)) below.0
+  put-below : (k : List ℕ) (v : X) (es : List (List ℕ × X)) → AllByRecursion (λ y. key_cmp k y ≡ Less) (keys_of es)
+      → put key_cmp k v es ≡ (k, v) ∷ es
+  put-below k v [] below = refl
+  put-below k v (e ∷ es) below = ap (λ o. by_order o ((k, v) ∷ e ∷ es) ((e.0, v) ∷ es) (e ∷ put key_cmp k v es)) below.0
 
   -- the map has a tree's entries, since their keys rise
-  pub entries_of_map : (es : List (List ℕ × X)) → IsStrictlySortedBy key_cmp (keys_of es) → entries (map_of es) ≡ es
-  entries_of_map [] rising = nil_from_length (entries (map_of [])) (sym (len-entries (map_of [])) ∙ len-empty key_cmp X)
-  entries_of_map (e ∷ es) rising =
+  pub entries-map_of : (es : List (List ℕ × X)) → IsStrictlySortedBy key_cmp (keys_of es) → entries (map_of es) ≡ es
+  entries-map_of [] rising = nil_from_length (entries (map_of [])) (sym (len-entries (map_of [])) ∙ len-empty key_cmp X)
+  entries-map_of (e ∷ es) rising =
       entries-insert nat_list_cmp_total (map_of es) e.0 e.1
-      ∙ ap (put key_cmp e.0 e.1) (entries_of_map es (sorted_tail key_cmp e.0 (keys_of es) rising))
-      ∙ put_first e.0 e.1 es (sorted_head key_cmp e.0 (keys_of es) rising)
+      ∙ ap (put key_cmp e.0 e.1) (entries-map_of es (sorted_tail key_cmp e.0 (keys_of es) rising))
+      ∙ put-below e.0 e.1 es (sorted_head key_cmp e.0 (keys_of es) rising)
 
-  pub listed : (es : List (List ℕ × X)) (m : FinMap key_cmp X) → map_of es ≡ m → IsStrictlySortedBy key_cmp (keys_of es) → entries m ≡ es
-  listed es m seen rising = ap entries (sym seen) ∙ entries_of_map es rising
+  pub entries-tree : (es : List (List ℕ × X)) (m : FinMap key_cmp X) → map_of es ≡ m → IsStrictlySortedBy key_cmp (keys_of es)
+      → entries m ≡ es
+  entries-tree es m seen rising = ap entries (sym seen) ∙ entries-map_of es rising
 
-  get_inserted : (xs : List (List ℕ × X)) (m : FinMap key_cmp X) (q : List ℕ) → get (inserted xs m) q ≡ update_all (eq_by_cmp key_cmp) (get m) xs q
-  get_inserted [] m q = refl
-  get_inserted (x ∷ xs) m q =
-      get_inserted xs (insert m x.0 x.1) q
-      ∙ ap (λ f. update_all (eq_by_cmp key_cmp) f xs q) (λ i r. (get-insert nat_list_cmp_total m x.0 x.1 r ∙ ap (λ b. cond b (Some x.1) (get m r)) ((eq_by_cmp_equiv nat_list_cmp_total).symm r x.0)) i)
+  get-inserted : (xs : List (List ℕ × X)) (m : FinMap key_cmp X) (q : List ℕ)
+      → get (inserted xs m) q ≡ update_all (eq_by_cmp key_cmp) (get m) xs q
+  get-inserted [] m q = refl
+  get-inserted (x ∷ xs) m q =
+      get-inserted xs (insert m x.0 x.1) q
+      ∙ ap (λ f. update_all (eq_by_cmp key_cmp) f xs q)
+      (λ i r. (get-insert nat_list_cmp_total m x.0 x.1 r
+      ∙ ap (λ b. cond b (Some x.1) (get m r)) ((eq_by_cmp_equiv nat_list_cmp_total).symm r x.0)) i)
 
   -- fs are what `collect` makes of the pairs xs
-  pub collected_of : (xs fs : List (List ℕ × X)) → ((q : List ℕ) → lookup (is_key q) fs ≡ update_all (eq_by_cmp key_cmp) (λ _. None) xs q) → map_of fs ≡ inserted xs empty
-  collected_of xs fs h = same_of fs (inserted xs empty) (λ q. h q
-      ∙ ap (λ f. update_all (eq_by_cmp key_cmp) f xs q) (λ i r. sym (get-empty key_cmp r) i) ∙ sym (get_inserted xs empty q))
+  pub map_of-collected : (xs fs : List (List ℕ × X))
+      → ((q : List ℕ) → lookup (is_key q) fs ≡ update_all (eq_by_cmp key_cmp) (λ _. None) xs q) → map_of fs ≡ inserted xs empty
+  map_of-collected xs fs h = map_of-same fs (inserted xs empty) (λ q. h q
+      ∙ ap (λ f. update_all (eq_by_cmp key_cmp) f xs q) (λ i r. sym (get-empty key_cmp r) i) ∙ sym (get-inserted xs empty q))

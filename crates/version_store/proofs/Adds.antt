@@ -37,20 +37,24 @@ module _ (a b : List (List ℕ × Head)) (added : AddsKeys a b) where
   IsSome-added key = IsSome-kept (head_of a key) (head_of b key) (added key)
 
 -- a key with an empty chain was inserted
-pub AddsKeys-inserted : (old new : List (List ℕ × Head)) (key : List ℕ) (head : Head) → head_of old key ≡ None → head.len ≡ 0 → ((q : List ℕ) → head_of new q ≡ cond (is_at (key_cmp key) q) (Some head) (head_of old q)) → AddsKeys old new
+pub AddsKeys-inserted : (old new : List (List ℕ × Head)) (key : List ℕ) (head : Head) → head_of old key ≡ None → head.len ≡ 0
+    → ((q : List ℕ) → head_of new q ≡ cond (is_at (key_cmp key) q) (Some head) (head_of old q)) → AddsKeys old new
 AddsKeys-inserted old new key head none empty updates q =
-    elim (is_at (key_cmp key) q) as (λ b. is_at (key_cmp key) q ≡ b → head_of new q ≡ cond b (Some head) (head_of old q) → IsKept (head_of old q) (head_of new q)) [
-      | true ↦ λ same is. subst (λ o. IsKept o (head_of new q)) (sym none ∙ ap (head_of old) (tells_apart exact_bytes key q same)) (subst (IsKept None) (sym is) empty)
+    elim (is_at (key_cmp key) q)
+    as (λ b. is_at (key_cmp key) q ≡ b → head_of new q ≡ cond b (Some head) (head_of old q) → IsKept (head_of old q) (head_of new q)) [
+      | true ↦ λ same is. subst (λ o. IsKept o (head_of new q)) (sym none ∙ ap (head_of old) (tells_apart exact_bytes key q same))
+          (subst (IsKept None) (sym is) empty)
       | false ↦ λ _ is. subst (IsKept (head_of old q)) (sym is) (IsKept-refl (head_of old q))
     ] refl (updates q)
 
 -- no head is there
-pub none_there : (o : Option Head) → false ≡ is_some o → o ≡ None
-none_there None none = refl
-none_there (Some head) none = absurd (false≢true none)
+pub is_some-false : (o : Option Head) → false ≡ is_some o → o ≡ None
+is_some-false None none = refl
+is_some-false (Some head) none = absurd (false≢true none)
 
 -- an empty chain is sound, and holds nothing
-IsSoundHead-empty : (slots : Slots) (nodes last newest len : ℕ) → len ≡ 0 → IsSoundHead slots nodes last (record { newest = newest; len = len })
+IsSoundHead-empty : (slots : Slots) (nodes last newest len : ℕ) → len ≡ 0
+    → IsSoundHead slots nodes last (record { newest = newest; len = len })
 unfolding IsWhole spelled
 IsSoundHead-empty slots nodes last newest zero empty = record { whole = tt; short = omega arith; versions = tt }
 IsSoundHead-empty slots nodes last newest (suc n) empty = absurd (omega arith)
@@ -60,28 +64,30 @@ unfolding holding spelled
 holding-empty version slots newest zero empty = refl
 holding-empty version slots newest (suc n) empty = absurd (omega arith)
 
-module _ (slots : Slots) (old new : List (List ℕ × Head)) (rising : IsStrictlySortedBy key_cmp (keys_of new)) (added : AddsKeys old new) where
+module _ (slots : Slots) (old new : List (List ℕ × Head)) (rising : IsStrictlySortedBy key_cmp (keys_of new))
+    (added : AddsKeys old new) where
   pub Sound-added : (nodes last : ℕ) → Sound slots nodes last old → Sound slots nodes last new
   Sound-added nodes last sound = record {
     rising = rising;
-    heads_sound = λ key. by (head_of old key) (head_of new key) (added key) (sound.heads_sound key);
+    heads_sound = λ key. sound_after (head_of old key) (head_of new key) (added key) (sound.heads_sound key);
   }
     where
-      by : (a b : Option Head) → IsKept a b → IfSome a (IsSoundHead slots nodes last) → IfSome b (IsSoundHead slots nodes last)
-      by None None kept all = tt
-      by None (Some head) kept all = IsSoundHead-empty slots nodes last head.newest head.len kept
-      by (Some head) b kept all = subst (λ o. IfSome o (IsSoundHead slots nodes last)) (sym kept) all
+      sound_after : (a b : Option Head) → IsKept a b → IfSome a (IsSoundHead slots nodes last) → IfSome b (IsSoundHead slots nodes last)
+      sound_after None None kept all = tt
+      sound_after None (Some head) kept all = IsSoundHead-empty slots nodes last head.newest head.len kept
+      sound_after (Some head) b kept all = subst (λ o. IfSome o (IsSoundHead slots nodes last)) (sym kept) all
 
-  pub database_of-added : (version : ℕ) → IsStrictlySortedBy key_cmp (keys_of old) → database_of version slots new ≡ database_of version slots old
+  pub database_of-added : (version : ℕ) → IsStrictlySortedBy key_cmp (keys_of old)
+      → database_of version slots new ≡ database_of version slots old
   database_of-added version was_rising = same_map nat_list_cmp_total exact_bytes _ _ (λ q.
       get-database_of slots version new q rising
-      ∙ by (head_of old q) (head_of new q) (added q)
+      ∙ same_held (head_of old q) (head_of new q) (added q)
       ∙ sym (get-database_of slots version old q was_rising))
     where
       held : Option Head → Option (List ℕ)
       held = option_and_then (λ head. holding version (chain_of slots head))
 
-      by : (a b : Option Head) → IsKept a b → held b ≡ held a
-      by None None kept = refl
-      by None (Some head) kept = holding-empty version slots head.newest head.len kept
-      by (Some head) b kept = ap held kept
+      same_held : (a b : Option Head) → IsKept a b → held b ≡ held a
+      same_held None None kept = refl
+      same_held None (Some head) kept = holding-empty version slots head.newest head.len kept
+      same_held (Some head) b kept = ap held kept

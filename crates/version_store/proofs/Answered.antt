@@ -8,38 +8,46 @@ use Rattle.std.specs.List.Sorted.{IsStrictlySortedBy}
 use Rattle.std.specs.Map.{keys_of}
 use Rattle.std.specs.Option.{option_and_then}
 use Rattle.key_bytes.specs.Keys.{key_cmp, key_le, key_lt, within}
-use Rattle.key_map.proofs.Spans.{from_test, below_test, within_test}
+use Rattle.key_map.proofs.Spans.{range_contains-from, range_contains-below, range_contains-within}
 use Rattle.version_store.specs.declared.chains.Head.{Head}
 use Rattle.version_store.specs.Chains.{Slots, chain_of, head_of, database_of}
 use Rattle.version_store.specs.Versions.{holding}
 use Rattle.version_store.proofs.Spans.{present_of, entries-database_of, get-database_of, filter-present_of}
 
-module _ (version : ℕ) (slots : Slots) (heads : List (List ℕ × Head)) (rising : IsStrictlySortedBy key_cmp (keys_of heads)) (key : List ℕ) where
+module _ (version : ℕ) (slots : Slots) (heads : List (List ℕ × Head)) (rising : IsStrictlySortedBy key_cmp (keys_of heads))
+    (key : List ℕ) where
   -- the key has no chain
-  pub nothing_at : None ≡ head_of heads key → None ≡ get (database_of version slots heads) key
-  nothing_at none = ap (option_and_then (λ head. holding version (chain_of slots head))) none ∙ sym (get-database_of slots version heads key rising)
+  pub get-without_head : None ≡ head_of heads key → None ≡ get (database_of version slots heads) key
+  get-without_head none =
+      ap (option_and_then (λ head. holding version (chain_of slots head))) none ∙ sym (get-database_of slots version heads key rising)
 
   -- the key has a chain, which holds this
-  pub held_at : (head : Head) (value : Option (List ℕ)) → Some head ≡ head_of heads key → value ≡ holding version (chain_of slots head) → value ≡ get (database_of version slots heads) key
-  held_at head value has is = is ∙ ap (option_and_then (λ head. holding version (chain_of slots head))) has ∙ sym (get-database_of slots version heads key rising)
+  pub get-with_head : (head : Head) (value : Option (List ℕ)) → Some head ≡ head_of heads key
+      → value ≡ holding version (chain_of slots head) → value ≡ get (database_of version slots heads) key
+  get-with_head head value has is =
+      is ∙ ap (option_and_then (λ head. holding version (chain_of slots head))) has ∙ sym (get-database_of slots version heads key rising)
 
   -- the keys from one on
-  pub present_from : present_of version slots (filter (λ e. range_contains key_cmp (Included key) Unbounded e.0) heads) ≡ filter (λ e. key_le key e.0) (entries (database_of version slots heads))
-  present_from =
-      ap (present_of version slots) (λ i. filter (λ e. from_test key e.0 i) heads)
+  pub present_of-from : present_of version slots (filter (λ e. range_contains key_cmp (Included key) Unbounded e.0) heads)
+      ≡ filter (λ e. key_le key e.0) (entries (database_of version slots heads))
+  present_of-from =
+      ap (present_of version slots) (λ i. filter (λ e. range_contains-from key e.0 i) heads)
       ∙ sym (filter-present_of slots version (key_le key) heads)
       ∙ ap (filter (λ e. key_le key e.0)) (sym (entries-database_of slots version heads rising))
 
   -- the keys below one
-  pub present_below_key : present_of version slots (filter (λ e. range_contains key_cmp Unbounded (Excluded key) e.0) heads) ≡ filter (λ e. key_lt e.0 key) (entries (database_of version slots heads))
-  present_below_key =
-      ap (present_of version slots) (λ i. filter (λ e. below_test key e.0 i) heads)
+  pub present_of-below : present_of version slots (filter (λ e. range_contains key_cmp Unbounded (Excluded key) e.0) heads)
+      ≡ filter (λ e. key_lt e.0 key) (entries (database_of version slots heads))
+  present_of-below =
+      ap (present_of version slots) (λ i. filter (λ e. range_contains-below key e.0 i) heads)
       ∙ sym (filter-present_of slots version (λ k. key_lt k key) heads)
       ∙ ap (filter (λ e. key_lt e.0 key)) (sym (entries-database_of slots version heads rising))
 
   -- the keys from one up to another
-  pub present_within : (end : List ℕ) → present_of version slots (filter (λ e. range_contains key_cmp (Included key) (Excluded end) e.0) heads) ≡ filter (λ e. within key end e.0) (entries (database_of version slots heads))
-  present_within end =
-      ap (present_of version slots) (λ i. filter (λ e. within_test key end e.0 i) heads)
+  pub present_of-within : (end : List ℕ)
+      → present_of version slots (filter (λ e. range_contains key_cmp (Included key) (Excluded end) e.0) heads)
+      ≡ filter (λ e. within key end e.0) (entries (database_of version slots heads))
+  present_of-within end =
+      ap (present_of version slots) (λ i. filter (λ e. range_contains-within key end e.0 i) heads)
       ∙ sym (filter-present_of slots version (within key end) heads)
       ∙ ap (filter (λ e. within key end e.0)) (sym (entries-database_of slots version heads rising))

@@ -27,34 +27,39 @@ holding-later last (given ∷ older) up_to =
 
 module _ (slots : Slots) (heads : List (List ℕ × Head)) where
   -- before anything is put at the next version, the database is the one at the last
-  pub database_of-later : (nodes last : ℕ) → Sound slots nodes last heads → database_of (last + 1) slots heads ≡ database_of last slots heads
+  pub database_of-later : (nodes last : ℕ) → Sound slots nodes last heads
+      → database_of (last + 1) slots heads ≡ database_of last slots heads
   database_of-later nodes last sound = same_map nat_list_cmp_total exact_bytes _ _ (λ q.
       get-database_of slots (last + 1) heads q sound.rising
-      ∙ by (head_of heads q) (sound.heads_sound q)
+      ∙ same_held (head_of heads q) (sound.heads_sound q)
       ∙ sym (get-database_of slots last heads q sound.rising))
     where
-      by : (o : Option Head) → IfSome o (IsSoundHead slots nodes last) → option_and_then (λ head. holding (last + 1) (chain_of slots head)) o ≡ option_and_then (λ head. holding last (chain_of slots head)) o
-      by None all = refl
-      by (Some head) all = holding-later last (chain_of slots head) all.versions
+      same_held : (o : Option Head) → IfSome o (IsSoundHead slots nodes last)
+          → option_and_then (λ head. holding (last + 1) (chain_of slots head)) o
+          ≡ option_and_then (λ head. holding last (chain_of slots head)) o
+      same_held None all = refl
+      same_held (Some head) all = holding-later last (chain_of slots head) all.versions
 
   is_some-mapped : (o : Option Head) → is_some (option_map (chain_of slots) o) ≡ is_some o
   is_some-mapped None = refl
   is_some-mapped (Some head) = refl
 
-  has_key : (key : List ℕ) → is_some (lookup (is_at (key_cmp key)) (chains_of slots heads)) ≡ is_some (head_of heads key)
-  has_key key = ap is_some (lookup-map_values (chain_of slots) (is_at (key_cmp key)) heads) ∙ is_some-mapped (head_of heads key)
+  is_some-chain : (key : List ℕ) → is_some (lookup (is_at (key_cmp key)) (chains_of slots heads)) ≡ is_some (head_of heads key)
+  is_some-chain key = ap is_some (lookup-map_values (chain_of slots) (is_at (key_cmp key)) heads) ∙ is_some-mapped (head_of heads key)
 
   -- keys that have heads have chains
-  pub HasKey-from_heads : (changes : List Change) → HaveHeads heads changes → All (λ change. HasKey (chains_of slots heads) change.0) (changes_of changes)
+  pub HasKey-from_heads : (changes : List Change) → HaveHeads heads changes
+      → All (λ change. HasKey (chains_of slots heads) change.0) (changes_of changes)
   HasKey-from_heads [] known = All-nil _
   HasKey-from_heads (c ∷ cs) known =
       All-cons (λ change. HasKey (chains_of slots heads) change.0) (c.key, c.value) (changes_of cs)
-      (has_key c.key ∙ All-head (λ change. IsSome (head_of heads change.key)) c cs known)
+      (is_some-chain c.key ∙ All-head (λ change. IsSome (head_of heads change.key)) c cs known)
       (HasKey-from_heads cs (All-tail (λ change. IsSome (head_of heads change.key)) c cs known))
 
-  pub HaveHeads-from_keys : (changes : List Change) → All (λ change. HasKey (chains_of slots heads) change.0) (changes_of changes) → HaveHeads heads changes
+  pub HaveHeads-from_keys : (changes : List Change) → All (λ change. HasKey (chains_of slots heads) change.0) (changes_of changes)
+      → HaveHeads heads changes
   HaveHeads-from_keys [] known = All-nil _
   HaveHeads-from_keys (c ∷ cs) known =
       All-cons (λ change. IsSome (head_of heads change.key)) c cs
-      (sym (has_key c.key) ∙ All-head (λ change. HasKey (chains_of slots heads) change.0) (c.key, c.value) (changes_of cs) known)
+      (sym (is_some-chain c.key) ∙ All-head (λ change. HasKey (chains_of slots heads) change.0) (c.key, c.value) (changes_of cs) known)
       (HaveHeads-from_keys cs (All-tail (λ change. HasKey (chains_of slots heads) change.0) (c.key, c.value) (changes_of cs) known))

@@ -15,41 +15,45 @@ use Rattle.key_map.specs.Ends.{last}
 use Rattle.version_store.specs.declared.changes.Change.{Change}
 use Rattle.version_store.specs.Changed.{change_of, changes_of, IsRising, is_above}
 
-less : (o : Ordering) → IsTrue (is_lt o) → o ≡ Less
-less Less h = refl
-less Equal h = absurd (false≢true h)
-less Greater h = absurd (false≢true h)
+less-is_lt : (o : Ordering) → IsTrue (is_lt o) → o ≡ Less
+less-is_lt Less h = refl
+less-is_lt Equal h = absurd (false≢true h)
+less-is_lt Greater h = absurd (false≢true h)
 
 -- a key below those of all changes
 abbrev IsBelow : List ℕ → List (List ℕ × Option (List ℕ)) → Type 0
 IsBelow key changes = AllByRecursion (λ y. key_cmp key y ≡ Less) (keys_of changes)
 
-IsBelow-push : (key : List ℕ) (changes : List (List ℕ × Option (List ℕ))) (change : List ℕ × Option (List ℕ)) → IsBelow key changes → key_cmp key change.0 ≡ Less → IsBelow key (changes ++ change ∷ [])
-IsBelow-push key [] change below less = (less, tt)
-IsBelow-push key (c ∷ cs) change below less = (below.0, IsBelow-push key cs change below.1 less)
+IsBelow-push : (key : List ℕ) (changes : List (List ℕ × Option (List ℕ))) (change : List ℕ × Option (List ℕ)) → IsBelow key changes
+    → key_cmp key change.0 ≡ Less → IsBelow key (changes ++ change ∷ [])
+IsBelow-push key [] change below lt = (lt, tt)
+IsBelow-push key (c ∷ cs) change below lt = (below.0, IsBelow-push key cs change below.1 lt)
 
-below_last : (key : List ℕ) (changes : List (List ℕ × Option (List ℕ))) (change : List ℕ × Option (List ℕ)) → IsBelow key (changes ++ change ∷ []) → key_cmp key change.0 ≡ Less
-below_last key [] change below = below.0
-below_last key (c ∷ cs) change below = below_last key cs change below.1
+IsBelow-last : (key : List ℕ) (changes : List (List ℕ × Option (List ℕ))) (change : List ℕ × Option (List ℕ))
+    → IsBelow key (changes ++ change ∷ []) → key_cmp key change.0 ≡ Less
+IsBelow-last key [] change below = below.0
+IsBelow-last key (c ∷ cs) change below = IsBelow-last key cs change below.1
 
 pub IsRising-nil : IsRising []
 unfolding IsStrictlySortedBy
 IsRising-nil = tt
 
 -- a key above all others may come last
-pub IsRising-push : (changes : List (List ℕ × Option (List ℕ))) (change : List ℕ × Option (List ℕ)) → IsRising changes → IsTrue (is_above changes change.0) → IsRising (changes ++ change ∷ [])
+pub IsRising-push : (changes : List (List ℕ × Option (List ℕ))) (change : List ℕ × Option (List ℕ)) → IsRising changes
+    → IsTrue (is_above changes change.0) → IsRising (changes ++ change ∷ [])
 unfolding IsStrictlySortedBy
 IsRising-push [] change rising above = (tt, tt)
-IsRising-push (c ∷ []) change rising above = ((less _ above, tt), (tt, tt))
+IsRising-push (c ∷ []) change rising above = ((less-is_lt _ above, tt), (tt, tt))
 IsRising-push (c ∷ d ∷ cs) change rising above =
     let rest = IsRising-push (d ∷ cs) change rising.1 above in
-    let later = nat_list_cmp_total.trans c.0 d.0 change.0 rising.0.0 (below_last d.0 cs change rest.0) in
+    let later = nat_list_cmp_total.trans c.0 d.0 change.0 rising.0.0 (IsBelow-last d.0 cs change rest.0) in
     (IsBelow-push c.0 (d ∷ cs) change rising.0 later, rest)
 
 -- the last change, read by its place
-pub last_read : (changes : List Change) (change : Change) → Some change ≡ slice_get changes (length changes - 1) → last (changes_of changes) ≡ Some (change_of change)
-last_read [] change is = absurd (none-some change (sym is))
-last_read (c ∷ []) change is = ap (option_map change_of) (sym is)
-last_read (c ∷ d ∷ cs) change is =
+pub last-changes_of : (changes : List Change) (change : Change) → Some change ≡ slice_get changes (length changes - 1)
+    → last (changes_of changes) ≡ Some (change_of change)
+last-changes_of [] change is = absurd (none-some change (sym is))
+last-changes_of (c ∷ []) change is = ap (option_map change_of) (sym is)
+last-changes_of (c ∷ d ∷ cs) change is =
     let e : length (c ∷ d ∷ cs) - 1 ≡ suc (length (d ∷ cs) - 1) = omega arith in
-    last_read (d ∷ cs) change (is ∙ ap (slice_get (c ∷ d ∷ cs)) e)
+    last-changes_of (d ∷ cs) change (is ∙ ap (slice_get (c ∷ d ∷ cs)) e)

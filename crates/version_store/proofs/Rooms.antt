@@ -5,7 +5,8 @@ use Rattle.version_store.specs.declared.chains.Node.{Node}
 use Rattle.version_store.specs.Chains.{room_of}
 
 -- where a node came in, one less may come in
-pub room_of-filled : (old new : Slab Node) (left : ℕ) → left + 1 ≤ room_of old → new.capacity ≡ old.capacity → slab_len new ≡ slab_len old + 1 → left ≤ room_of new
+pub room_of-filled : (old new : Slab Node) (left : ℕ) → left + 1 ≤ room_of old → new.capacity ≡ old.capacity
+    → slab_len new ≡ slab_len old + 1 → left ≤ room_of new
 room_of-filled old new left room same len =
     let P : ℕ → Type 0 = λ capacity. left ≤ cond (nat_lt capacity (2 ^ 32)) (capacity - slab_len new) 0 in
     subst P (sym same) (filled (nat_lt old.capacity (2 ^ 32)) room)

@@ -14,7 +14,7 @@ use Rattle.key_map.proofs.Spans.{last-append}
 use Rattle.version_store.specs.declared.chains.Head.{Head}
 use Rattle.version_store.specs.Chains.{Slots, chain_of, chains_of, head_of, database_of}
 use Rattle.version_store.specs.Versions.{holding, present}
-use Rattle.version_store.proofs.Present.{shown, present-filter, entries-database_at, get-database_at}
+use Rattle.version_store.proofs.Present.{with_present, present-filter, entries-database_at, get-database_at}
 
 -- what is present of the keys of these heads
 abbrev pub present_of : ℕ → Slots → List (List ℕ × Head) → List (List ℕ × List ℕ)
@@ -22,63 +22,82 @@ present_of version slots heads = present version (chains_of slots heads)
 
 module _ (version : ℕ) (slots : Slots) (left more : List (List ℕ × Head)) (key : List ℕ) (head : Head) where
   -- the first holds something
-  pub present_here : (value : List ℕ) → left ≡ (key, head) ∷ more → Some value ≡ holding version (chain_of slots head) → present_of version slots left ≡ (key, value) ∷ present_of version slots more
+  pub present_of-here : (value : List ℕ) → left ≡ (key, head) ∷ more → Some value ≡ holding version (chain_of slots head)
+      → present_of version slots left ≡ (key, value) ∷ present_of version slots more
   unfolding present
-  present_here value step here = ap (present_of version slots) step ∙ ap (λ o. shown key o (present_of version slots more)) (sym here)
+  present_of-here value step here =
+      ap (present_of version slots) step ∙ ap (λ o. with_present key o (present_of version slots more)) (sym here)
 
   -- the first holds nothing
-  pub present_passed : left ≡ (key, head) ∷ more → None ≡ holding version (chain_of slots head) → present_of version slots left ≡ present_of version slots more
+  pub present_of-passed : left ≡ (key, head) ∷ more → None ≡ holding version (chain_of slots head)
+      → present_of version slots left ≡ present_of version slots more
   unfolding present
-  present_passed step gone = ap (present_of version slots) step ∙ ap (λ o. shown key o (present_of version slots more)) (sym gone)
+  present_of-passed step gone = ap (present_of version slots) step ∙ ap (λ o. with_present key o (present_of version slots more)) (sym gone)
 
-  present-append : left ≡ more ++ (key, head) ∷ [] → present_of version slots left ≡ present_of version slots more ++ present_of version slots ((key, head) ∷ [])
+  present_of-append : left ≡ more ++ (key, head) ∷ []
+      → present_of version slots left ≡ present_of version slots more ++ present_of version slots ((key, head) ∷ [])
   unfolding present
-  present-append step = ap (present_of version slots) step ∙ ap (present version) (map-append _ more ((key, head) ∷ [])) ∙ filter_map-append _ (chains_of slots more) (chains_of slots ((key, head) ∷ []))
+  present_of-append step =
+      ap (present_of version slots) step
+      ∙ ap (present version) (map-append _ more ((key, head) ∷ []))
+      ∙ filter_map-append _ (chains_of slots more) (chains_of slots ((key, head) ∷ []))
 
   -- the last holds something
-  pub last_here : (value : List ℕ) → left ≡ more ++ (key, head) ∷ [] → Some value ≡ holding version (chain_of slots head) → last (present_of version slots left) ≡ Some (key, value)
+  pub last-present_of : (value : List ℕ) → left ≡ more ++ (key, head) ∷ [] → Some value ≡ holding version (chain_of slots head)
+      → last (present_of version slots left) ≡ Some (key, value)
   unfolding present
-  last_here value step here =
-      ap last (present-append step ∙ ap (λ o. present_of version slots more ++ shown key o []) (sym here))
+  last-present_of value step here =
+      ap last (present_of-append step ∙ ap (λ o. present_of version slots more ++ with_present key o []) (sym here))
       ∙ last-append (present_of version slots more) (key, value)
 
   -- the last holds nothing
-  pub present_passed_last : left ≡ more ++ (key, head) ∷ [] → None ≡ holding version (chain_of slots head) → present_of version slots left ≡ present_of version slots more
+  pub present_of-passed_last : left ≡ more ++ (key, head) ∷ [] → None ≡ holding version (chain_of slots head)
+      → present_of version slots left ≡ present_of version slots more
   unfolding present
-  present_passed_last step gone =
-      present-append step ∙ ap (λ o. present_of version slots more ++ shown key o []) (sym gone)
+  present_of-passed_last step gone =
+      present_of-append step ∙ ap (λ o. present_of version slots more ++ with_present key o []) (sym gone)
       ∙ append-nil (present_of version slots more)
 
 module _ (slots : Slots) where
-  keys-chains_of : (heads : List (List ℕ × Head)) → keys_of (chains_of slots heads) ≡ keys_of heads
-  keys-chains_of [] = refl
-  keys-chains_of (e ∷ es) = ap (λ ks. e.0 ∷ ks) (keys-chains_of es)
+  keys_of-chains_of : (heads : List (List ℕ × Head)) → keys_of (chains_of slots heads) ≡ keys_of heads
+  keys_of-chains_of [] = refl
+  keys_of-chains_of (e ∷ es) = ap (λ ks. e.0 ∷ ks) (keys_of-chains_of es)
 
-  rising_of : (heads : List (List ℕ × Head)) → IsStrictlySortedBy key_cmp (keys_of heads) → IsStrictlySortedBy key_cmp (keys_of (chains_of slots heads))
-  rising_of heads rising = rw keys-chains_of rising
+  rising-chains_of : (heads : List (List ℕ × Head)) → IsStrictlySortedBy key_cmp (keys_of heads)
+      → IsStrictlySortedBy key_cmp (keys_of (chains_of slots heads))
+  rising-chains_of heads rising = rw keys_of-chains_of rising
 
   -- the entries of the database
-  pub entries-database_of : (version : ℕ) (heads : List (List ℕ × Head)) → IsStrictlySortedBy key_cmp (keys_of heads) → entries (database_of version slots heads) ≡ present_of version slots heads
-  entries-database_of version heads rising = entries-database_at version (chains_of slots heads) (rising_of heads rising)
+  pub entries-database_of : (version : ℕ) (heads : List (List ℕ × Head)) → IsStrictlySortedBy key_cmp (keys_of heads)
+      → entries (database_of version slots heads) ≡ present_of version slots heads
+  entries-database_of version heads rising = entries-database_at version (chains_of slots heads) (rising-chains_of heads rising)
 
-  pub held : (version : ℕ) (o : Option Head) → option_and_then (holding version) (option_map (chain_of slots) o) ≡ option_and_then (λ head. holding version (chain_of slots head)) o
-  held version None = refl
-  held version (Some head) = refl
+  pub and_then-chain_of : (version : ℕ) (o : Option Head)
+      → option_and_then (holding version) (option_map (chain_of slots) o)
+      ≡ option_and_then (λ head. holding version (chain_of slots head)) o
+  and_then-chain_of version None = refl
+  and_then-chain_of version (Some head) = refl
 
   -- what the database has at a key
-  pub get-database_of : (version : ℕ) (heads : List (List ℕ × Head)) (key : List ℕ) → IsStrictlySortedBy key_cmp (keys_of heads) → get (database_of version slots heads) key ≡ option_and_then (λ head. holding version (chain_of slots head)) (head_of heads key)
+  pub get-database_of : (version : ℕ) (heads : List (List ℕ × Head)) (key : List ℕ) → IsStrictlySortedBy key_cmp (keys_of heads)
+      → get (database_of version slots heads) key ≡ option_and_then (λ head. holding version (chain_of slots head)) (head_of heads key)
   get-database_of version heads key rising =
-      get-database_at version (chains_of slots heads) key (rising_of heads rising)
+      get-database_at version (chains_of slots heads) key (rising-chains_of heads rising)
       ∙ ap (option_and_then (holding version)) (lookup-map_values (chain_of slots) _ heads)
-      ∙ held version (head_of heads key)
+      ∙ and_then-chain_of version (head_of heads key)
 
   -- a test of the keys may come first
-  pub filter-present_of : (version : ℕ) (p : List ℕ → Bool) (heads : List (List ℕ × Head)) → filter (λ e. p e.0) (present_of version slots heads) ≡ present_of version slots (filter (λ e. p e.0) heads)
-  filter-present_of version p heads = present-filter version p (chains_of slots heads) ∙ ap (present version) (by heads)
+  pub filter-present_of : (version : ℕ) (p : List ℕ → Bool) (heads : List (List ℕ × Head))
+      → filter (λ e. p e.0) (present_of version slots heads) ≡ present_of version slots (filter (λ e. p e.0) heads)
+  filter-present_of version p heads = present-filter version p (chains_of slots heads) ∙ ap (present version) (filter-chains_of heads)
     where
-      by : (heads : List (List ℕ × Head)) → filter (λ e. p e.0) (chains_of slots heads) ≡ chains_of slots (filter (λ e. p e.0) heads)
-      by [] = refl
-      by (e ∷ es) = elim (p e.0) as (λ b. cond b ((e.0, chain_of slots e.1) ∷ filter (λ e. p e.0) (chains_of slots es)) (filter (λ e. p e.0) (chains_of slots es)) ≡ chains_of slots (cond b (e ∷ filter (λ e. p e.0) es) (filter (λ e. p e.0) es))) [
-        | true ↦ ap (λ xs. (e.0, chain_of slots e.1) ∷ xs) (by es)
-        | false ↦ by es
-      ]
+      filter-chains_of : (heads : List (List ℕ × Head))
+          → filter (λ e. p e.0) (chains_of slots heads) ≡ chains_of slots (filter (λ e. p e.0) heads)
+      filter-chains_of [] = refl
+      filter-chains_of (e ∷ es) =
+          elim (p e.0)
+          as (λ b. cond b ((e.0, chain_of slots e.1) ∷ filter (λ e. p e.0) (chains_of slots es)) (filter (λ e. p e.0) (chains_of slots es))
+          ≡ chains_of slots (cond b (e ∷ filter (λ e. p e.0) es) (filter (λ e. p e.0) es))) [
+            | true ↦ ap (λ xs. (e.0, chain_of slots e.1) ∷ xs) (filter-chains_of es)
+            | false ↦ filter-chains_of es
+          ]

@@ -5,33 +5,42 @@ use Rattle.version_store.specs.Chains.{Slots, before_older, spelled}
 use Rattle.version_store.specs.Versions.{holding}
 
 -- no node is left
-pub holding_spelled_end : (version left : ℕ) (slots : Slots) (place : ℕ) → left ≤ 0 → holding version (spelled left slots place) ≡ None
+pub holding-spelled_end : (version left : ℕ) (slots : Slots) (place : ℕ) → left ≤ 0 → holding version (spelled left slots place) ≡ None
 unfolding holding spelled
-holding_spelled_end version zero slots place none = refl
-holding_spelled_end version (suc n) slots place none = absurd (omega arith)
+holding-spelled_end version zero slots place none = refl
+holding-spelled_end version (suc n) slots place none = absurd (omega arith)
 
-spelled_step : (left : ℕ) (slots : Slots) (place : ℕ) → 0 < left → spelled left slots place ≡ before_older (slice_index_or slots place None) (spelled (left - 1) slots)
+spelled-step : (left : ℕ) (slots : Slots) (place : ℕ) → 0 < left
+    → spelled left slots place ≡ before_older (slice_index_or slots place None) (spelled (left - 1) slots)
 unfolding spelled
-spelled_step zero slots place some = absurd (omega arith)
-spelled_step (suc n) slots place some = let e : suc n - 1 ≡ n = omega arith in rw e refl
+spelled-step zero slots place some = absurd (omega arith)
+spelled-step (suc n) slots place some = let e : suc n - 1 ≡ n = omega arith in rw e refl
 
 -- no node is there
-pub holding_spelled_none : (version left : ℕ) (slots : Slots) (place : ℕ) → 0 < left → None ≡ slice_index_or slots place None → holding version (spelled left slots place) ≡ None
+pub holding-spelled_none : (version left : ℕ) (slots : Slots) (place : ℕ) → 0 < left → None ≡ slice_index_or slots place None
+    → holding version (spelled left slots place) ≡ None
 unfolding holding
-holding_spelled_none version left slots place some none = ap (holding version) (spelled_step left slots place some ∙ ap (λ slot. before_older slot (spelled (left - 1) slots)) (sym none))
+holding-spelled_none version left slots place some none =
+    ap (holding version) (spelled-step left slots place some ∙ ap (λ slot. before_older slot (spelled (left - 1) slots)) (sym none))
 
-holding_spelled_node : (version left : ℕ) (slots : Slots) (place : ℕ) (node : Node) → 0 < left → Some node ≡ slice_index_or slots place None → holding version (spelled left slots place) ≡ cond (nat_lt version node.version) (holding version (spelled (left - 1) slots node.older)) node.value
+holding-spelled_node : (version left : ℕ) (slots : Slots) (place : ℕ) (node : Node) → 0 < left → Some node ≡ slice_index_or slots place None
+    → holding version (spelled left slots place)
+    ≡ cond (nat_lt version node.version) (holding version (spelled (left - 1) slots node.older)) node.value
 unfolding holding
-holding_spelled_node version left slots place node some is = ap (holding version) (spelled_step left slots place some ∙ ap (λ slot. before_older slot (spelled (left - 1) slots)) (sym is))
+holding-spelled_node version left slots place node some is =
+    ap (holding version) (spelled-step left slots place some ∙ ap (λ slot. before_older slot (spelled (left - 1) slots)) (sym is))
 
 -- the node is too new
-pub holding_spelled_newer : (version left : ℕ) (slots : Slots) (place : ℕ) (node : Node) → 0 < left → Some node ≡ slice_index_or slots place None → version < node.version → holding version (spelled left slots place) ≡ holding version (spelled (left - 1) slots node.older)
-holding_spelled_newer version left slots place node some is newer =
-    holding_spelled_node version left slots place node some is
+pub holding-spelled_newer : (version left : ℕ) (slots : Slots) (place : ℕ) (node : Node) → 0 < left
+    → Some node ≡ slice_index_or slots place None → version < node.version
+    → holding version (spelled left slots place) ≡ holding version (spelled (left - 1) slots node.older)
+holding-spelled_newer version left slots place node some is newer =
+    holding-spelled_node version left slots place node some is
     ∙ ap (λ b. cond b (holding version (spelled (left - 1) slots node.older)) node.value) (lt-ltb version node.version newer)
 
 -- the node holds it
-pub holding_spelled_here : (version left : ℕ) (slots : Slots) (place : ℕ) (node : Node) → 0 < left → Some node ≡ slice_index_or slots place None → node.version ≤ version → holding version (spelled left slots place) ≡ node.value
-holding_spelled_here version left slots place node some is here =
-    holding_spelled_node version left slots place node some is
+pub holding-spelled_here : (version left : ℕ) (slots : Slots) (place : ℕ) (node : Node) → 0 < left
+    → Some node ≡ slice_index_or slots place None → node.version ≤ version → holding version (spelled left slots place) ≡ node.value
+holding-spelled_here version left slots place node some is here =
+    holding-spelled_node version left slots place node some is
     ∙ ap (λ b. cond b (holding version (spelled (left - 1) slots node.older)) node.value) (le-ltb version node.version here)

@@ -7,7 +7,7 @@ ghost use Rattle.std.specs.Option.{option_map};
 ghost use Rattle.key_bytes.specs.Keys.{key_cmp};
 ghost use Rattle.key_map.specs.Ends.{last};
 ghost use Rattle.slab.specs.Slab.{slab_len, HasRoomFor};
-ghost use Rattle.version_store.specs.Changed.{change_of, changes_of, changed, changed_by};
+ghost use Rattle.version_store.specs.Changed.{changes_of, changed, changed_by};
 ghost use Rattle.version_store.specs.Chains.{chain_of, chains_of, head_of, database_of, room_of, AddsKeys, HaveHeads, KeepsKeys, Sound};
 ghost use Rattle.version_store.specs.Versions.{holding, present};
 
@@ -118,27 +118,28 @@ fn put_change(
     tree: &mut BTreeMap<Bytes, Head>,
     nodes: &mut Slab<Node>,
     version: u64,
-    change: Change,
+    key: &Key,
+    value: Option<Bytes>,
 )
     requires room { HasRoomFor nodes.old 1 }
     requires small { nodes.old.capacity < 2 ^ 32 }
-    requires known { IsSome (head_of tree.old.entries change.key) }
+    requires known { IsSome (head_of tree.old.entries key.now) }
     requires sound { Sound nodes.old.slots (slab_len nodes.old) version tree.old.entries }
     ensures sound { Sound nodes.new.slots (slab_len nodes.new) version tree.new.entries }
     ensures capacity { nodes.new.capacity ≡ nodes.old.capacity }
     ensures len { slab_len nodes.new ≡ slab_len nodes.old + 1 }
     ensures keys { KeepsKeys tree.old.entries tree.new.entries }
     ensures now { database_of version nodes.new.slots tree.new.entries
-        ≡ changed_by (change_of change)
+        ≡ changed_by (key.now, value)
         (database_of version nodes.old.slots tree.old.entries) }
     ensures before { (v : ℕ) → v < version → database_of v nodes.new.slots tree.new.entries
         ≡ database_of v nodes.old.slots tree.old.entries }
 {
     let _room = nodes.capacity();
-    let head = tree.get_mut(&change.key).unwrap();
+    let head = tree.get_mut(key).unwrap();
     let newest = nodes.insert_reserved(Node {
         version,
-        value: change.value,
+        value,
         older: head.newest,
     });
     *head = Head {
@@ -165,6 +166,7 @@ pub(crate) fn put_changes(
         ≡ database_of v nodes.old.slots tree.old.entries }
 {
     for change in changes {
-        put_change(tree, nodes, version, change);
+        let Change { key, value } = change;
+        put_change(tree, nodes, version, &key, value);
     }
 }

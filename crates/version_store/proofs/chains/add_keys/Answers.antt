@@ -12,6 +12,7 @@ loop-change-preserved c =
       c.in_ok-add_key.ensures.rising,
       AddsKeys-trans c.args.tree.now.entries before c.loop-change.invariant.1 now adds,
       All-more (λ change. IsSome (head_of now change.key)) c.args.changes.now c.loop-change.change-index c.change-item.result (search rules)
-          (All-weaker (λ change. IsSome (head_of before change.key)) (λ change. IsSome (head_of now change.key)) (λ change. IsSome-added before now adds change.key) _ c.loop-change.invariant.2)
+          (All-weaker (λ change. IsSome (head_of before change.key)) (λ change. IsSome (head_of now change.key))
+          (λ change. IsSome-added before now adds change.key) _ c.loop-change.invariant.2)
           (subst (λ (change : Change). IsSome (head_of now change.key)) c.change-item.is c.in_ok-add_key.ensures.added),
     )

@@ -20,8 +20,10 @@ loop-change-preserved c =
     let now = database_of c.args.version c.loop-change.nodes.slots c.loop-change.tree.entries in (
       c.put_change.ensures.sound,
       omega (arith, shorter, step.1, c.loop-change.invariant.1),
-      room_of-filled c.loop-change.nodes c.put_change.new.nodes (length (into_iter_items c.next.new.self)) (omega (arith, shorter, c.loop-change.invariant.2)) c.put_change.ensures.capacity c.put_change.ensures.len,
-      All-weaker known (λ change. IsSome (head_of c.put_change.new.tree.entries change.key)) (λ change. c.put_change.ensures.keys change.key) _ (All-rest known c.in-Some.change _ _ step.0 c.loop-change.invariant.3),
+      room_of-filled c.loop-change.nodes c.put_change.new.nodes (length (into_iter_items c.next.new.self))
+          (omega (arith, shorter, c.loop-change.invariant.2)) c.put_change.ensures.capacity c.put_change.ensures.len,
+      All-weaker known (λ change. IsSome (head_of c.put_change.new.tree.entries change.key))
+          (λ change. c.put_change.ensures.keys change.key) _ (All-rest known c.in-Some.change _ _ step.0 c.loop-change.invariant.3),
       ap (changed (changes_of (into_iter_items c.next.new.self))) c.put_change.ensures.now
           ∙ sym (ap (λ left. changed (changes_of left) now) step.0)
           ∙ c.loop-change.invariant.4,

@@ -13,5 +13,7 @@ invariant-loop-change l =
     × (into_iter_len l.change-iterator ≡ length left)
     × (length left ≤ room_of l.nodes)
     × HaveHeads l.tree.entries left
-    × (changed (changes_of left) (database_of l.version l.nodes.slots l.tree.entries) ≡ changed (changes_of l.fn.changes.items) (database_of l.version l.fn.nodes.slots l.fn.tree.entries))
+    ×
+    (changed (changes_of left) (database_of l.version l.nodes.slots l.tree.entries)
+    ≡ changed (changes_of l.fn.changes.items) (database_of l.version l.fn.nodes.slots l.fn.tree.entries))
     × ((v : ℕ) → v < l.version → database_of v l.nodes.slots l.tree.entries ≡ database_of v l.fn.nodes.slots l.fn.tree.entries)

@@ -1,18 +1,20 @@
 use Rattle.std.proofs.Common.{sym, subst}
 use Rattle.slab.specs.Slab.{slab_len}
 use Rattle.version_store.specs.Chains.{IsSoundHead}
-use Rattle.version_store.proofs.Loads.{placed_chain, IsSoundHead-placed_alone}
-use Rattle.version_store.proofs.Stays.{stays, IsSoundHead-stays}
+use Rattle.version_store.proofs.Loads.{chain_of-placed, IsSoundHead-placed_alone}
+use Rattle.version_store.proofs.Stays.{Stays-whole, IsSoundHead-stays}
 use Rattle.version_store.proofs.loading.place.Goals as goal
 
 pub returns-clause-chain : goal.returns-clause-chain
 returns-clause-chain c =
-    placed_chain c.insert.new.self.slots c.in_ok-newest.newest 0 c.args.value c.in_ok-newest.ensures.updates.changed
+    chain_of-placed c.insert.new.self.slots c.in_ok-newest.newest 0 c.args.value c.in_ok-newest.ensures.updates.changed
 
 pub returns-clause-sound : goal.returns-clause-sound
 returns-clause-sound c =
-    subst (λ nodes. IsSoundHead c.insert.new.self.slots nodes 1 (record { newest = c.in_ok-newest.newest; len = 1 })) (sym c.in_ok-newest.ensures.len)
-    (IsSoundHead-placed_alone c.insert.new.self.slots c.in_ok-newest.newest 0 c.args.value c.in_ok-newest.ensures.updates.changed (slab_len c.args.nodes.now))
+    subst (λ nodes. IsSoundHead c.insert.new.self.slots nodes 1 (record { newest = c.in_ok-newest.newest; len = 1 }))
+    (sym c.in_ok-newest.ensures.len)
+    (IsSoundHead-placed_alone c.insert.new.self.slots c.in_ok-newest.newest 0 c.args.value c.in_ok-newest.ensures.updates.changed
+    (slab_len c.args.nodes.now))
 
 pub returns-clause-others : goal.returns-clause-others
 returns-clause-others c head sound =
@@ -20,5 +22,5 @@ returns-clause-others c head sound =
     let put = c.in_ok-newest.ensures in (
       subst (λ nodes. IsSoundHead now.slots nodes 1 head) (sym put.len)
           (IsSoundHead-stays before.slots now.slots c.in_ok-newest.newest put.was_vacant put.updates.others (slab_len before) 1 head sound),
-      (stays before.slots now.slots c.in_ok-newest.newest put.was_vacant put.updates.others head.len head.newest sound.whole).1,
+      (Stays-whole before.slots now.slots c.in_ok-newest.newest put.was_vacant put.updates.others head.len head.newest sound.whole).1,
     )

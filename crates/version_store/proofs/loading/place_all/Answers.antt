@@ -13,7 +13,10 @@ loop-pair-preserved c =
     let heads = c.loop-pair.heads.items in let put = c.in_ok-head.ensures in
     let more = entries_of (into_iter_items c.next.new.self) in (
       ap (λ items. chains_of now.slots items ++ first_chains more) c.in_ok-push.ensures.items
-          ∙ chains_of-pushed before.slots now.slots (slab_len before) (slab_len now) put.others heads c.loop-pair.invariant.1 c.in-Some.pair.key c.in-Some.pair.value c.in_ok-head.head _ more c.args.pairs (ap entries_of (c.in-Some.ensures {u = tt}).steps.0) put.chain c.loop-pair.invariant.0,
+          ∙ chains_of-pushed before.slots now.slots (slab_len before) (slab_len now) put.others heads c.loop-pair.invariant.1
+          c.in-Some.pair.key c.in-Some.pair.value c.in_ok-head.head _ more c.args.pairs
+          (ap entries_of (c.in-Some.ensures {u = tt}).steps.0) put.chain c.loop-pair.invariant.0,
       subst (AreSoundHeads now.slots (slab_len now)) (sym c.in_ok-push.ensures.items)
-          (AreSoundHeads-pushed before.slots now.slots (slab_len before) (slab_len now) put.others heads c.loop-pair.invariant.1 c.in-Some.pair.key c.in-Some.pair.value c.in_ok-head.head put.sound),
+          (AreSoundHeads-pushed before.slots now.slots (slab_len before) (slab_len now) put.others heads c.loop-pair.invariant.1
+          c.in-Some.pair.key c.in-Some.pair.value c.in_ok-head.head put.sound),
     )

@@ -7,4 +7,5 @@ use Rattle.version_store.proofs.tests.lengths.Given as goal
 -- what was written for the pairs so far, and what is to be written for those that are left, is all
 abbrev pub invariant-loop-key : goal.invariant-loop-key
 invariant-loop-key l =
-    l.lengths.items ++ flat_map (λ e. length e.0 ∷ length e.1 ∷ []) l.key-iterator ≡ flat_map (λ e. length e.0 ∷ length e.1 ∷ []) (entries (at l.store (last_of l.store)))
+    l.lengths.items ++ flat_map (λ e. length e.0 ∷ length e.1 ∷ []) l.key-iterator ≡ flat_map (λ e. length e.0 ∷ length e.1 ∷ [])
+    (entries (at l.store (last_of l.store)))

@@ -6,5 +6,7 @@ use Rattle.version_store.proofs.changes.Changes.push.Goals as goal
 
 pub invariant_of-self-2 : goal.invariant_of-self-2
 invariant_of-self-2 c =
-    let items : changes_of c.push.new.self.items ≡ changes_of c.self.inside.items.items ++ change_of c.args.change ∷ [] = search (rules, map-append) in
-    subst IsRising (sym items) (IsRising-push (changes_of c.self.inside.items.items) (change_of c.args.change) c.self.invariant (rw c.self.view_is c.requires))
+    let items : changes_of c.push.new.self.items
+    ≡ changes_of c.self.inside.items.items ++ change_of c.args.change ∷ [] = search (rules, map-append) in
+    subst IsRising (sym items)
+    (IsRising-push (changes_of c.self.inside.items.items) (change_of c.args.change) c.self.invariant (rw c.self.view_is c.requires))

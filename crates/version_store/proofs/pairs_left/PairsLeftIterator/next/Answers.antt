@@ -1,13 +1,17 @@
 use Rattle.std.proofs.Common.{◌≡◌, ◌∷◌, length, sym, ap, ◌∙◌, arith}
 use Rattle.version_store.specs.Versions.{present}
-use Rattle.version_store.proofs.Spans.{present_of, present_here, present_passed}
+use Rattle.version_store.proofs.Spans.{present_of, present_of-here, present_of-passed}
 use Rattle.version_store.proofs.pairs_left.PairsLeftIterator.next.Goals as goal
 use Rattle.version_store.proofs.pairs_left.PairsLeftIterator.next.Goals.{In-Some-value_at}
 
-taken : (c : In-Some-value_at) → c.args.self.now ≡ (c.in-Some.key.now, c.in-Some-value_at.value.now) ∷ present_of c.loop-key.self-inside.version c.loop-key.self-inside.nodes.now.slots c.next.new.self
+taken : (c : In-Some-value_at)
+    → c.args.self.now
+    ≡ (c.in-Some.key.now, c.in-Some-value_at.value.now) ∷ present_of c.loop-key.self-inside.version c.loop-key.self-inside.nodes.now.slots
+    c.next.new.self
 taken c =
     sym c.loop-key.invariant
-    ∙ present_here c.loop-key.self-inside.version c.loop-key.self-inside.nodes.now.slots _ _ c.in-Some.key.now c.in-Some.head.now c.in-Some-value_at.value.now (c.in-Some.ensures {u = tt}).steps (c.in-Some-value_at.ensures {u = tt})
+    ∙ present_of-here c.loop-key.self-inside.version c.loop-key.self-inside.nodes.now.slots _ _ c.in-Some.key.now c.in-Some.head.now
+    c.in-Some-value_at.value.now (c.in-Some.ensures {u = tt}).steps (c.in-Some-value_at.ensures {u = tt})
 
 pub returns-in-Some-value_at-clause-steps : goal.returns-in-Some-value_at-clause-steps
 returns-in-Some-value_at-clause-steps c = taken c
@@ -19,7 +23,9 @@ returns-in-Some-value_at-clause-goes c =
 
 pub loop-key-preserved : goal.loop-key-preserved
 loop-key-preserved c =
-    sym (present_passed c.loop-key.self-inside.version c.loop-key.self-inside.nodes.now.slots _ _ c.in-Some.key.now c.in-Some.head.now (c.in-Some.ensures {u = tt}).steps (c.in_default-value_at.ensures {u = tt}))
+    sym
+    (present_of-passed c.loop-key.self-inside.version c.loop-key.self-inside.nodes.now.slots _ _ c.in-Some.key.now c.in-Some.head.now
+    (c.in-Some.ensures {u = tt}).steps (c.in_default-value_at.ensures {u = tt}))
     ∙ c.loop-key.invariant
 
 pub returns-clause-steps : goal.returns-clause-steps

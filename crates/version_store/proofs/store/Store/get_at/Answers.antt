@@ -1,14 +1,15 @@
 use Rattle.std.proofs.Common.{None, Some, ap, ◌∙◌}
 use Rattle.std.specs.FinMap.{get}
 use Rattle.version_store.specs.Versions.{at}
-use Rattle.version_store.proofs.Answered.{nothing_at, held_at}
+use Rattle.version_store.proofs.Answered.{get-without_head, get-with_head}
 use Rattle.version_store.proofs.store.Store.get_at.Goals as goal
 
 pub returns-in_default-clause-ok : goal.returns-in_default-clause-ok
 unfolding at
 returns-in_default-clause-ok c = (
   c.in_ok-check.ensures.ok,
-  nothing_at c.args.version c.self.inside.nodes.slots c.self.inside.tree.entries c.self.invariant.rising c.args.key.now ((c.in_default.ensures {u = tt}).value)
+  get-without_head c.args.version c.self.inside.nodes.slots c.self.inside.tree.entries c.self.invariant.rising c.args.key.now
+      ((c.in_default.ensures {u = tt}).value)
       ∙ ap (λ versions. get (at versions c.args.version) c.args.key.now) c.self.view_is,
 )
 
@@ -17,7 +18,8 @@ unfolding at
 returns-in-Some-value_at-clause-ok c = (
   c.in_ok-check.ensures.ok,
   ap Some c.as_slice.ensures
-      ∙ held_at c.args.version c.self.inside.nodes.slots c.self.inside.tree.entries c.self.invariant.rising c.args.key.now c.in-Some.head.now (Some c.in-Some-value_at.value.now) (c.in-Some.ensures {u = tt}).value (c.in-Some-value_at.ensures {u = tt})
+      ∙ get-with_head c.args.version c.self.inside.nodes.slots c.self.inside.tree.entries c.self.invariant.rising c.args.key.now
+      c.in-Some.head.now (Some c.in-Some-value_at.value.now) (c.in-Some.ensures {u = tt}).value (c.in-Some-value_at.ensures {u = tt})
       ∙ ap (λ versions. get (at versions c.args.version) c.args.key.now) c.self.view_is,
 )
 
@@ -25,6 +27,7 @@ pub returns-in-None-clause-ok : goal.returns-in-None-clause-ok
 unfolding at
 returns-in-None-clause-ok c = (
   c.in_ok-check.ensures.ok,
-  held_at c.args.version c.self.inside.nodes.slots c.self.inside.tree.entries c.self.invariant.rising c.args.key.now c.in-Some.head.now None (c.in-Some.ensures {u = tt}).value (c.in-None.ensures {u = tt})
+  get-with_head c.args.version c.self.inside.nodes.slots c.self.inside.tree.entries c.self.invariant.rising c.args.key.now
+      c.in-Some.head.now None (c.in-Some.ensures {u = tt}).value (c.in-None.ensures {u = tt})
       ∙ ap (λ versions. get (at versions c.args.version) c.args.key.now) c.self.view_is,
 )

@@ -47,5 +47,6 @@ returns-clause-after c =
     let store = c.self.inside in let new = c.put_changes.new in
     ap (λ last. database_of (last + 1) new.nodes.slots new.tree.entries) (sym (ap last_of c.self.view_is))
     ∙ c.put_changes.ensures.now
-    ∙ ap (changed (changes_of c.into_vec.result.items)) (database_of-later store.nodes.slots store.tree.entries _ store.last c.self.invariant)
+    ∙ ap (changed (changes_of c.into_vec.result.items))
+    (database_of-later store.nodes.slots store.tree.entries _ store.last c.self.invariant)
     ∙ (λ i. changed (c.into_vec.ensures i) (at (c.self.view_is i) (last_of (c.self.view_is i))))

@@ -3,16 +3,17 @@ use Rattle.std.proofs.lemmas.Result.{IfOk-weaker}
 use Rattle.std.specs.FinMap.{entries}
 use Rattle.std.specs.List.{filter}
 use Rattle.key_bytes.specs.Keys.{within}
-use Rattle.key_map.proofs.Spans.{none_within}
+use Rattle.key_map.proofs.Spans.{filter-within-backward}
 use Rattle.version_store.specs.Versions.{at, last_of}
-use Rattle.version_store.proofs.Answered.{present_within}
+use Rattle.version_store.proofs.Answered.{present_of-within}
 use Rattle.version_store.proofs.Spans.{present_of}
 use Rattle.version_store.proofs.store.Store.pairs_between.Goals as goal
 
 pub returns-then-not-is_lt : goal.returns-then-not-is_lt
 returns-then-not-is_lt c =
     c.new.ensures
-    ∙ sym (none_within c.args.begin.now c.args.end.now _ (sym (ap is_lt c.cmp.ensures) ∙ sym c.is_lt.ensures ∙ c.if-not-is_lt.true))
+    ∙ sym
+    (filter-within-backward c.args.begin.now c.args.end.now _ (sym (ap is_lt c.cmp.ensures) ∙ sym c.is_lt.ensures ∙ c.if-not-is_lt.true))
 
 pub returns : goal.returns
 unfolding at last_of
@@ -22,6 +23,6 @@ returns c =
     (λ pairs same. same
     ∙ c.new-left.ensures
     ∙ ap (present_of store.last store.nodes.slots) (c.range.ensures.between tt)
-    ∙ present_within store.last store.nodes.slots store.tree.entries c.self.invariant.rising begin end
+    ∙ present_of-within store.last store.nodes.slots store.tree.entries c.self.invariant.rising begin end
     ∙ ap (λ versions. filter (λ e. within begin end e.0) (entries (at versions (last_of versions)))) c.self.view_is)
     c.copied.ensures

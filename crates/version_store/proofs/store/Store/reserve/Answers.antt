@@ -26,7 +26,8 @@ pub invariant_of-self-2 : goal.invariant_of-self-2
 invariant_of-self-2 c =
     let store = c.self.inside in
     subst (λ nodes. Sound nodes.slots (slab_len nodes) store.last c.add_keys.new.tree.entries) (sym c.add_room.ensures.rest_kept)
-    (Sound-added store.nodes.slots store.tree.entries c.add_keys.new.tree.entries c.add_keys.ensures.rising c.add_keys.ensures.adds (slab_len store.nodes) store.last c.self.invariant)
+    (Sound-added store.nodes.slots store.tree.entries c.add_keys.new.tree.entries c.add_keys.ensures.rising c.add_keys.ensures.adds
+    (slab_len store.nodes) store.last c.self.invariant)
 
 pub returns-clause-last : goal.returns-clause-last
 unfolding last_of
@@ -41,7 +42,8 @@ unfolding at
 returns-clause-reads c version =
     let store = c.self.inside in
     ap (λ nodes. database_of version nodes.slots c.add_keys.new.tree.entries) c.add_room.ensures.rest_kept
-    ∙ database_of-added store.nodes.slots store.tree.entries c.add_keys.new.tree.entries c.add_keys.ensures.rising c.add_keys.ensures.adds version c.self.invariant.rising
+    ∙ database_of-added store.nodes.slots store.tree.entries c.add_keys.new.tree.entries c.add_keys.ensures.rising c.add_keys.ensures.adds
+    version c.self.invariant.rising
     ∙ ap (λ versions. at versions version) c.self.view_is
 
 pub returns-clause-ready : goal.returns-clause-ready
