@@ -6,9 +6,8 @@ ghost use Rattle.fdb_calls.specs.Calling.{on_error_called};
 ghost use Rattle.txn_core.specs.Judging.{Handled};
 ghost use Rattle.txn_core.specs.Stands.{StandsFor};
 
-use crate::codes::TRANSACTION_CANCELLED;
 use crate::txn::Txn;
-use database_rules::{Code, Phase};
+use database_rules::{Code, Phase, TRANSACTION_CANCELLED};
 
 // Whether a transaction may be tried again after an error of this code.
 fn is_retryable(code: Code) -> bool

@@ -5,7 +5,7 @@ use super::*;
 fn long(alloc: Global, len: usize) -> Result<Bytes, AllocError> {
     let mut items = Vec::new(alloc);
     items.resize(len, b'a')?;
-    Ok(Bytes::from_vec(items))
+    Bytes::from_vec(items)
 }
 
 fn long_set(alloc: Global, key: usize, value: usize) -> Result<TxnCall, AllocError> {
