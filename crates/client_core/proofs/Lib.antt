@@ -2,5 +2,4 @@ pub mod Named
 pub mod Calls
 pub mod Databases
 pub mod Steps
-pub mod Walks
 pub mod Loads

@@ -1,4 +1,3 @@
 pub mod Stands
 pub mod Sound
 pub mod Contents
-pub mod Reading

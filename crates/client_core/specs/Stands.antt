@@ -38,4 +38,3 @@ Answers reply.Done core words stepped = (stepped.reply ≡ reply.Done) × Stands
 Answers (reply.Value value) core words stepped = (stepped.reply ≡ reply.Value value) × StandsFor core stepped.world × HasWords stepped.world words
 Answers (reply.Fault code) core words stepped = (stepped.reply ≡ reply.Fault code) × StandsFor core stepped.world × HasWords stepped.world words
 Answers reply.NoMemory core words stepped = ⊤
-

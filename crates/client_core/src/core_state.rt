@@ -8,14 +8,13 @@ ghost use Rattle.machine_rules.specs.Worlds.{World, HasWords, begun, step};
 ghost use Rattle.version_store.specs.Versions.{at, last_of};
 
 use crate::contents::Contents;
-use crate::reading::pairs_between;
 use fdb_calls::{Reply, Request};
 use key_bytes::{Key, Pairs};
 use key_map::KeyMap;
 use outside::Words;
 use std::alloc::{AllocError, Global};
 use std::marker::Model;
-use version_store::Store;
+use version_store::{PairsLeft, Store};
 
 /// The core of the database. Contracts see what it keeps.
 #[derive(Drop)]
@@ -80,7 +79,15 @@ impl Core {
         self.contents.applied
     }
 
-    /// The pairs of the map at the last version, in the order of their keys.
+    /// The pairs of the map at the last version, in the order of their keys, for a loop over them. It copies none, and
+    /// takes no memory.
+    pub fn pairs_left(&self) -> PairsLeft<'_>
+        ensures { result ≡ finite.entries (at self.now.store (last_of self.now.store)) }
+    {
+        self.contents.store.pairs_left()
+    }
+
+    /// A copy of the pairs of the map at the last version, in the order of their keys.
     pub fn dump_pairs(&self) -> Result<Pairs, AllocError>
         ensures { IfOk result (λ pairs. pairs ≡ finite.entries (at self.now.store (last_of self.now.store))) }
     {
@@ -93,7 +100,7 @@ impl Core {
         ensures { IfOk result (λ pairs. pairs
             ≡ filter (λ e. within begin.now end.now e.0) (finite.entries (at self.now.store (last_of self.now.store)))) }
     {
-        pairs_between(self.contents.alloc, &self.contents.store, begin, end)
+        self.contents.store.pairs_between(begin, end)
     }
 
     /// Takes a request of a machine: its step in the world, and the reply that is fixed there. The random words are those

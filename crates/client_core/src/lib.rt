@@ -9,7 +9,6 @@
 
 mod contents;
 mod core_state;
-mod reading;
 #[cfg(test)]
 mod tests;
 
