@@ -37,7 +37,7 @@ pub refused_full : (given : Refusal) (left after : Option (List ℕ)) (faults fa
 refused_full refusal.Source left after faults faults_after items is exact consumed = absurd (is refl)
 refused_full (refusal.Line fault) left after faults faults_after items is exact consumed = record {
   fault = full_refused left after items (omega arith) consumed;
-  out = inr (items, (exact, consumed));
+  out = inr (items, exact, consumed);
 }
 refused_full refusal.Memory left after faults faults_after items is exact consumed = tt
 
