@@ -7,3 +7,4 @@ pub mod Touched
 pub mod States
 pub mod Judging
 pub mod Modified
+pub mod OutOfMemory

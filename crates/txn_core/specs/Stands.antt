@@ -1,9 +1,9 @@
 -- What a transaction of the code, and a store, stand for.
-use Rattle.std.specs.Prelude.{◌≡◌, ℕ, ◌≤◌, List, ◌++◌, length, if◌then◌else◌}
+use Rattle.std.specs.Prelude.{◌≡◌, ℕ, ◌≤◌, ◌⊎◌, List, ◌++◌, length, if◌then◌else◌}
 use Rattle.database_rules.specs.declared.Code.{Code}
 use Rattle.database_rules.specs.Databases.{Mutation, History, at, last}
 use Rattle.database_rules.specs.States.{covers, state_under, all_filled, unreadable}
-use Rattle.database_rules.specs.Transactions.{Transaction, is_read_only}
+use Rattle.database_rules.specs.Transactions.{Transaction, is_read_only, with_version}
 use Rattle.fdb_calls.specs.Calling.{Called}
 use Rattle.version_store.specs.Versions.{Versions, last_of}
 use Rattle.version_store.specs.Versions as versions
@@ -32,6 +32,10 @@ pub record StandsFor (kept transaction : Transaction) : Type 0 where
 pub record Keeps (store : Versions) (history : History) : Type 0 where
   pub last_is : last_of store ≡ last history
   pub at_is : (version : ℕ) → version ≤ last history → versions.at store version ≡ at history version
+
+-- a transaction still stands as it did, or as it did but for its version, which was taken
+abbrev pub StandsStill : (Transaction → Type 0) → History → Transaction → Type 0
+StandsStill stands history transaction = stands transaction ⊎ stands (with_version history transaction)
 
 -- a call was answered as is said, and the transaction and the store stand for what it left
 pub record Answers (answer : Answer) (kept : Transaction) (store : Versions) (history : History) (called : Called) : Type 0 where

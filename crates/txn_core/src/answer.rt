@@ -1,6 +1,7 @@
 //! What a call was answered.
 
-ghost use Rattle.std.specs.Prelude.{◌≡◌, true, false, IfOk};
+ghost use Rattle.std.specs.Prelude.{◌≡◌, true, false, IfOk, OnErr};
+ghost use Rattle.fdb_calls.specs.declared.fault.TrFault.TheVariants as fault;
 ghost use Rattle.fdb_calls.specs.declared.Reply.TheVariants as reply;
 ghost use Rattle.txn_core.specs.Answering.{Tells};
 
@@ -55,7 +56,8 @@ impl Answer {
 
     // What a read was answered; want of memory is no answer.
     pub(crate) fn of_read(read: Result<Option<Bytes>, TrFault>) -> Result<Answer, AllocError>
-        ensures { IfOk result (Tells reply.Value read) }
+        ensures ok { IfOk result (Tells reply.Value read) }
+        ensures err { OnErr result (read ≡ Err fault.NoMemory) }
     {
         match read {
             Ok(value) => Ok(Answer::new(Reply::Value(value))),
@@ -66,7 +68,8 @@ impl Answer {
 
     // What a write was answered; want of memory is no answer.
     pub(crate) fn of_write(written: Result<(), TrFault>) -> Result<Answer, AllocError>
-        ensures { IfOk result (Tells (λ _. reply.Done) written) }
+        ensures ok { IfOk result (Tells (λ _. reply.Done) written) }
+        ensures err { OnErr result (written ≡ Err fault.NoMemory) }
     {
         match written {
             Ok(()) => Ok(Answer::done()),

@@ -8,7 +8,7 @@ ghost use Rattle.database_rules.specs.Transactions as rules;
 ghost use Rattle.fdb_calls.specs.Calling.{commit_of, commit_refused, commit_called};
 ghost use Rattle.version_store.specs.Versions.{last_of};
 ghost use Rattle.txn_core.specs.Judging.{Judged};
-ghost use Rattle.txn_core.specs.Stands.{Does, Keeps};
+ghost use Rattle.txn_core.specs.Stands.{Does, Keeps, StandsStill};
 
 use crate::answer::Answer;
 use crate::txn::Txn;
@@ -51,12 +51,13 @@ impl Txn {
         }
     }
 
-    // Makes the next version of the writes. After want of memory the store reads as before.
+    // Makes the next version of the writes. After want of memory the transaction is unchanged, and the store reads as
+    // before.
     fn make_version(&mut self, store: &mut Store) -> Result<(), AllocError>
         requires { last_of store.old < 2 ^ 63 }
         ensures ok { OnOk result ((history : History) → Keeps store.old history
             → (self.new ≡ rules.with_phase self.old (phase.Tried (tried.Version (last history + 1)))) × Keeps store.new (history ++ commit_of self.old ∷ [])) }
-        ensures err { OnErr result ((history : History) → Keeps store.old history → Keeps store.new history) }
+        ensures err { OnErr result ((history : History) → Keeps store.old history → (self.new ≡ self.old) × Keeps store.new history) }
     {
         let changes = self.changes(store)?;
         store.reserve(&changes)?;
@@ -65,13 +66,14 @@ impl Txn {
         Ok(())
     }
 
-    /// A commit: what the transaction wrote makes the next version, where it wrote anything. After want of memory the
-    /// store reads as before.
+    /// A commit: what the transaction wrote makes the next version, where it wrote anything. After want of memory it
+    /// is unchanged but that its version may be taken, and the store reads as before.
     pub(crate) fn commit(&mut self, store: &mut Store) -> Result<Answer, AllocError>
         requires { last_of store.old < 2 ^ 63 }
         ensures ok { IfOk result (λ answer. (history : History) → Keeps store.old history
             → Does answer self.new store.new history (commit_called history self.old)) }
-        ensures err { OnErr result ((history : History) → Keeps store.old history → Keeps store.new history) }
+        ensures err { OnErr result ((history : History) → Keeps store.old history
+            → StandsStill (λ t. self.new ≡ t) history self.old × Keeps store.new history) }
     {
         match self.judge(store) {
             Ok(Verdict::ReadOnly) => self.tried(Tried::ReadOnly),

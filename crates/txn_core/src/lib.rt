@@ -10,8 +10,8 @@
 mod answer;
 mod codes;
 mod committing;
-mod mutation;
 mod lives;
+mod mutation;
 mod reading;
 mod touching;
 mod txn;

@@ -34,7 +34,8 @@ impl Mutation {
         ensures { result ≡ rules.mutation_size (mutation_of self.now) }
     {
         match self {
-            Mutation::Set { key, value } => key.as_slice().len() as u64 + value.as_slice().len() as u64,
+            Mutation::Set { key, value } => key.as_slice().len() as u64
+                + value.as_slice().len() as u64,
             Mutation::Clear { key } => 2 * key.as_slice().len() as u64 + 1,
             Mutation::ClearRange { range } => range.begin.as_slice().len() as u64
                 + range.end.as_slice().len() as u64,

@@ -131,7 +131,9 @@ fn touch(
         Mutation::Set { key, value } => put(touched, key, Some(value.copy()?)),
         Mutation::Clear { key } => put(touched, key, None),
         Mutation::ClearRange { range } => touch_range(touched, range, store),
-        Mutation::Atomic { op, key, operand } => touch_atomic(alloc, touched, *op, key, operand, store),
+        Mutation::Atomic { op, key, operand } => touch_atomic(
+            alloc, touched, *op, key, operand, store,
+        ),
     }
 }
 

@@ -1,6 +1,6 @@
 //! A transaction.
 
-ghost use Rattle.std.specs.Prelude.{◌≡◌, ◌^◌, ◌<◌, IfOk};
+ghost use Rattle.std.specs.Prelude.{◌≡◌, ◌^◌, ◌<◌, IfOk, OnErr};
 ghost use Rattle.database_rules.specs.Databases.{History};
 ghost use Rattle.database_rules.specs.Transactions as rules;
 ghost use Rattle.fdb_calls.specs.Calling.{called, on_error_called, cancel_called, reset};
@@ -44,7 +44,7 @@ impl Model for Txn {
 }
 
 impl Txn {
-    ghost use Rattle.txn_core.specs.Stands.{StandsFor, Keeps, Answers};
+    ghost use Rattle.txn_core.specs.Stands.{StandsFor, StandsStill, Keeps, Answers};
 
     /// A life of this number, before its first call. It takes no memory, and keeps the allocator.
     pub fn new(alloc: Global, life: u64) -> Txn
@@ -77,7 +77,8 @@ impl Txn {
     }
 
     /// One call, over a store; `life` is the number of the life that a call draws which begins anew. A commit adds one
-    /// version to the store. It is refused for want of memory alone, and nothing is said of the two then.
+    /// version to the store. It is refused for want of memory alone: then the transaction stands as before, but that its
+    /// version may be taken, and the store keeps the same history.
     pub fn call(
         &mut self,
         store: &mut Store,
@@ -85,8 +86,10 @@ impl Txn {
         life: u64,
     ) -> Result<Answer, AllocError>
         requires { last_of store.old < 2 ^ 63 }
-        ensures { IfOk result (λ answer. (t : rules.Transaction) (history : History) → StandsFor self.old t → Keeps store.old history
+        ensures ok { IfOk result (λ answer. (t : rules.Transaction) (history : History) → StandsFor self.old t → Keeps store.old history
             → Answers answer self.new store.new history (called history life t call.now)) }
+        ensures err { OnErr result ((t : rules.Transaction) (history : History) → StandsFor self.old t → Keeps store.old history
+            → StandsStill (StandsFor self.new) history t × Keeps store.new history) }
     {
         match call {
             TxnCall::Get { key, .. } => Answer::of_read(self.get(store, key)),
