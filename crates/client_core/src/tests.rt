@@ -11,7 +11,7 @@ mod limits;
 mod plain;
 
 // What a request is answered, as a test writes it.
-#[derive(Clone, Copy, Debug, PartialEq, Eq)]
+#[derive(Clone, Copy, PartialEq, Eq)]
 enum Told<'a> {
     Done,
     Nothing,
@@ -50,19 +50,34 @@ fn apply(core: &mut Core, request: &Request) -> Reply {
     core.apply(0, request, &mut Zeros)
 }
 
-// A call, as a test writes it.
-#[derive(Clone, Copy, Debug)]
+// A call, as a test writes it. The long ones have keys and values of so many bytes.
+#[derive(Clone, Copy)]
 enum Say {
     Get(&'static [u8]),
     Set(&'static [u8], &'static [u8]),
+    LongSet(usize, usize),
     Clear(&'static [u8]),
+    LongClear(usize),
     ClearRange(&'static [u8], &'static [u8]),
+    LongClearRange(usize, usize),
     Atomic(&'static [u8], &'static [u8], &'static [u8]),
+    LongAdd(usize, usize),
     Commit,
     OnError(u16),
     Reset,
     Cancel,
 }
+
+// A request, as a test writes it.
+#[derive(Clone, Copy)]
+enum Ask {
+    New(&'static [u8]),
+    On(&'static [u8], Say),
+    Database(Say),
+}
+
+// A request, what it is answered, and the last version after it.
+type Row = (Ask, Told<'static>, u64);
 
 fn range_of(alloc: Global, begin: &[u8], end: &[u8]) -> Result<KeyRange, AllocError> {
     let begin = Bytes::from_slice(alloc, begin)?;
@@ -95,13 +110,21 @@ fn call_of(alloc: Global, say: Say) -> Result<TxnCall, AllocError> {
             snapshot: false,
         },
         Say::Set(key, value) => set_of(alloc, key, value)?,
+        Say::LongSet(key, value) => limits::long_set(alloc, key, value)?,
         Say::Clear(key) => TxnCall::Clear {
             key: Bytes::from_slice(alloc, key)?,
+        },
+        Say::LongClear(key) => TxnCall::Clear {
+            key: limits::long(alloc, key)?,
         },
         Say::ClearRange(begin, end) => TxnCall::ClearRange {
             range: range_of(alloc, begin, end)?,
         },
+        Say::LongClearRange(begin, end) => TxnCall::ClearRange {
+            range: limits::long_range(alloc, begin, end)?,
+        },
         Say::Atomic(name, key, operand) => atomic_of(alloc, name, key, operand)?,
+        Say::LongAdd(key, operand) => limits::long_add(alloc, key, operand)?,
         Say::Commit => TxnCall::Commit,
         Say::OnError(code) => TxnCall::OnError { code: Code(code) },
         Say::Reset => TxnCall::Reset,
@@ -109,86 +132,137 @@ fn call_of(alloc: Global, say: Say) -> Result<TxnCall, AllocError> {
     })
 }
 
-// A call on the transaction of a name.
-fn ask_call(
-    alloc: Global,
-    core: &mut Core,
-    name: &[u8],
-    call: TxnCall,
-) -> Result<Reply, AllocError> {
-    let name = Bytes::from_slice(alloc, name)?;
-    Ok(apply(core, &Request::On { name, call }))
+fn request_of(alloc: Global, ask: Ask) -> Result<Request, AllocError> {
+    Ok(match ask {
+        Ask::New(name) => Request::New {
+            name: Bytes::from_slice(alloc, name)?,
+        },
+        Ask::On(name, say) => Request::On {
+            name: Bytes::from_slice(alloc, name)?,
+            call: call_of(alloc, say)?,
+        },
+        Ask::Database(say) => Request::Database {
+            call: call_of(alloc, say)?,
+        },
+    })
 }
 
-fn ask(alloc: Global, core: &mut Core, name: &[u8], say: Say) -> Result<Reply, AllocError> {
-    let call = call_of(alloc, say)?;
-    ask_call(alloc, core, name, call)
+// Whether a request is answered so, is counted, and leaves this last version.
+fn is_answered(alloc: Global, core: &mut Core, row: Row) -> Result<bool, AllocError> {
+    let (ask, wanted, last) = row;
+    let request = request_of(alloc, ask)?;
+    let applied = core.applied();
+    let reply = apply(core, &request);
+    Ok(tell(&reply) == wanted && core.last() == last && core.applied() == applied.saturating_add(1))
 }
 
-// The place of the first call that is answered otherwise.
-fn first_wrong(
-    alloc: Global,
-    core: &mut Core,
-    script: &[(&'static [u8], Say, Told<'static>)],
-) -> Result<Option<usize>, AllocError> {
-    for (place, (name, say, wanted)) in script.iter().enumerate() {
-        let reply = ask(alloc, core, name, *say)?;
-        if tell(&reply) != *wanted {
+// The place of the first request that is answered otherwise.
+fn first_wrong(alloc: Global, core: &mut Core, rows: &[Row]) -> Result<Option<usize>, AllocError> {
+    for (place, row) in rows.iter().enumerate() {
+        if !is_answered(alloc, core, *row)? {
             return Ok(Some(place));
         }
     }
     Ok(None)
 }
 
-fn begun(alloc: Global) -> Result<Core, AllocError> {
+fn pair_of(alloc: Global, key: &[u8], value: &[u8]) -> Result<Pair, AllocError> {
+    let key = Bytes::from_slice(alloc, key)?;
+    let value = Bytes::from_slice(alloc, value)?;
+    Ok(Pair { key, value })
+}
+
+fn new_core(alloc: Global) -> Result<Core, AllocError> {
     let mut pairs = Pairs::new(alloc);
     for (key, value) in [(b"b", b"1"), (b"a", b"2"), (b"b", b"3")] {
-        pairs.push(Pair {
-            key: Bytes::from_slice(alloc, key)?,
-            value: Bytes::from_slice(alloc, value)?,
-        })?;
+        pairs.push(pair_of(alloc, key, value)?)?;
     }
     Core::load(alloc, pairs)
 }
 
+// Adds a pair as `key=value;`.
+fn spell(text: &mut Vec<u8>, key: &[u8], value: &[u8]) -> Result<(), AllocError> {
+    text.extend_from_slice(key)?;
+    text.push(b'=')?;
+    text.extend_from_slice(value)?;
+    text.push(b';')?;
+    Ok(())
+}
+
 // Each pair as `key=value;`.
-fn spelled(alloc: Global, pairs: &Pairs) -> Result<Bytes, AllocError> {
-    let mut text = Bytes::new(alloc);
+fn spelled(alloc: Global, pairs: &Pairs) -> Result<Vec<u8>, AllocError> {
+    let mut text = Vec::new(alloc);
     for pair in pairs.as_slice() {
-        text.extend(pair.key.as_slice())?;
-        text.extend(b"=")?;
-        text.extend(pair.value.as_slice())?;
-        text.extend(b";")?;
+        spell(&mut text, pair.key.as_slice(), pair.value.as_slice())?;
     }
     Ok(text)
 }
 
 // Each pair at the last version as `key=value;`.
-fn shown(alloc: Global, core: &Core) -> Result<Bytes, AllocError> {
-    spelled(alloc, &core.dump_pairs()?)
+fn shown(alloc: Global, core: &Core) -> Result<Vec<u8>, AllocError> {
+    let mut text = Vec::new(alloc);
+    for (key, value) in core.pairs_left() {
+        spell(&mut text, key.as_slice(), value.as_slice())?;
+    }
+    Ok(text)
 }
 
+// The place of the first request that a new core answers otherwise, and the pairs that are left.
+fn outcome(alloc: Global, rows: &[Row]) -> Result<(Option<usize>, Vec<u8>), AllocError> {
+    let mut core = new_core(alloc)?;
+    let wrong = first_wrong(alloc, &mut core, rows)?;
+    let text = shown(alloc, &core)?;
+    Ok((wrong, text))
+}
+
+// Two keys, and the pairs between them.
+type Span = (&'static [u8], &'static [u8], &'static [u8]);
+
+const SPANS: &[Span] = &[
+    (b"a", b"b", b"a=2;"),
+    (b"", b"\xff", b"a=2;b=3;"),
+    (b"a\0", b"b\0", b"b=3;"),
+    (b"b", b"a", b""),
+    (b"b", b"b", b""),
+];
+
 // The pairs between two keys.
-fn between(alloc: Global, core: &Core, begin: &[u8], end: &[u8]) -> Result<Bytes, AllocError> {
+fn between(alloc: Global, core: &Core, begin: &[u8], end: &[u8]) -> Result<Vec<u8>, AllocError> {
     let range = range_of(alloc, begin, end)?;
     spelled(alloc, &core.pairs_between(&range.begin, &range.end)?)
 }
 
+// Whether a core has these pairs between two keys.
+fn is_between(alloc: Global, core: &Core, span: Span) -> Result<bool, AllocError> {
+    let (begin, end, wanted) = span;
+    let found = between(alloc, core, begin, end)?;
+    Ok(found.as_slice() == wanted)
+}
+
+// The place of the first span of which a new core has other pairs.
+fn first_other_span(alloc: Global) -> Result<Option<usize>, AllocError> {
+    let core = new_core(alloc)?;
+    for (place, span) in SPANS.iter().enumerate() {
+        if !is_between(alloc, &core, *span)? {
+            return Ok(Some(place));
+        }
+    }
+    Ok(None)
+}
+
+// The last version of a new core, how many requests it took, and its pairs.
+fn loaded(alloc: Global) -> Result<(u64, u64, Vec<u8>), AllocError> {
+    let core = new_core(alloc)?;
+    let text = spelled(alloc, &core.dump_pairs()?)?;
+    Ok((core.last(), core.applied(), text))
+}
+
 #[test]
 fn loads_pairs(rt: HostRuntime) -> Result<(), Fail> {
-    let alloc = rt.alloc();
-    let core = begun(alloc)?;
-    assert_eq!(rt; (core.last(), core.applied()), (1, 0));
-    assert_eq!(rt; shown(alloc, &core)?.as_slice(), b"a=2;b=3;".as_slice());
-    for (begin, end, found) in [
-        (b"a".as_slice(), b"b".as_slice(), b"a=2;".as_slice()),
-        (b"", b"\xff", b"a=2;b=3;"),
-        (b"a\0", b"b\0", b"b=3;"),
-        (b"b", b"a", b""),
-        (b"b", b"b", b""),
-    ] {
-        assert_eq!(rt; between(alloc, &core, begin, end)?.as_slice(), found);
-    }
+    let (last, applied, text) = loaded(rt.alloc())?;
+    assert_eq!(rt; (last, applied), (1, 0));
+    assert_eq!(rt; text.as_slice(), b"a=2;b=3;".as_slice());
+    assert_eq!(rt; first_other_span(rt.alloc())?, None);
     Ok(())
 }
 
@@ -198,174 +272,191 @@ const Q: &[u8] = b"q";
 
 const R: &[u8] = b"r";
 
+const SETS: &[Row] = &[
+    (Ask::On(P, Say::Set(b"c", b"4")), Told::Done, 1),
+    (Ask::On(P, Say::Set(b"a", b"5")), Told::Done, 1),
+    (Ask::On(P, Say::Set(b"a", b"6")), Told::Done, 1),
+    (Ask::On(P, Say::Commit), Told::Done, 2),
+];
+
 #[test]
 fn sets_and_commits(rt: HostRuntime) -> Result<(), Fail> {
-    let alloc = rt.alloc();
-    let mut core = begun(alloc)?;
-    let sets = [
-        (P, Say::Set(b"c", b"4"), Told::Done),
-        (P, Say::Set(b"a", b"5"), Told::Done),
-        (P, Say::Set(b"a", b"6"), Told::Done),
-    ];
-    assert_eq!(rt; first_wrong(alloc, &mut core, &sets)?, None);
-    assert_eq!(rt; (core.last(), core.applied()), (1, 3));
-    let commit = [(P, Say::Commit, Told::Done)];
-    assert_eq!(rt; first_wrong(alloc, &mut core, &commit)?, None);
-    assert_eq!(rt; (core.last(), core.applied()), (2, 4));
-    assert_eq!(rt; shown(alloc, &core)?.as_slice(), b"a=6;b=3;c=4;".as_slice());
+    let (wrong, text) = outcome(rt.alloc(), SETS)?;
+    assert_eq!(rt; wrong, None);
+    assert_eq!(rt; text.as_slice(), b"a=6;b=3;c=4;".as_slice());
     Ok(())
 }
 
-const READS: [(&[u8], Say, Told<'static>); 17] = [
-    (P, Say::Get(b"a"), Told::Value(b"2")),
-    (P, Say::Set(b"a", b"5"), Told::Done),
-    (P, Say::Get(b"a"), Told::Value(b"5")),
-    (P, Say::Clear(b"b"), Told::Done),
-    (P, Say::Get(b"b"), Told::Nothing),
-    (Q, Say::Get(b"a"), Told::Value(b"2")),
-    (P, Say::Commit, Told::Done),
-    (Q, Say::Get(b"a"), Told::Value(b"2")),
-    (Q, Say::Get(b"b"), Told::Value(b"3")),
-    (R, Say::Get(b"a"), Told::Value(b"5")),
-    (R, Say::Get(b"b"), Told::Nothing),
-    (R, Say::ClearRange(b"a", b"b"), Told::Done),
-    (R, Say::Get(b"a"), Told::Nothing),
-    (R, Say::Commit, Told::Done),
-    (Q, Say::Reset, Told::Done),
-    (Q, Say::Get(b"a"), Told::Nothing),
-    (Q, Say::Commit, Told::Done),
+const READS: &[Row] = &[
+    (Ask::On(P, Say::Get(b"a")), Told::Value(b"2"), 1),
+    (Ask::On(P, Say::Set(b"a", b"5")), Told::Done, 1),
+    (Ask::On(P, Say::Get(b"a")), Told::Value(b"5"), 1),
+    (Ask::On(P, Say::Clear(b"b")), Told::Done, 1),
+    (Ask::On(P, Say::Get(b"b")), Told::Nothing, 1),
+    (Ask::On(Q, Say::Get(b"a")), Told::Value(b"2"), 1),
+    (Ask::On(P, Say::Commit), Told::Done, 2),
+    (Ask::On(Q, Say::Get(b"a")), Told::Value(b"2"), 2),
+    (Ask::On(Q, Say::Get(b"b")), Told::Value(b"3"), 2),
+    (Ask::On(R, Say::Get(b"a")), Told::Value(b"5"), 2),
+    (Ask::On(R, Say::Get(b"b")), Told::Nothing, 2),
+    (Ask::On(R, Say::ClearRange(b"a", b"b")), Told::Done, 2),
+    (Ask::On(R, Say::Get(b"a")), Told::Nothing, 2),
+    (Ask::On(R, Say::Commit), Told::Done, 3),
+    (Ask::On(Q, Say::Reset), Told::Done, 3),
+    (Ask::On(Q, Say::Get(b"a")), Told::Nothing, 3),
+    (Ask::On(Q, Say::Commit), Told::Done, 3),
 ];
 
 #[test]
 fn reads_its_own_writes_at_its_own_version(rt: HostRuntime) -> Result<(), Fail> {
-    let alloc = rt.alloc();
-    let mut core = begun(alloc)?;
-    assert_eq!(rt; first_wrong(alloc, &mut core, &READS)?, None);
-    assert_eq!(rt; core.last(), 3);
-    assert_eq!(rt; shown(alloc, &core)?.as_slice(), b"".as_slice());
+    let (wrong, text) = outcome(rt.alloc(), READS)?;
+    assert_eq!(rt; wrong, None);
+    assert_eq!(rt; text.as_slice(), b"".as_slice());
     Ok(())
 }
 
-const LIVES: [(&[u8], Say, Told<'static>); 15] = [
-    (P, Say::Commit, Told::Done),
-    (P, Say::Commit, Told::Fault(2017)),
-    (P, Say::Get(b"a"), Told::Fault(2017)),
-    (P, Say::Set(b"c", b"4"), Told::Fault(2017)),
-    (P, Say::Clear(b"c"), Told::Fault(2017)),
-    (P, Say::ClearRange(b"c", b"d"), Told::Fault(2017)),
-    (P, Say::Cancel, Told::Done),
-    (P, Say::Set(b"c", b"4"), Told::Fault(2017)),
-    (P, Say::OnError(1020), Told::Done),
-    (P, Say::Set(b"c", b"4"), Told::Done),
-    (P, Say::OnError(1020), Told::Done),
-    (P, Say::Commit, Told::Done),
-    (P, Say::Reset, Told::Done),
-    (P, Say::Set(b"c", b"4"), Told::Done),
-    (P, Say::Commit, Told::Done),
+const LIVES: &[Row] = &[
+    (Ask::On(P, Say::Commit), Told::Done, 1),
+    (Ask::On(P, Say::Commit), Told::Fault(2017), 1),
+    (Ask::On(P, Say::Get(b"a")), Told::Fault(2017), 1),
+    (Ask::On(P, Say::Set(b"c", b"4")), Told::Fault(2017), 1),
+    (Ask::On(P, Say::Clear(b"c")), Told::Fault(2017), 1),
+    (
+        Ask::On(P, Say::ClearRange(b"c", b"d")),
+        Told::Fault(2017),
+        1,
+    ),
+    (Ask::On(P, Say::Cancel), Told::Done, 1),
+    (Ask::On(P, Say::Set(b"c", b"4")), Told::Fault(2017), 1),
+    (Ask::On(P, Say::OnError(1020)), Told::Done, 1),
+    (Ask::On(P, Say::Set(b"c", b"4")), Told::Done, 1),
+    (Ask::On(P, Say::OnError(1020)), Told::Done, 1),
+    (Ask::On(P, Say::Commit), Told::Done, 1),
+    (Ask::On(P, Say::Reset), Told::Done, 1),
+    (Ask::On(P, Say::Set(b"c", b"4")), Told::Done, 1),
+    (Ask::On(P, Say::Commit), Told::Done, 2),
 ];
 
 #[test]
 fn a_life_ends_with_its_commit(rt: HostRuntime) -> Result<(), Fail> {
-    let alloc = rt.alloc();
-    let mut core = begun(alloc)?;
-    assert_eq!(rt; first_wrong(alloc, &mut core, &LIVES)?, None);
-    assert_eq!(rt; core.last(), 2);
-    assert_eq!(rt; shown(alloc, &core)?.as_slice(), b"a=2;b=3;c=4;".as_slice());
+    let (wrong, text) = outcome(rt.alloc(), LIVES)?;
+    assert_eq!(rt; wrong, None);
+    assert_eq!(rt; text.as_slice(), b"a=2;b=3;c=4;".as_slice());
     Ok(())
 }
 
-const CANCELLED: [(&[u8], Say, Told<'static>); 12] = [
-    (P, Say::Set(b"c", b"4"), Told::Done),
-    (P, Say::Cancel, Told::Done),
-    (P, Say::Get(b"\xff"), Told::Fault(1025)),
-    (P, Say::Set(b"\xff", b""), Told::Fault(1025)),
-    (P, Say::Clear(b"c"), Told::Fault(1025)),
-    (P, Say::ClearRange(b"d", b"c"), Told::Fault(1025)),
-    (P, Say::Commit, Told::Fault(1025)),
-    (P, Say::OnError(1020), Told::Fault(1025)),
-    (P, Say::Cancel, Told::Done),
-    (P, Say::Reset, Told::Done),
-    (P, Say::Get(b"c"), Told::Nothing),
-    (P, Say::Commit, Told::Done),
+const CANCELLED: &[Row] = &[
+    (Ask::On(P, Say::Set(b"c", b"4")), Told::Done, 1),
+    (Ask::On(P, Say::Cancel), Told::Done, 1),
+    (Ask::On(P, Say::Get(b"\xff")), Told::Fault(1025), 1),
+    (Ask::On(P, Say::Set(b"\xff", b"")), Told::Fault(1025), 1),
+    (Ask::On(P, Say::Clear(b"c")), Told::Fault(1025), 1),
+    (
+        Ask::On(P, Say::ClearRange(b"d", b"c")),
+        Told::Fault(1025),
+        1,
+    ),
+    (Ask::On(P, Say::Commit), Told::Fault(1025), 1),
+    (Ask::On(P, Say::OnError(1020)), Told::Fault(1025), 1),
+    (Ask::On(P, Say::Cancel), Told::Done, 1),
+    (Ask::On(P, Say::Reset), Told::Done, 1),
+    (Ask::On(P, Say::Get(b"c")), Told::Nothing, 1),
+    (Ask::On(P, Say::Commit), Told::Done, 1),
 ];
 
 #[test]
 fn a_cancelled_life_takes_no_call(rt: HostRuntime) -> Result<(), Fail> {
-    let alloc = rt.alloc();
-    let mut core = begun(alloc)?;
-    assert_eq!(rt; first_wrong(alloc, &mut core, &CANCELLED)?, None);
-    assert_eq!(rt; core.last(), 1);
+    let (wrong, _text) = outcome(rt.alloc(), CANCELLED)?;
+    assert_eq!(rt; wrong, None);
     Ok(())
 }
 
-// A set, an error of this code, and a read: what the last two are answered.
+// Codes, and whether a transaction may be tried again after an error of each.
+const CODES: &[(u16, bool)] = &[
+    (1007, true),
+    (1009, true),
+    (1020, true),
+    (1021, true),
+    (1037, true),
+    (1006, false),
+    (1008, false),
+    (1010, false),
+    (1019, false),
+    (1022, false),
+    (1025, false),
+    (1036, false),
+    (1038, false),
+    (2017, false),
+];
+
+// Whether an error of this code, and a read after it, are answered so.
 fn is_handled(alloc: Global, code: u16, may_retry: bool) -> Result<bool, AllocError> {
-    let mut core = begun(alloc)?;
     let (answer, next) = if may_retry {
         (Told::Done, Told::Nothing)
     } else {
         (Told::Fault(code), Told::Fault(1025))
     };
-    let script = [
-        (P, Say::Set(b"c", b"4"), Told::Done),
-        (P, Say::OnError(code), answer),
-        (P, Say::Get(b"c"), next),
+    let rows = [
+        (Ask::On(P, Say::Set(b"c", b"4")), Told::Done, 1),
+        (Ask::On(P, Say::OnError(code)), answer, 1),
+        (Ask::On(P, Say::Get(b"c")), next, 1),
     ];
-    Ok(first_wrong(alloc, &mut core, &script)?.is_none())
+    Ok(outcome(alloc, &rows)?.0.is_none())
+}
+
+// The first code that is handled otherwise.
+fn first_mishandled(alloc: Global) -> Result<Option<u16>, AllocError> {
+    for (code, may_retry) in CODES {
+        if !is_handled(alloc, *code, *may_retry)? {
+            return Ok(Some(*code));
+        }
+    }
+    Ok(None)
 }
 
 #[test]
 fn an_error_begins_anew_or_cancels(rt: HostRuntime) -> Result<(), Fail> {
-    for code in [1007, 1009, 1020, 1021, 1037] {
-        assert!(rt; is_handled(rt.alloc(), code, true)?, "at {code}");
-    }
-    for code in [1006, 1008, 1010, 1019, 1022, 1025, 1036, 1038, 2017] {
-        assert!(rt; is_handled(rt.alloc(), code, false)?, "at {code}");
-    }
+    assert_eq!(rt; first_mishandled(rt.alloc())?, None);
     Ok(())
 }
+
+const RENEWED: &[Row] = &[
+    (Ask::On(P, Say::Set(b"c", b"4")), Told::Done, 1),
+    (Ask::New(P), Told::Done, 1),
+    (Ask::On(P, Say::Get(b"c")), Told::Nothing, 1),
+    (Ask::On(P, Say::Commit), Told::Done, 1),
+];
 
 #[test]
 fn a_new_transaction_takes_the_place_of_the_old(rt: HostRuntime) -> Result<(), Fail> {
-    let alloc = rt.alloc();
-    let mut core = begun(alloc)?;
-    let before = [(P, Say::Set(b"c", b"4"), Told::Done)];
-    assert_eq!(rt; first_wrong(alloc, &mut core, &before)?, None);
-    let name = Bytes::from_slice(alloc, P)?;
-    assert_eq!(rt; tell(&apply(&mut core, &Request::New { name })), Told::Done);
-    let after = [
-        (P, Say::Get(b"c"), Told::Nothing),
-        (P, Say::Commit, Told::Done),
-    ];
-    assert_eq!(rt; first_wrong(alloc, &mut core, &after)?, None);
-    assert_eq!(rt; (core.last(), core.applied()), (1, 4));
+    let (wrong, _text) = outcome(rt.alloc(), RENEWED)?;
+    assert_eq!(rt; wrong, None);
     Ok(())
 }
 
-const APART: [(Say, Told<'static>, u64); 12] = [
-    (Say::Get(b"a"), Told::Value(b"2"), 1),
-    (Say::Set(b"c", b"4"), Told::Done, 2),
-    (Say::Get(b"c"), Told::Value(b"4"), 2),
-    (Say::Set(b"\xff", b"4"), Told::Fault(2004), 2),
-    (Say::ClearRange(b"b", b"c"), Told::Done, 3),
-    (Say::ClearRange(b"c", b"b"), Told::Fault(2005), 3),
-    (Say::Commit, Told::Fault(2017), 3),
-    (Say::Cancel, Told::Fault(1025), 3),
-    (Say::Reset, Told::Done, 3),
-    (Say::OnError(1020), Told::Done, 3),
-    (Say::OnError(2101), Told::Fault(2101), 3),
-    (Say::Clear(b"a"), Told::Done, 4),
+const APART: &[Row] = &[
+    (Ask::Database(Say::Get(b"a")), Told::Value(b"2"), 1),
+    (Ask::Database(Say::Set(b"c", b"4")), Told::Done, 2),
+    (Ask::Database(Say::Get(b"c")), Told::Value(b"4"), 2),
+    (Ask::Database(Say::Set(b"\xff", b"4")), Told::Fault(2004), 2),
+    (Ask::Database(Say::ClearRange(b"b", b"c")), Told::Done, 3),
+    (
+        Ask::Database(Say::ClearRange(b"c", b"b")),
+        Told::Fault(2005),
+        3,
+    ),
+    (Ask::Database(Say::Commit), Told::Fault(2017), 3),
+    (Ask::Database(Say::Cancel), Told::Fault(1025), 3),
+    (Ask::Database(Say::Reset), Told::Done, 3),
+    (Ask::Database(Say::OnError(1020)), Told::Done, 3),
+    (Ask::Database(Say::OnError(2101)), Told::Fault(2101), 3),
+    (Ask::Database(Say::Clear(b"a")), Told::Done, 4),
 ];
 
 #[test]
 fn a_call_on_the_database_is_committed(rt: HostRuntime) -> Result<(), Fail> {
-    let alloc = rt.alloc();
-    let mut core = begun(alloc)?;
-    for (place, (say, wanted, last)) in APART.into_iter().enumerate() {
-        let call = call_of(alloc, say)?;
-        let reply = apply(&mut core, &Request::Database { call });
-        assert_eq!(rt; (tell(&reply), core.last()), (wanted, last), "at {place}");
-    }
-    assert_eq!(rt; shown(alloc, &core)?.as_slice(), b"c=4;".as_slice());
+    let (wrong, text) = outcome(rt.alloc(), APART)?;
+    assert_eq!(rt; wrong, None);
+    assert_eq!(rt; text.as_slice(), b"c=4;".as_slice());
     Ok(())
 }

@@ -144,7 +144,7 @@ fn first_wrong(alloc: Global, rows: &[Row]) -> Result<Option<usize>, AllocError>
     Ok(None)
 }
 
-const COMMITTED: [Row; 9] = [
+const COMMITTED: &[Row] = &[
     Row::Call(Say::Set(b"a", b"1"), Told::Done),
     Row::Call(Say::Set(b"b", b"2"), Told::Done),
     Row::Call(Say::Set(b"c", b"3"), Told::Done),
@@ -158,11 +158,11 @@ const COMMITTED: [Row; 9] = [
 
 #[test]
 fn a_commit_makes_a_version(rt: HostRuntime) -> Result<(), Fail> {
-    assert_eq!(rt; first_wrong(rt.alloc(), &COMMITTED)?, None);
+    assert_eq!(rt; first_wrong(rt.alloc(), COMMITTED)?, None);
     Ok(())
 }
 
-const OWN_WRITES: [Row; 9] = [
+const OWN_WRITES: &[Row] = &[
     Row::Call(Say::Set(b"a", b"1"), Told::Done),
     Row::Call(Say::Set(b"b", b"2"), Told::Done),
     Row::Call(Say::Set(b"c", b"3"), Told::Done),
@@ -176,11 +176,11 @@ const OWN_WRITES: [Row; 9] = [
 
 #[test]
 fn a_transaction_reads_its_own_writes(rt: HostRuntime) -> Result<(), Fail> {
-    assert_eq!(rt; first_wrong(rt.alloc(), &OWN_WRITES)?, None);
+    assert_eq!(rt; first_wrong(rt.alloc(), OWN_WRITES)?, None);
     Ok(())
 }
 
-const CLEARED: [Row; 14] = [
+const CLEARED: &[Row] = &[
     Row::Call(Say::Set(b"a", b"1"), Told::Done),
     Row::Call(Say::Set(b"b", b"2"), Told::Done),
     Row::Call(Say::Set(b"c", b"3"), Told::Done),
@@ -199,11 +199,11 @@ const CLEARED: [Row; 14] = [
 
 #[test]
 fn a_range_is_cleared_without_its_end(rt: HostRuntime) -> Result<(), Fail> {
-    assert_eq!(rt; first_wrong(rt.alloc(), &CLEARED)?, None);
+    assert_eq!(rt; first_wrong(rt.alloc(), CLEARED)?, None);
     Ok(())
 }
 
-const REFUSED: [Row; 5] = [
+const REFUSED: &[Row] = &[
     Row::Call(Say::Set(b"\xff", b""), Told::Fault(2004)),
     Row::Call(Say::ClearRange(b"a", b"\xff"), Told::Done),
     Row::Call(Say::ClearRange(b"b", b"a"), Told::Fault(2005)),
@@ -213,11 +213,11 @@ const REFUSED: [Row; 5] = [
 
 #[test]
 fn writes_are_refused_by_their_first_failing_check(rt: HostRuntime) -> Result<(), Fail> {
-    assert_eq!(rt; first_wrong(rt.alloc(), &REFUSED)?, None);
+    assert_eq!(rt; first_wrong(rt.alloc(), REFUSED)?, None);
     Ok(())
 }
 
-const RETRIED: [Row; 10] = [
+const RETRIED: &[Row] = &[
     Row::Call(Say::Set(b"a", b"1"), Told::Done),
     Row::Call(Say::Set(b"b", b"2"), Told::Done),
     Row::Call(Say::Set(b"c", b"3"), Told::Done),
@@ -232,11 +232,11 @@ const RETRIED: [Row; 10] = [
 
 #[test]
 fn an_error_that_may_be_retried_begins_a_new_life(rt: HostRuntime) -> Result<(), Fail> {
-    assert_eq!(rt; first_wrong(rt.alloc(), &RETRIED)?, None);
+    assert_eq!(rt; first_wrong(rt.alloc(), RETRIED)?, None);
     Ok(())
 }
 
-const CANCELLED: [Row; 4] = [
+const CANCELLED: &[Row] = &[
     Row::Call(Say::Cancel, Told::Done),
     Row::Call(Say::Clear(b"a"), Told::Fault(1025)),
     Row::Call(Say::Reset, Told::NewLife),
@@ -245,7 +245,7 @@ const CANCELLED: [Row; 4] = [
 
 #[test]
 fn a_cancelled_transaction_takes_no_call_but_a_reset(rt: HostRuntime) -> Result<(), Fail> {
-    assert_eq!(rt; first_wrong(rt.alloc(), &CANCELLED)?, None);
+    assert_eq!(rt; first_wrong(rt.alloc(), CANCELLED)?, None);
     Ok(())
 }
 
