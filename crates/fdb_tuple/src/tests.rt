@@ -113,7 +113,6 @@ fn elements(rt: HostRuntime) -> Result<(), Fail> {
 fn tuples(rt: HostRuntime) -> Result<(), Fail> {
     let alloc = rt.alloc();
     let tuple = example(alloc)?.copy()?;
-    tuple.is_tuple();
     assert_eq!(rt; tuple.len(), 3);
     assert_eq!(rt; tuple.depth(), 1);
     assert!(rt; matches!(tuple.get(1), Elem::Null));
