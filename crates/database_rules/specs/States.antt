@@ -5,7 +5,8 @@ use Rattle.key_bytes.specs.declared.range.KeyRange.{KeyRange}
 use Rattle.key_bytes.specs.Keys.{within, after}
 use Rattle.database_rules.specs.declared.AtomicOp.{AtomicOp}
 use Rattle.database_rules.specs.declared.AtomicOp.TheVariants as atomic
-use Rattle.database_rules.specs.Atomics.{atom, is_versionstamped, little}
+use Rattle.key_bytes.specs.Numbers.{number_low}
+use Rattle.database_rules.specs.Atomics.{atom, is_versionstamped}
 use Rattle.database_rules.specs.Databases.{Mutation, Set, Clear, ClearRange, Atomic}
 
 -- ---- sets of keys
@@ -79,7 +80,7 @@ abbrev pub template : List ℕ → List ℕ
 template bytes = take (length bytes - 4) bytes
 
 abbrev pub stamp_place : List ℕ → ℕ
-stamp_place bytes = little (drop (length bytes - 4) bytes)
+stamp_place bytes = number_low (drop (length bytes - 4) bytes)
 
 -- the template with the ten bytes at its place replaced by a stamp
 unfoldable pub stamped : List ℕ → List ℕ → List ℕ

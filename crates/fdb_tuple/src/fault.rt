@@ -84,26 +84,10 @@ impl From<AllocError> for UnpackFault {
     }
 }
 
-impl<T: Drop> From<AllocFailed<T>> for UnpackFault {
-    ghost from_gives = { λ _ e. e ≡ unpack.NoMemory };
-
-    fn from(_e: AllocFailed<T>) -> UnpackFault {
-        UnpackFault::NoMemory
-    }
-}
-
 impl From<AllocError> for StampPackFault {
     ghost from_gives = { λ _ e. e ≡ stamp.NoMemory };
 
     fn from(_e: AllocError) -> StampPackFault {
-        StampPackFault::NoMemory
-    }
-}
-
-impl<T: Drop> From<AllocFailed<T>> for StampPackFault {
-    ghost from_gives = { λ _ e. e ≡ stamp.NoMemory };
-
-    fn from(_e: AllocFailed<T>) -> StampPackFault {
         StampPackFault::NoMemory
     }
 }
