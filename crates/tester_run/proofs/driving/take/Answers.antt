@@ -16,7 +16,9 @@ returns-clause-goes_on g c =
     taken_goes_on c.args.core.now c.apply-reply.new.self (g.W.Words.words c.args.words.now) (g.W.Words.words c.apply-reply.new._words) c.args.machine.now.machine c.step.new.self.machine c.args.order.now c.push.new.self c.args.request.now takes
 
 pub returns-clause-silent : goal.returns-clause-silent
-returns-clause-silent g c = replied_silent c.args.machine.now.machine c.step.new.self.machine c.apply-reply.result c.requires.awaits c.in_ok-step.ensures.ok.machine
+returns-clause-silent g c =
+    replied_silent c.args.machine.now.machine c.step.new.self.machine c.apply-reply.result c.requires.awaits c.in_ok-step.ensures.ok.machine
 
 pub returns-clause-nearer : goal.returns-clause-nearer
-returns-clause-nearer g c = replied_nearer c.args.machine.now.machine c.step.new.self.machine c.args.request.now c.apply-reply.result c.in_ok-step.ensures.ok.machine
+returns-clause-nearer g c =
+    replied_nearer c.args.machine.now.machine c.step.new.self.machine c.args.request.now c.apply-reply.result c.in_ok-step.ensures.ok.machine
