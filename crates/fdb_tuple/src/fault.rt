@@ -60,14 +60,6 @@ pub enum StampPackFault {
     NoMemory,
 }
 
-impl From<AllocError> for PushFault {
-    ghost from_gives = { λ _ e. e ≡ push.NoMemory };
-
-    fn from(_e: AllocError) -> PushFault {
-        PushFault::NoMemory
-    }
-}
-
 impl<T: Drop> From<AllocFailed<T>> for PushFault {
     ghost from_gives = { λ _ e. e ≡ push.NoMemory };
 
