@@ -46,7 +46,8 @@ abbrev pub state_after : Mutation → List ℕ → KeyState → KeyState
 state_after (Set key value) asked state = if bytes_eq asked key then Decided (Some value) else state
 state_after (Clear key) asked state = if bytes_eq asked key then Decided None else state
 state_after (ClearRange begin end) asked state = if within begin end asked then Decided None else state
-state_after (Atomic op key operand) asked state = if bytes_eq asked key && not (is_versionstamped op) then after_atomic op operand state else state
+state_after (Atomic op key operand) asked state =
+    if bytes_eq asked key && not (is_versionstamped op) then after_atomic op operand state else state
 
 -- mutations on a key in a state, in their order
 abbrev pub states_after : List Mutation → List ℕ → KeyState → KeyState
@@ -101,7 +102,8 @@ all_filled stamp mutations = map (filled stamp) mutations
 -- the keys that a mutation makes unreadable until its life ends: that of a stamped value, and each that lies from the
 -- template with ten 00 up to the template with ten FF, of a stamped key
 abbrev pub unreadable_by : Mutation → List KeyRange
-unreadable_by (Atomic atomic.SetVersionstampedKey key operand) = range_from (stamped (replicate 10 0) key) (after (stamped (replicate 10 255) key)) ∷ []
+unreadable_by (Atomic atomic.SetVersionstampedKey key operand) =
+    range_from (stamped (replicate 10 0) key) (after (stamped (replicate 10 255) key)) ∷ []
 unreadable_by (Atomic atomic.SetVersionstampedValue key operand) = range_from key (after key) ∷ []
 unreadable_by mutation = []
 
