@@ -2,7 +2,7 @@ use Rattle.std.proofs.Common.{◌≡◌, ◌++◌, length}
 use Rattle.std.specs.List.{prefix_len}
 use Rattle.line_rules.specs.Printing.{is_plain, printable}
 use Rattle.dump_text.specs.Growing.{Grew}
-use Rattle.dump_text.proofs.printing.add_printable.Given as goal
+use Rattle.dump_text.proofs.printing.add_escaped.Given as goal
 
 -- what was added, before what is still to add, is all, and what is left doesn't begin with a plain byte
 abbrev pub invariant-loop-left : goal.invariant-loop-left
