@@ -258,6 +258,49 @@ fn printable_bytes(rt: HostRuntime) -> Result<(), Fail> {
     Ok(())
 }
 
+// Whether a byte is printed so behind so many plain bytes and before one more.
+fn is_printed_so(
+    alloc: Global,
+    len: usize,
+    byte: &[u8],
+    spelled: &[u8],
+) -> Result<bool, AllocError> {
+    let mut text = vec![in alloc; b'~'; len]?;
+    let mut want = vec![in alloc; b'~'; len]?;
+    text.extend_from_slice(byte)?;
+    want.extend_from_slice(spelled)?;
+    text.push(b' ')?;
+    want.push(b' ')?;
+    let mut found = Bytes::new(alloc);
+    write_printable(&mut found, text.as_slice(), None)?;
+    Ok(found.as_slice() == want.as_slice())
+}
+
+// The first length of a run at which some byte behind it is printed otherwise.
+fn first_wrong_run(alloc: Global) -> Result<Option<usize>, AllocError> {
+    let rows: [(&[u8], &[u8]); 5] = [
+        (b"", b""),
+        (b"\\", b"\\\\"),
+        (b"\x1f", b"\\x1f"),
+        (b"\x7f", b"\\x7f"),
+        (b"\xff", b"\\xff"),
+    ];
+    for len in 0..40 {
+        for (byte, spelled) in rows {
+            if !is_printed_so(alloc, len, byte, spelled)? {
+                return Ok(Some(len));
+            }
+        }
+    }
+    Ok(None)
+}
+
+#[test]
+fn runs_of_each_length(rt: HostRuntime) -> Result<(), Fail> {
+    assert_eq!(rt; first_wrong_run(rt.alloc())?, None);
+    Ok(())
+}
+
 #[test]
 fn words(rt: HostRuntime) {
     let words = (EndWord::WaitBound.word(), EndWord::MachineLimit.word());

@@ -9,4 +9,4 @@ returns c =
     let v = c.args.bytes in
     let long = c.fits-bytes.0 in
     masked _ v _ (omega arith) c.fits-bytes.1
-    (zip2_of_maps bit_or _ _ v (from_splat at_most _ 95 16 v long (zip2_splat less v 16 32 long)) (zip2_splat equals v 16 92 long)) tt
+    (zip2_of_maps bit_or _ _ v (from_splat at_most _ _ 16 v long (zip2_splat less v 16 _ long)) (zip2_splat equals v 16 _ long)) tt

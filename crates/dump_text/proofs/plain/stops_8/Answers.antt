@@ -9,4 +9,4 @@ returns c =
     let v = c.args.bytes in
     let long = c.fits-bytes.0 in
     masked _ v _ (omega arith) c.fits-bytes.1
-    (zip2_of_maps bit_or _ _ v (from_splat at_most _ 95 8 v long (zip2_splat less v 8 32 long)) (zip2_splat equals v 8 92 long)) tt
+    (zip2_of_maps bit_or _ _ v (from_splat at_most _ _ 8 v long (zip2_splat less v 8 _ long)) (zip2_splat equals v 8 _ long)) tt
