@@ -8,4 +8,6 @@ use Rattle.range_read.proofs.tests.SeenOrderedView.next.Goals as goal
 
 pub returns : goal.returns
 returns c = IfOk-weaker c.copied.result _ _ (λ pair copied.
-    copied ∙ c.next.ensures ∙ ap (λ k. first (filter (λ e. key_le k e.0) (entries c.args.self.now.pairs))) (c.in_ok-key.ensures {u = tt})) c.copied.ensures
+    copied
+    ∙ c.next.ensures
+    ∙ ap (λ k. first (filter (λ e. key_le k e.0) (entries c.args.self.now.pairs))) (c.in_ok-key.ensures {u = tt})) c.copied.ensures

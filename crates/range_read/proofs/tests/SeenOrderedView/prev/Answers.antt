@@ -8,4 +8,6 @@ use Rattle.range_read.proofs.tests.SeenOrderedView.prev.Goals as goal
 
 pub returns : goal.returns
 returns c = IfOk-weaker c.copied.result _ _ (λ pair copied.
-    copied ∙ c.prev.ensures ∙ ap (λ k. last (filter (λ e. key_lt e.0 k) (entries c.args.self.now.pairs))) (c.in_ok-key.ensures {u = tt})) c.copied.ensures
+    copied
+    ∙ c.prev.ensures
+    ∙ ap (λ k. last (filter (λ e. key_lt e.0 k) (entries c.args.self.now.pairs))) (c.in_ok-key.ensures {u = tt})) c.copied.ensures
