@@ -6,7 +6,8 @@ use Rattle.std.proofs.lemmas.List.{take_all}
 use Rattle.std.proofs.lemmas.Bool.{cases_order, lt-ltb, le-ltb}
 use Rattle.std.proofs.lemmas.List.Elements.{All-head, All-tail}
 use Rattle.key_bytes.specs.Keys.{IsByteString}
-use Rattle.database_rules.specs.Atomics.{little, little_bytes, little_sum}
+use Rattle.key_bytes.specs.Numbers.{number_low}
+use Rattle.database_rules.specs.Atomics.{little_bytes, little_sum}
 
 pow_256_pos : (k : ℕ) → 0 < 256 ^ k
 pow_256_pos zero = omega arith
@@ -47,20 +48,20 @@ little_bytes-mod k n =
 -- ---- a sum byte by byte
 
 -- one byte more
-little-take_suc : (i : ℕ) (bytes : List ℕ) → little (take (suc i) bytes) ≡ little (take i bytes) + 256 ^ i * get_or bytes i 0
-unfolding little
-little-take_suc zero [] = refl
-little-take_suc zero (b ∷ bytes) = omega arith
-little-take_suc (suc i) [] = omega arith
-little-take_suc (suc i) (b ∷ bytes) = rw pow-suc (omega (arith, little-take_suc i bytes))
+number_low-take_suc : (i : ℕ) (bytes : List ℕ) → number_low (take (suc i) bytes) ≡ number_low (take i bytes) + 256 ^ i * get_or bytes i 0
+unfolding number_low
+number_low-take_suc zero [] = refl
+number_low-take_suc zero (b ∷ bytes) = omega arith
+number_low-take_suc (suc i) [] = omega arith
+number_low-take_suc (suc i) (b ∷ bytes) = rw pow-suc (omega (arith, number_low-take_suc i bytes))
 
 -- the sum of the lowest bytes of two numbers, so many of each
 unfoldable pub low_sum : List ℕ → List ℕ → ℕ → ℕ
-low_sum kept operand i = little (take i kept) + little (take i operand)
+low_sum kept operand i = number_low (take i kept) + number_low (take i operand)
 
 low_sum-suc : (kept operand : List ℕ) (i : ℕ) → low_sum kept operand (suc i) ≡ low_sum kept operand i + 256 ^ i * (get_or kept i 0 + get_or operand i 0)
 unfolding low_sum
-low_sum-suc kept operand i = omega (arith, little-take_suc i kept, little-take_suc i operand)
+low_sum-suc kept operand i = omega (arith, number_low-take_suc i kept, number_low-take_suc i operand)
 
 -- so many bytes of a sum are made, and what stands above them is carried
 pub record IsSummed (kept operand : List ℕ) (i carry : ℕ) (sum : List ℕ) : Type 0 where
@@ -69,7 +70,7 @@ pub record IsSummed (kept operand : List ℕ) (i carry : ℕ) (sum : List ℕ) :
   pub small : carry ≤ 1
 
 pub IsSummed-none : (kept operand : List ℕ) → IsSummed kept operand 0 0 []
-unfolding low_sum little little_bytes
+unfolding low_sum number_low little_bytes
 IsSummed-none kept operand = record { bytes = refl; carried = omega arith; small = omega arith }
 
 pub IsSummed-more : (kept operand : List ℕ) (i carry a b : ℕ) (sum : List ℕ) → IsSummed kept operand i carry sum → a ≡ get_or kept i 0 → b ≡ get_or operand i 0 → a < 256 → b < 256
@@ -97,28 +98,28 @@ unfolding low_sum little_sum
 IsSummed-all kept operand i carry sum so_far a b =
     let whole : take i kept ≡ kept = take_all i kept (omega arith) in
     let all : take i operand ≡ operand = take_all i operand (omega arith) in
-    so_far.bytes ∙ rw (whole, all, b, ← pow_256 i) (sym (little_bytes-mod i (little kept + little operand)))
+    so_far.bytes ∙ rw (whole, all, b, ← pow_256 i) (sym (little_bytes-mod i (number_low kept + number_low operand)))
 
 -- ---- a comparison from the highest byte down
 
 -- where the bytes above a place are the same, a lesser byte there makes a lesser number
-little-lt : (xs ys : List ℕ) (i : ℕ) → IsByteString xs → length xs ≡ length ys → i < length xs → drop (suc i) xs ≡ drop (suc i) ys → get_or xs i 0 < get_or ys i 0
-    → little xs < little ys
-unfolding little
-little-lt [] ys i bytes long inside above less = absurd (omega arith)
-little-lt (x ∷ xs) [] i bytes long inside above less = absurd (omega arith)
-little-lt (x ∷ xs) (y ∷ ys) zero bytes long inside above less = let same : little xs ≡ little ys = ap little above in omega arith
-little-lt (x ∷ xs) (y ∷ ys) (suc i) bytes long inside above less =
-    omega (arith, All-head (λ b. b < 256) x xs bytes, little-lt xs ys i (All-tail (λ b. b < 256) x xs bytes) (omega arith) (omega arith) above less)
+number_low-lt : (xs ys : List ℕ) (i : ℕ) → IsByteString xs → length xs ≡ length ys → i < length xs → drop (suc i) xs ≡ drop (suc i) ys → get_or xs i 0 < get_or ys i 0
+    → number_low xs < number_low ys
+unfolding number_low
+number_low-lt [] ys i bytes long inside above less = absurd (omega arith)
+number_low-lt (x ∷ xs) [] i bytes long inside above less = absurd (omega arith)
+number_low-lt (x ∷ xs) (y ∷ ys) zero bytes long inside above less = let same : number_low xs ≡ number_low ys = ap number_low above in omega arith
+number_low-lt (x ∷ xs) (y ∷ ys) (suc i) bytes long inside above less =
+    omega (arith, All-head (λ b. b < 256) x xs bytes, number_low-lt xs ys i (All-tail (λ b. b < 256) x xs bytes) (omega arith) (omega arith) above less)
 
 -- the highest byte that differs decides
-pub nat_lt-little : (xs ys : List ℕ) (i : ℕ) → IsByteString xs → IsByteString ys → length xs ≡ length ys → i < length xs → drop (suc i) xs ≡ drop (suc i) ys
-    → (get_or xs i 0 ≡ get_or ys i 0 → ⊥) → nat_lt (get_or xs i 0) (get_or ys i 0) ≡ nat_lt (little xs) (little ys)
-nat_lt-little xs ys i first second long inside above differ =
+pub nat_lt-number_low : (xs ys : List ℕ) (i : ℕ) → IsByteString xs → IsByteString ys → length xs ≡ length ys → i < length xs → drop (suc i) xs ≡ drop (suc i) ys
+    → (get_or xs i 0 ≡ get_or ys i 0 → ⊥) → nat_lt (get_or xs i 0) (get_or ys i 0) ≡ nat_lt (number_low xs) (number_low ys)
+nat_lt-number_low xs ys i first second long inside above differ =
     elim (cases_order (get_or xs i 0) (get_or ys i 0)) [
       | inl same ↦ absurd (differ same)
-      | inr (inl less) ↦ lt-ltb (get_or xs i 0) (get_or ys i 0) less ∙ sym (lt-ltb (little xs) (little ys) (little-lt xs ys i first long inside above less))
+      | inr (inl less) ↦ lt-ltb (get_or xs i 0) (get_or ys i 0) less ∙ sym (lt-ltb (number_low xs) (number_low ys) (number_low-lt xs ys i first long inside above less))
       | inr (inr more) ↦
-          let over : little ys < little xs = little-lt ys xs i second (sym long) (omega arith) (sym above) more in
-          le-ltb (get_or xs i 0) (get_or ys i 0) (omega arith) ∙ sym (le-ltb (little xs) (little ys) (omega arith))
+          let over : number_low ys < number_low xs = number_low-lt ys xs i second (sym long) (omega arith) (sym above) more in
+          le-ltb (get_or xs i 0) (get_or ys i 0) (omega arith) ∙ sym (le-ltb (number_low xs) (number_low ys) (omega arith))
     ]

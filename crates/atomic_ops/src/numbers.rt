@@ -1,7 +1,8 @@
 //! Old value and operand as little-endian numbers.
 
 ghost use Rattle.std.specs.Prelude.{◌≡◌, IfOk, nat_lt};
-ghost use Rattle.database_rules.specs.Atomics.{fitted, little, little_sum, little_max, little_min};
+ghost use Rattle.key_bytes.specs.Numbers.{number_low};
+ghost use Rattle.database_rules.specs.Atomics.{fitted, little_sum, little_max, little_min};
 
 use crate::fitting::{byte_at, fitted};
 use key_bytes::Bytes;
@@ -23,7 +24,7 @@ pub(crate) fn sum(alloc: Global, old: &[u8], operand: &[u8]) -> Result<Bytes, Al
 
 // Whether the old value, as wide as the operand, is less: the highest byte in which the two differ decides.
 fn is_less(old: &[u8], operand: &[u8]) -> bool
-    ensures { result ≡ nat_lt (little (fitted old.now operand.now)) (little operand.now) }
+    ensures { result ≡ nat_lt (number_low (fitted old.now operand.now)) (number_low operand.now) }
 {
     for place in (0..operand.len()).rev() {
         let kept = byte_at(old, place);

@@ -1,16 +1,12 @@
 -- What an atomic operation makes of a value (API reference of release 6.3, "fdb_transaction_atomic_op").
 use Rattle.std.specs.Prelude.{ℕ, zero, suc, ◌+◌, ◌-◌, ◌*◌, ◌/◌, ◌%◌, ◌^◌, Bool, true, false, ◌||◌, if◌then◌else◌, List, [], ◌∷◌, ◌++◌, length, map, take, replicate, zip, nat_lt, nat_le, bit_and, bit_or, bit_xor, Option, Some, None, bytes_eq, codes}
 use Rattle.key_bytes.specs.Keys.{lesser, greater}
+use Rattle.key_bytes.specs.Numbers.{number_low}
 use Rattle.database_rules.specs.declared.TheConstants.{VALUE_LIMIT}
 use Rattle.database_rules.specs.declared.AtomicOp.{AtomicOp}
 use Rattle.database_rules.specs.declared.AtomicOp.TheVariants as atomic
 
 -- ---- little-endian numbers
-
--- the number that bytes write, the lowest byte first
-unfoldable pub little : List ℕ → ℕ
-little [] = 0
-little (byte ∷ bytes) = byte + 256 * little bytes
 
 -- the lowest bytes of a number, so many of them, the lowest first
 unfoldable pub little_bytes : ℕ → ℕ → List ℕ
@@ -25,14 +21,14 @@ fitted old operand = take (length operand) old ++ replicate (length operand - le
 
 -- the sum of the two as numbers, modulo 2 to the bits of the operand
 unfoldable pub little_sum : List ℕ → List ℕ → List ℕ
-little_sum kept operand = little_bytes (length operand) ((little kept + little operand) % 2 ^ (8 * length operand))
+little_sum kept operand = little_bytes (length operand) ((number_low kept + number_low operand) % 2 ^ (8 * length operand))
 
 -- the greater and the lesser of the two as numbers
 unfoldable pub little_max : List ℕ → List ℕ → List ℕ
-little_max kept operand = if nat_lt (little kept) (little operand) then operand else kept
+little_max kept operand = if nat_lt (number_low kept) (number_low operand) then operand else kept
 
 unfoldable pub little_min : List ℕ → List ℕ → List ℕ
-little_min kept operand = if nat_lt (little kept) (little operand) then kept else operand
+little_min kept operand = if nat_lt (number_low kept) (number_low operand) then kept else operand
 
 -- each byte of the one joined with the byte at its place in the other
 unfoldable pub bytewise : (ℕ → ℕ → ℕ) → List ℕ → List ℕ → List ℕ

@@ -5,7 +5,8 @@ use Rattle.key_bytes.specs.declared.range.KeyRange.{KeyRange}
 use Rattle.key_bytes.specs.Keys.{within, after}
 use Rattle.database_rules.specs.declared.AtomicOp.{AtomicOp}
 use Rattle.database_rules.specs.declared.AtomicOp.TheVariants as atomic
-use Rattle.database_rules.specs.Atomics.{atom, is_versionstamped, little}
+use Rattle.key_bytes.specs.Numbers.{number_low}
+use Rattle.database_rules.specs.Atomics.{atom, is_versionstamped}
 use Rattle.database_rules.specs.Databases.{Mutation, Set, Clear, ClearRange, Atomic}
 
 -- ---- sets of keys
@@ -45,7 +46,8 @@ abbrev pub state_after : Mutation → List ℕ → KeyState → KeyState
 state_after (Set key value) asked state = if bytes_eq asked key then Decided (Some value) else state
 state_after (Clear key) asked state = if bytes_eq asked key then Decided None else state
 state_after (ClearRange begin end) asked state = if within begin end asked then Decided None else state
-state_after (Atomic op key operand) asked state = if bytes_eq asked key && not (is_versionstamped op) then after_atomic op operand state else state
+state_after (Atomic op key operand) asked state =
+    if bytes_eq asked key && not (is_versionstamped op) then after_atomic op operand state else state
 
 -- mutations on a key in a state, in their order
 abbrev pub states_after : List Mutation → List ℕ → KeyState → KeyState
@@ -79,7 +81,7 @@ abbrev pub template : List ℕ → List ℕ
 template bytes = take (length bytes - 4) bytes
 
 abbrev pub stamp_place : List ℕ → ℕ
-stamp_place bytes = little (drop (length bytes - 4) bytes)
+stamp_place bytes = number_low (drop (length bytes - 4) bytes)
 
 -- the template with the ten bytes at its place replaced by a stamp
 unfoldable pub stamped : List ℕ → List ℕ → List ℕ
@@ -100,7 +102,8 @@ all_filled stamp mutations = map (filled stamp) mutations
 -- the keys that a mutation makes unreadable until its life ends: that of a stamped value, and each that lies from the
 -- template with ten 00 up to the template with ten FF, of a stamped key
 abbrev pub unreadable_by : Mutation → List KeyRange
-unreadable_by (Atomic atomic.SetVersionstampedKey key operand) = range_from (stamped (replicate 10 0) key) (after (stamped (replicate 10 255) key)) ∷ []
+unreadable_by (Atomic atomic.SetVersionstampedKey key operand) =
+    range_from (stamped (replicate 10 0) key) (after (stamped (replicate 10 255) key)) ∷ []
 unreadable_by (Atomic atomic.SetVersionstampedValue key operand) = range_from key (after key) ∷ []
 unreadable_by mutation = []
 

@@ -112,3 +112,6 @@ impl AtomicOp {
         )
     }
 }
+
+#[cfg(test)]
+mod tests;

@@ -61,6 +61,10 @@ printed_run p h (byte ∷ rest) =
 pub printable_run : (bytes : List ℕ) → printable bytes ≡ take_while is_plain bytes ++ printable (after is_plain bytes)
 printable_run bytes = printed_run is_plain (λ byte e. rw e refl) bytes
 
+pub parts_printed : (to bytes run left : List ℕ) → run ≡ take_while is_plain bytes → left ≡ after is_plain bytes
+    → (to ++ run) ++ printable left ≡ to ++ printable bytes
+parts_printed to bytes run left f g = rw (f, g, append_assoc, ← printable_run bytes) refl
+
 -- a list that isn't empty, as a pattern takes it apart
 taken_apart : (left : List ℕ) → 1 ≤ length left → left ≡ slice_index_or left 0 0 ∷ take (length left - 1) (drop 1 left)
 taken_apart left h = first_rest left 0 h

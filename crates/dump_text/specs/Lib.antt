@@ -4,4 +4,5 @@ pub mod Growing
 pub mod InputLines
 pub mod Places
 pub mod Reading
+pub mod Stops
 pub mod Texts

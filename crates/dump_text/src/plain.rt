@@ -1,10 +1,13 @@
 //! Bytes that stand for themselves.
 
-ghost use Rattle.std.specs.Prelude.{◌≡◌, ◌≤◌, ◌++◌, length, drop, OnOk, OnErr};
+ghost use Rattle.std.specs.Prelude.{◌≡◌, ◌+◌, ◌≤◌, ◌++◌, length, drop, map, OnOk, OnErr};
 ghost use Rattle.std.specs.List.{prefix_len, take_while};
+ghost use Rattle.std.specs.Simd.Lanes.{mask_l};
 ghost use Rattle.line_rules.specs.Printing.{is_plain};
+ghost use Rattle.dump_text.specs.Stops.{is_stop};
 
 use std::alloc::AllocError;
+use std::simd::prelude::*;
 
 /// Whether `byte` stands for itself. It takes no memory.
 #[inline(always)]
@@ -14,18 +17,68 @@ pub fn is_plain(byte: u8) -> bool
     byte >= 0x20 && byte < 0x7f && byte != b'\\'
 }
 
+// The bits of the places of the bytes that don't stand for themselves. It takes no memory.
+#[inline(always)]
+fn stops_8(bytes: u8x8) -> u64
+    ensures { result ≡ mask_l (map is_stop bytes) }
+{
+    ((bytes - u8x8::splat(0x20)).simd_ge(u8x8::splat(0x5f))
+        | bytes.simd_eq(u8x8::splat(b'\\'))).to_bitmask()
+}
+
+// The same of sixteen bytes.
+#[inline(always)]
+fn stops_16(bytes: u8x16) -> u64
+    ensures { result ≡ mask_l (map is_stop bytes) }
+{
+    ((bytes - u8x16::splat(0x20)).simd_ge(u8x16::splat(0x5f))
+        | bytes.simd_eq(u8x16::splat(b'\\'))).to_bitmask()
+}
+
+// Where the run ends that goes on from `from`, one byte at a time. It takes no memory.
+#[inline(always)]
+fn plain_end_slowly(bytes: &[u8], from: usize) -> usize
+    requires { from ≤ length bytes.now }
+    ensures { result ≡ from + prefix_len is_plain (drop from bytes.now) }
+{
+    let mut i = from;
+    while i < bytes.len() && is_plain(bytes[i]) {
+        i += 1;
+    }
+    i
+}
+
+// The same, where up to fifteen bytes are left.
+#[inline(always)]
+fn plain_end_8(bytes: &[u8], from: usize) -> usize
+    requires { from ≤ length bytes.now }
+    ensures { result ≡ from + prefix_len is_plain (drop from bytes.now) }
+{
+    if bytes.len() - from < 8 {
+        return plain_end_slowly(bytes, from);
+    }
+    let found = stops_8(u8x8::from_slice(&bytes[from..]));
+    if found != 0 {
+        return from + found.trailing_zeros() as usize;
+    }
+    plain_end_slowly(bytes, from + 8)
+}
+
 // How many bytes at the front stand for themselves. It takes no memory.
 #[inline]
 fn plain_len(bytes: &[u8]) -> usize
     ensures value { result ≡ prefix_len is_plain bytes.now }
     ensures within { result ≤ length bytes.now }
 {
-    for (i, byte) in bytes.iter().enumerate() {
-        if !is_plain(*byte) {
-            return i;
+    let mut i = 0;
+    while bytes.len() - i >= 16 {
+        let found = stops_16(u8x16::from_slice(&bytes[i..]));
+        if found != 0 {
+            return i + found.trailing_zeros() as usize;
         }
+        i += 16;
     }
-    bytes.len()
+    plain_end_8(bytes, i)
 }
 
 /// The bytes at the front that stand for themselves, and all from the first that does not. It takes no memory.

@@ -1,6 +1,7 @@
 //! The printable form of bytes.
 
 ghost use Rattle.std.specs.Prelude.{◌≡◌, ◌<◌, ◌++◌, false, Some, take, length, OnOk, OnErr};
+ghost use Rattle.std.specs.List.{prefix_len};
 ghost use Rattle.line_rules.specs.Printing.{is_plain, in_digits, printed, printable, printable_but, hexadecimal_digit};
 ghost use Rattle.dump_text.specs.Growing.{Grew};
 
@@ -41,13 +42,15 @@ fn add_escape(to: &mut Vec<u8>, byte: u8) -> Result<(), AllocError>
     add_digits(to, byte)
 }
 
-/// Adds the printable form of `bytes`. After a refusal a part of it stands behind what `to` held.
-pub fn add_printable(to: &mut Vec<u8>, bytes: &[u8]) -> Result<(), AllocError>
+// Adds the printable form of bytes whose first one, where there is one, isn't plain. After a refusal a part of it stands
+// behind what `to` held.
+#[inline(never)]
+fn add_escaped(to: &mut Vec<u8>, bytes: &[u8]) -> Result<(), AllocError>
+    requires { prefix_len is_plain bytes.now ≡ 0 }
     ensures ok { OnOk result (to.new.items ≡ to.old.items ++ printable bytes.now) }
     ensures err { OnErr result (Grew to.old.items to.new.items) }
 {
-    let (run, mut left) = split_plain(bytes);
-    to.extend_from_slice(run)?;
+    let mut left = bytes;
     while let [byte, rest @ ..] = left {
         let (run, after) = split_plain(rest);
         add_escape(to, *byte)?;
@@ -55,6 +58,20 @@ pub fn add_printable(to: &mut Vec<u8>, bytes: &[u8]) -> Result<(), AllocError>
         left = after;
     }
     Ok(())
+}
+
+/// Adds the printable form of `bytes`. After a refusal a part of it stands behind what `to` held.
+#[inline(always)]
+pub fn add_printable(to: &mut Vec<u8>, bytes: &[u8]) -> Result<(), AllocError>
+    ensures ok { OnOk result (to.new.items ≡ to.old.items ++ printable bytes.now) }
+    ensures err { OnErr result (Grew to.old.items to.new.items) }
+{
+    let (run, left) = split_plain(bytes);
+    add_run(to, run)?;
+    if left.is_empty() {
+        return Ok(());
+    }
+    add_escaped(to, left)
 }
 
 /// What `written` tells; where it is a refusal, `to` is cut back to `len` bytes. It takes no memory.

@@ -271,8 +271,7 @@ fn order_of_two(alloc: Global) -> Result<(usize, usize, u16, u16), AllocError> {
     let before = order.len();
     order.push(63)?;
     order.push(5)?;
-    order.shows_short();
-    Ok((before, order.len(), order.as_slice()[0], order.get(1)))
+    Ok((before, order.len(), order.as_slice()[0], *order.get(1)))
 }
 
 #[test]

@@ -98,6 +98,7 @@ fn piece_of(bytes: &[u8]) -> Piece<'_>
 }
 
 // A copy of what was read, with why reading stopped and what is left.
+#[inline(always)]
 fn copy_up_to<'a>(
     alloc: Global,
     bytes: &[u8],
@@ -112,6 +113,7 @@ fn copy_up_to<'a>(
 }
 
 // What a run and the bytes behind it spell. It is built in the scratch buffer, whatever that held.
+#[inline(never)]
 fn read_on<'a>(
     alloc: Global,
     scratch: &mut Vec<u8>,
@@ -122,7 +124,7 @@ fn read_on<'a>(
     ensures within { IfOk result (λ text. length text.left.now + passed text.stop ≤ length bytes.now) }
 {
     scratch.clear();
-    scratch.extend_from_slice(run)?;
+    add_run(scratch, run)?;
     let mut left = bytes;
     loop {
         match piece_of(left) {
@@ -141,6 +143,7 @@ fn read_on<'a>(
 
 /// The bytes that are spelled up to the end, the separator or a fault. One plain run is copied as it stands; only a
 /// text with an escape in it is built in the scratch buffer, whatever that held.
+#[inline(always)]
 pub fn read_text<'a>(
     alloc: Global,
     scratch: &mut Vec<u8>,

@@ -65,7 +65,8 @@ commit_allowed false history transaction = committed history transaction
 
 -- one that is refused for its size was tried; one on a life that takes no call is only refused
 abbrev pub commit_refused : Phase → ℕ → Transaction → Called
-commit_refused phase.Active code transaction = answers (with_phase transaction (phase.Tried (tried.Refused (code_of code)))) (reply.Fault (code_of code))
+commit_refused phase.Active code transaction =
+    answers (with_phase transaction (phase.Tried (tried.Refused (code_of code)))) (reply.Fault (code_of code))
 commit_refused _ code transaction = refuses transaction code
 
 abbrev pub commit_by : Option ℕ → History → Transaction → Called
@@ -105,7 +106,8 @@ atomic_called transaction op key operand = write_by (set_code transaction key op
 
 -- one by its name
 abbrev pub named_atomic_called : Transaction → List ℕ → List ℕ → List ℕ → Called
-named_atomic_called transaction name key operand = atomic_by (atomic_code transaction name key operand) (atomic_named name) transaction key operand
+named_atomic_called transaction name key operand =
+    atomic_by (atomic_code transaction name key operand) (atomic_named name) transaction key operand
 
 abbrev pub commit_called : History → Transaction → Called
 commit_called history transaction = commit_by (commit_code transaction) history transaction

@@ -4,7 +4,8 @@ use Rattle.std.specs.List.{AllByRecursion}
 use Rattle.std.proofs.Math.Nat.{pow-suc}
 use Rattle.std.proofs.lemmas.List.{reverse-append, length-reverse, length-map, length-take, map-append, take_more}
 use Rattle.fdb_tuple.specs.Spelling.{signed_byte, with_sign}
-use Rattle.fdb_tuple.specs.Reading.{number_low, number_high}
+use Rattle.key_bytes.specs.Numbers.{number_low}
+use Rattle.fdb_tuple.specs.Reading.{number_high}
 
 abbrev pub AreBytes : List ℕ → Type 0
 AreBytes bytes = AllByRecursion (λ b. b < 256) bytes

@@ -5,7 +5,7 @@ use Rattle.std.proofs.Math.Nat.{pow-suc, pow-succ', div-div-eq-div-mul}
 use Rattle.std.proofs.lemmas.Nat.{div_below, le-div}
 use Rattle.std.proofs.lemmas.List.{reverse-append, map-append}
 use Rattle.fdb_tuple.specs.Spelling.{low_first, with_sign}
-use Rattle.fdb_tuple.specs.Reading.{number_low}
+use Rattle.key_bytes.specs.Numbers.{number_low}
 
 -- ---- a number of its digits, and the digits of a number
 

@@ -13,7 +13,8 @@ use Rattle.fdb_tuple.specs.declared.piece.Piece.TheVariants as piece
 use Rattle.fdb_tuple.specs.Tuples.{Int, IsScalar, greatest_magnitude}
 use Rattle.fdb_tuple.specs.Spelling.{low_first, least_bytes, signed_byte, with_sign, int_code, signed_spelled, int_spelled}
 use Rattle.fdb_tuple.specs.Kinds.{kind_of}
-use Rattle.fdb_tuple.specs.Reading.{number_low, number_high, int_of, int_by, leads_with_zero, short_at, sized_at, long_at, held, coded_at}
+use Rattle.key_bytes.specs.Numbers.{number_low}
+use Rattle.fdb_tuple.specs.Reading.{number_high, int_of, int_by, leads_with_zero, short_at, sized_at, long_at, held, coded_at}
 use Rattle.fdb_tuple.specs.Stops.{IsFaultyKind, IsFaultyLong}
 use Rattle.fdb_tuple.proofs.ByteLists.{AreBytes, AreBytes-take, AreBytes-reverse, AreBytes-with_sign, number_high_below}
 use Rattle.fdb_tuple.proofs.Codes.{negative_kind, positive_kind}

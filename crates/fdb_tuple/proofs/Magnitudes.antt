@@ -5,7 +5,8 @@ use Rattle.std.proofs.lemmas.Bool.{eqb-false}
 use Rattle.std.proofs.lemmas.List.{reverse-append, length-reverse, length-map, length-take}
 use Rattle.fdb_tuple.specs.Tuples.{greatest_magnitude}
 use Rattle.fdb_tuple.specs.Spelling.{signed_byte, with_sign}
-use Rattle.fdb_tuple.specs.Reading.{number_low, number_high, leads_with_zero}
+use Rattle.key_bytes.specs.Numbers.{number_low}
+use Rattle.fdb_tuple.specs.Reading.{number_high, leads_with_zero}
 use Rattle.fdb_tuple.proofs.ByteLists.{AreBytes, AreBytes-take, AreBytes-with_sign, number_high_below}
 
 number_low-push : (bytes : List ℕ) (b : ℕ) → number_low (bytes ++ b ∷ []) ≡ number_low bytes + 256 ^ length bytes * b

@@ -7,7 +7,8 @@ use Rattle.fdb_tuple.specs.declared.fault.StampPackFault.TheVariants as stamp
 use Rattle.fdb_tuple.specs.Tuples.{Elements, Empty, Single, Nested, Null, Bytes, Text, Int, Stamp}
 use Rattle.fdb_tuple.specs.Spelling.{low_first, least_bytes, signed_spelled, int_spelled, spelling}
 use Rattle.fdb_tuple.specs.Kinds.{kind_of}
-use Rattle.fdb_tuple.specs.Reading.{string_at, bytes_at, text_at, number_low, short_at, sized_at, coded_at, piece_at, elements_at, read_tuple}
+use Rattle.key_bytes.specs.Numbers.{number_low}
+use Rattle.fdb_tuple.specs.Reading.{string_at, bytes_at, text_at, short_at, sized_at, coded_at, piece_at, elements_at, read_tuple}
 use Rattle.fdb_tuple.specs.Stamps.{incomplete, stamp_packed}
 
 -- ---- spellings

@@ -3,6 +3,7 @@
 use Rattle.std.specs.Prelude.{◌≡◌, ℕ, zero, suc, ◌+◌, ◌-◌, ◌*◌, Bool, true, false, ◌==◌, nat_lt, if◌then◌else◌, List, [], ◌∷◌, ◌++◌, length, take, drop, reverse, ℤ, pos, neg_ℤ, Option, Some, None, Result, Ok, Err}
 use Rattle.std.specs.Int.{w16, from_be_bytes}
 use Rattle.std.specs.Str.{is_utf8}
+use Rattle.key_bytes.specs.Numbers.{number_low}
 use Rattle.fdb_tuple.specs.declared.fault.UnpackFault.{UnpackFault}
 use Rattle.fdb_tuple.specs.declared.fault.UnpackFault.TheVariants as fault
 use Rattle.fdb_tuple.specs.declared.tuple.Elem.{Elem}
@@ -64,11 +65,6 @@ text_at whole place rest = do
   if is_utf8 string.0 then Ok (elem.Text string.0, string.1) else Err (fault.BadUtf8 place)
 
 -- ---- integers
-
--- the number with these digits to the base 256, the lowest first
-unfoldable pub number_low : List ℕ → ℕ
-number_low [] = 0
-number_low (b ∷ bytes) = b + 256 * number_low bytes
 
 -- the number with these digits, the highest first
 abbrev pub number_high : List ℕ → ℕ

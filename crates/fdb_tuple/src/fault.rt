@@ -60,14 +60,6 @@ pub enum StampPackFault {
     NoMemory,
 }
 
-impl From<AllocError> for PushFault {
-    ghost from_gives = { λ _ e. e ≡ push.NoMemory };
-
-    fn from(_e: AllocError) -> PushFault {
-        PushFault::NoMemory
-    }
-}
-
 impl<T: Drop> From<AllocFailed<T>> for PushFault {
     ghost from_gives = { λ _ e. e ≡ push.NoMemory };
 
@@ -84,26 +76,10 @@ impl From<AllocError> for UnpackFault {
     }
 }
 
-impl<T: Drop> From<AllocFailed<T>> for UnpackFault {
-    ghost from_gives = { λ _ e. e ≡ unpack.NoMemory };
-
-    fn from(_e: AllocFailed<T>) -> UnpackFault {
-        UnpackFault::NoMemory
-    }
-}
-
 impl From<AllocError> for StampPackFault {
     ghost from_gives = { λ _ e. e ≡ stamp.NoMemory };
 
     fn from(_e: AllocError) -> StampPackFault {
-        StampPackFault::NoMemory
-    }
-}
-
-impl<T: Drop> From<AllocFailed<T>> for StampPackFault {
-    ghost from_gives = { λ _ e. e ≡ stamp.NoMemory };
-
-    fn from(_e: AllocFailed<T>) -> StampPackFault {
         StampPackFault::NoMemory
     }
 }

@@ -31,7 +31,7 @@ fn tuple_len(tuple: &Tuple, nested: bool) -> usize
 pub(crate) fn element_len(element: &Elem, nested: bool) -> usize
     ensures { result ≡ min (length (spelled_in nested (before element.now Empty))) (2 ^ 64 - 1) }
 {
-    element.is_lawful();
+    element.shows_element();
     match element {
         Elem::Null => 1 + usize::from(nested),
         Elem::Bytes(bytes) => string_len(bytes.as_slice()),

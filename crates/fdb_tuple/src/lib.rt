@@ -24,7 +24,7 @@ mod zeros;
 pub use fault::{PushFault, StampPackFault, UnpackFault};
 pub use lengths::packed_len;
 pub use order::cmp;
-pub use packing::{pack, pack_element, pack_into, pack_with_stamp, range};
+pub use packing::{pack, pack_element, pack_element_into, pack_into, pack_with_stamp, range};
 pub use text::Text;
 pub use tuple::{Elem, Tuple, Versionstamp};
 pub use unpacking::unpack;

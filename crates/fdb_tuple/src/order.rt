@@ -18,8 +18,8 @@ pub fn cmp(a: &Tuple, b: &Tuple) -> Ordering
     ensures order { result ≡ tuple_cmp a.now b.now }
     ensures bytes { result ≡ key_cmp (spelling a.now) (spelling b.now) }
 {
-    a.is_tuple();
-    b.is_tuple();
+    a.shows_tuple();
+    b.shows_tuple();
     tuple_order(a, b)
 }
 

@@ -47,7 +47,7 @@ impl Walk {
         ensures many { IfErr result (λ fault. (fault ≡ StampPackFault.ManyStamps)
             × (2 ≤ length (option_to_list self.old.found ++ stamp_places nested self.old.at (before element.now Empty)))) }
     {
-        element.is_lawful();
+        element.shows_element();
         match element {
             Elem::Nested(tuple) => self.over_nested(tuple),
             Elem::Stamp(stamp) => self.over_stamp(stamp),

@@ -113,14 +113,14 @@ fn elements(rt: HostRuntime) -> Result<(), Fail> {
 fn tuples(rt: HostRuntime) -> Result<(), Fail> {
     let alloc = rt.alloc();
     let tuple = example(alloc)?.copy()?;
-    tuple.is_tuple();
     assert_eq!(rt; tuple.len(), 3);
     assert_eq!(rt; tuple.depth(), 1);
     assert!(rt; matches!(tuple.get(1), Elem::Null));
     assert_eq!(rt; tuple.as_slice().len(), 3);
-    let mut packed = Bytes::from_slice(alloc, b"key")?;
+    let mut packed = Vec::from_slice(alloc, b"key")?;
     pack_into(&mut packed, &tuple)?;
-    assert!(rt; packed.as_slice() == b"key\x01foo\x00\xFFbar\x00\x00\x05\x00".as_slice());
+    pack_element_into(&mut packed, &Elem::Int(-1))?;
+    assert!(rt; packed.as_slice() == b"key\x01foo\x00\xFFbar\x00\x00\x05\x00\x13\xFE".as_slice());
     let range = range(alloc, &tuple)?;
     assert!(rt; range.begin.as_slice() == b"\x01foo\x00\xFFbar\x00\x00\x05\x00\x00".as_slice());
     assert!(rt; range.end.as_slice() == b"\x01foo\x00\xFFbar\x00\x00\x05\x00\xFF".as_slice());

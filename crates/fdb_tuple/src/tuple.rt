@@ -101,15 +101,15 @@ impl Elem {
     {
         match self {
             Elem::Nested(tuple) => {
-                tuple.is_tuple();
+                tuple.shows_tuple();
                 tuple.depth() + 1
             }
             _ => 0,
         }
     }
 
-    // That contracts see an element of a tuple. It does nothing when it runs.
-    pub(crate) fn is_lawful(&self)
+    // For proofs: contracts see an element of a tuple. It does nothing when it runs.
+    pub(crate) fn shows_element(&self)
         ensures { AreElements (before self.now Empty) }
     {
         match self {
@@ -118,30 +118,30 @@ impl Elem {
             Elem::Text(text) => {
                 let _bytes = text.as_bytes();
             }
-            Elem::Nested(tuple) => tuple.is_tuple(),
+            Elem::Nested(tuple) => tuple.shows_tuple(),
             Elem::Int(number) => {
                 let _number = *number;
             }
-            Elem::Uuid(bytes) => are_bytes(bytes),
-            Elem::Stamp(stamp) => stamp.is_lawful(),
+            Elem::Uuid(bytes) => shows_bytes(bytes),
+            Elem::Stamp(stamp) => stamp.shows_stamp(),
         }
     }
 }
 
 impl Versionstamp {
-    // That contracts see the 10 bytes of a versionstamp, and a number of 16 bits. It does nothing when it runs.
-    fn is_lawful(&self)
+    // For proofs: contracts see the 10 bytes of a versionstamp, and a number of 16 bits. It does nothing when it runs.
+    fn shows_stamp(&self)
         ensures bytes { IsByteString self.now.stamp }
         ensures count { length self.now.stamp ≡ 10 }
         ensures user { self.now.user < 2 ^ 16 }
     {
-        are_bytes(&self.stamp);
+        shows_bytes(&self.stamp);
         let _user = self.user;
     }
 }
 
-// That contracts see numbers from 0 to 255. It does nothing when it runs.
-fn are_bytes(bytes: &[u8])
+// For proofs: contracts see numbers from 0 to 255. It does nothing when it runs.
+fn shows_bytes(bytes: &[u8])
     ensures { IsByteString bytes.now }
 {}
 
@@ -201,8 +201,8 @@ impl Tuple {
         self.items
     }
 
-    /// That contracts see a tuple: what its elements are, and that its depth is at most 100. It does nothing when it runs.
-    pub fn is_tuple(&self)
+    // For proofs: contracts see a tuple, whose elements are lawful, and whose depth is at most 100. It does nothing when it runs.
+    pub(crate) fn shows_tuple(&self)
         ensures { IsTuple self.now }
     {
         let _items = &self.items;
@@ -220,7 +220,7 @@ impl Tuple {
         if depth > MAX_DEPTH {
             return Err(PushFault::TooDeep);
         }
-        element.is_lawful();
+        element.shows_element();
         self.items.push(element)?;
         self.depth = self.depth.max(depth);
         Ok(())

@@ -222,7 +222,7 @@ fn escaped_string_of(
         let Some(others) = after_escape(after) else {
             return Ok((string, after));
         };
-        string.push(0)?;
+        string.extend_from_slice(&[0x00])?;
         rest = others;
     }
     Err(UnpackFault::Truncated(whole))

@@ -26,7 +26,8 @@ St V C = State (Slot V C) (View V C)
 
 -- a test of a number chooses between two facts
 pub chosen : (n k : ℕ) (P Q : Type 0) → (n ≡ k → P) → (n ≢ k → Q) → MatchBool (n == k) P Q
-chosen n k P Q hit miss = dite (ℕ_discrete n k) (λ e. subst (λ b. MatchBool b P Q) (sym (eq-eqb n k e)) (hit e)) (λ ne. subst (λ b. MatchBool b P Q) (sym (ne_eqb n k ne)) (miss ne))
+chosen n k P Q hit miss =
+    dite (ℕ_discrete n k) (λ e. subst (λ b. MatchBool b P Q) (sym (eq-eqb n k e)) (hit e)) (λ ne. subst (λ b. MatchBool b P Q) (sym (ne_eqb n k ne)) (miss ne))
 
 module _ {A : Type 0} where
   one_more : (n : ℕ) (x : A) → replicate n x ++ x ∷ [] ≡ replicate (suc n) x
@@ -58,7 +59,8 @@ module _ {V C : Type 0} where
   over_at (suc n) zero v e = sym (some-injective Over v e)
   over_at (suc n) (suc id) v e = over_at n id v e
 
-  pub setter_seat : (phase : Phase V C) (id : ℕ) (p : SetterStage V) → At phase id (Sets p) → (id ≡ 0) × ((w : WaiterStage V C) × (phase ≡ shared p w))
+  pub setter_seat : (phase : Phase V C) (id : ℕ) (p : SetterStage V) → At phase id (Sets p)
+      → (id ≡ 0) × ((w : WaiterStage V C) × (phase ≡ shared p w))
   setter_seat unsplit zero p e = cc
   setter_seat unsplit (suc id) p e = cc
   setter_seat (shared q w) zero p e = (refl, (w, ap (λ v. shared (setter_in v) w) (some-injective (Sets q) (Sets p) e)))
@@ -71,7 +73,8 @@ module _ {V C : Type 0} where
   setter_seat (over n) (suc zero) p e = cc
   setter_seat (over n) (suc (suc id)) p e = let is = over_at n id (Sets p) e in cc
 
-  pub waiter_seat : (phase : Phase V C) (id : ℕ) (w : WaiterStage V C) → At phase id (Waits w) → (id ≡ 1) × ((p : SetterStage V) × (phase ≡ shared p w))
+  pub waiter_seat : (phase : Phase V C) (id : ℕ) (w : WaiterStage V C) → At phase id (Waits w)
+      → (id ≡ 1) × ((p : SetterStage V) × (phase ≡ shared p w))
   waiter_seat unsplit zero w e = cc
   waiter_seat unsplit (suc id) w e = cc
   waiter_seat (shared p u) zero w e = cc
@@ -84,7 +87,8 @@ module _ {V C : Type 0} where
   waiter_seat (over n) (suc zero) w e = cc
   waiter_seat (over n) (suc (suc id)) w e = let is = over_at n id (Waits w) e in cc
 
-  pub joined_seat : (phase : Phase V C) (id : ℕ) (p : SetterStage V) (w : WaiterStage V C) → At phase id (Meets p w) → (id ≡ 0) × (phase ≡ joined p w)
+  pub joined_seat : (phase : Phase V C) (id : ℕ) (p : SetterStage V) (w : WaiterStage V C) → At phase id (Meets p w)
+      → (id ≡ 0) × (phase ≡ joined p w)
   joined_seat unsplit zero p w e = cc
   joined_seat unsplit (suc id) p w e = cc
   joined_seat (shared q u) zero p w e = cc
@@ -122,7 +126,8 @@ module _ {V C : Type 0} where
       let same : state_of (shared p w) ≡ s = sym (r.2 ∙ ap state_of here.1.1) in
       subst (λ (t : ℕ × St V C). Steps t.0 m f then t.1) (λ i. (sym here.0 i, same i)) (each p sound)
 
-  joined_steps : (n id : ℕ) (m : Place V C) (f : ℕ → ℕ) (then : ℕ → Place V C → Type 0) (p : SetterStage V) (w : WaiterStage V C) → m.0 ≡ Meets p w
+  joined_steps : (n id : ℕ) (m : Place V C) (f : ℕ → ℕ) (then : ℕ → Place V C → Type 0) (p : SetterStage V) (w : WaiterStage V C)
+      → m.0 ≡ Meets p w
       → (Agree p w → Steps 0 m f then (state_of (joined p w))) → Allows Ruled n id m 0 f then
   joined_steps n id m f then p w is each s r wide at fits =
       let seat : At r.0 id (Meets p w) = subst (λ (t : St V C). get_elem? t.views id ≡ some (Meets p w)) r.2 (at ∙ ap some is) in
@@ -151,21 +156,26 @@ module _ {V C : Type 0} where
   publish_at v (Taken x) k l f a b = cc
 
   -- the value is out
-  pub publishes : (n id : ℕ) (m : Place V C) (v : V) → m ≡ (Sets Filling, (0, Some (Value v)) ∷ []) → Allows Ruled n id m 0 (λ _. 2) (λ n after. PublishedIn (value_in_hand m.1) n after)
-  publishes n id m v is = subst (λ (x : Place V C). Allows Ruled n id x 0 (λ _. 2) (λ n after. PublishedIn (value_in_hand x.1) n after)) (sym is)
+  pub publishes : (n id : ℕ) (m : Place V C) (v : V) → m ≡ (Sets Filling, (0, Some (Value v)) ∷ [])
+      → Allows Ruled n id m 0 (λ _. 2) (λ n after. PublishedIn (value_in_hand m.1) n after)
+  publishes n id m v is =
+      subst (λ (x : Place V C). Allows Ruled n id x 0 (λ _. 2) (λ n after. PublishedIn (value_in_hand x.1) n after)) (sym is)
       (setter_steps n id (Sets Filling, (0, Some (Value v)) ∷ []) (λ _. 2) (λ n after. Published v n after) Filling refl
       (λ w sound. publish_at v w.known w.callback w.looks w.found sound.0 sound.1))
 
-  finish_at : (v : V) (known : Known V) (k : CallbackStage C) (l f : ℕ) → ValuesAgree (Running v) known → CallbacksAgree {V = V} (Running v) k
+  finish_at : (v : V) (known : Known V) (k : CallbackStage C) (l f : ℕ) → ValuesAgree (Running v) known
+      → CallbacksAgree {V = V} (Running v) k
       → Steps 0 (Sets (Running v), (1, None) ∷ []) (λ n. n) (λ _ after. HasFinished (Running v) after) (state_of (shared (Running v) (waiter_stage known k l f)))
   finish_at v known Unregistered l f a b = cc
   finish_at v known Laying l f a b = cc
-  finish_at v known (Lies c) l f a b = (Sets (Finished v true), gives, tt, (shared (Finished v true) (waiter_stage known (Lies c) l f), (a, refl), refl), refl)
+  finish_at v known (Lies c) l f a b =
+      (Sets (Finished v true), gives, tt, (shared (Finished v true) (waiter_stage known (Lies c) l f), (a, refl), refl), refl)
   finish_at v known Refused l f a b = cc
   finish_at v known Returned l f a b = cc
 
   -- the setter gives slot 1 back
-  pub finishes : (n id : ℕ) (m : Place V C) (v : V) → m ≡ (Sets (Running v), (1, None) ∷ []) → Allows Ruled n id m 0 (λ n. n) (λ _ after. HasFinished (setter_in m.0) after)
+  pub finishes : (n id : ℕ) (m : Place V C) (v : V) → m ≡ (Sets (Running v), (1, None) ∷ [])
+      → Allows Ruled n id m 0 (λ n. n) (λ _ after. HasFinished (setter_in m.0) after)
   finishes n id m v is = subst (λ (x : Place V C). Allows Ruled n id x 0 (λ n. n) (λ _ after. HasFinished (setter_in x.0) after)) (sym is)
       (setter_steps n id (Sets (Running v), (1, None) ∷ []) (λ n. n) (λ _ after. HasFinished (Running v) after) (Running v) refl
       (λ w sound. finish_at v w.known w.callback w.looks w.found sound.0 sound.1))
@@ -182,7 +192,8 @@ module _ {V C : Type 0} where
       (Waits w, takes 0 (Some (Value v)), refl, (shared (Finished v ran) w, (refl, b), refl), ((λ _. (v, refl)), λ n. absurd (n refl)))
 
   -- the waiter, which has no value, looks at the word
-  pub looks : (n id : ℕ) (m : Place V C) (w : WaiterStage V C) → m ≡ (Waits w, []) → w.known ≡ Unseen → Allows Ruled n id m 0 (λ n. n) (λ n after. Looked (waiter_in m.0) n after)
+  pub looks : (n id : ℕ) (m : Place V C) (w : WaiterStage V C) → m ≡ (Waits w, []) → w.known ≡ Unseen
+      → Allows Ruled n id m 0 (λ n. n) (λ n after. Looked (waiter_in m.0) n after)
   looks n id m w is unseen =
       let u = waiter_stage Unseen w.callback w.looks w.found in
       let is' : m ≡ (Waits u, []) = is ∙ ap (λ known. (Waits (waiter_stage known w.callback w.looks w.found), [])) unseen in
@@ -194,10 +205,12 @@ module _ {V C : Type 0} where
   keep_at Unset v k l f a b = cc
   keep_at Filling v k l f a b = cc
   keep_at (Running u) v k l f a b = let w = waiter_stage (Taken v) k l f in (Waits w, gives, tt, (shared (Running u) w, (a, b), refl), refl)
-  keep_at (Finished u ran) v k l f a b = let w = waiter_stage (Taken v) k l f in (Waits w, gives, tt, (shared (Finished u ran) w, (a, b), refl), refl)
+  keep_at (Finished u ran) v k l f a b =
+      let w = waiter_stage (Taken v) k l f in (Waits w, gives, tt, (shared (Finished u ran) w, (a, b), refl), refl)
 
   -- the waiter keeps the value, and gives slot 0 back
-  pub keeps_value : (n id : ℕ) (m : Place V C) (w : WaiterStage V C) (v : V) → m ≡ (Waits w, (0, None) ∷ []) → w.known ≡ Taking v → Allows Ruled n id m 0 (λ n. n) (λ _ after. Kept (waiter_in m.0) after)
+  pub keeps_value : (n id : ℕ) (m : Place V C) (w : WaiterStage V C) (v : V) → m ≡ (Waits w, (0, None) ∷ []) → w.known ≡ Taking v
+      → Allows Ruled n id m 0 (λ n. n) (λ _ after. Kept (waiter_in m.0) after)
   keeps_value n id m w v is taking =
       let u = waiter_stage (Taking v) w.callback w.looks w.found in
       let is' : m ≡ (Waits u, (0, None) ∷ []) = is ∙ ap (λ known. (Waits (waiter_stage known w.callback w.looks w.found), (0, None) ∷ [])) taking in
@@ -206,13 +219,17 @@ module _ {V C : Type 0} where
 
   reserve_at : (p : SetterStage V) (known : Known V) (l f : ℕ) → ValuesAgree p known → CallbacksAgree {C = C} p Unregistered
       → Steps 1 (Waits (waiter_stage known Unregistered l f), []) (λ n. n) (λ _ after. Reserved (waiter_stage known Unregistered l f) after) (state_of (shared p (waiter_stage known Unregistered l f)))
-  reserve_at Unset known l f a b = let w = waiter_stage known Laying l f in (Waits w, takes 1 None, refl, (shared Unset w, (a, b), refl), refl)
-  reserve_at Filling known l f a b = let w = waiter_stage known Laying l f in (Waits w, takes 1 None, refl, (shared Filling w, (a, b), refl), refl)
+  reserve_at Unset known l f a b =
+      let w = waiter_stage known Laying l f in (Waits w, takes 1 None, refl, (shared Unset w, (a, b), refl), refl)
+  reserve_at Filling known l f a b =
+      let w = waiter_stage known Laying l f in (Waits w, takes 1 None, refl, (shared Filling w, (a, b), refl), refl)
   reserve_at (Running u) known l f a b = cc
-  reserve_at (Finished u ran) known l f a b = let w = waiter_stage known Laying l f in (Waits w, takes 1 None, refl, (shared (Finished u ran) w, (a, b), refl), refl)
+  reserve_at (Finished u ran) known l f a b =
+      let w = waiter_stage known Laying l f in (Waits w, takes 1 None, refl, (shared (Finished u ran) w, (a, b), refl), refl)
 
   -- the waiter takes slot 1
-  pub reserves : (n id : ℕ) (m : Place V C) (w : WaiterStage V C) → m ≡ (Waits w, []) → w.callback ≡ Unregistered → Allows Ruled n id m 0 (λ n. n) (λ _ after. Reserved (waiter_in m.0) after)
+  pub reserves : (n id : ℕ) (m : Place V C) (w : WaiterStage V C) → m ≡ (Waits w, []) → w.callback ≡ Unregistered
+      → Allows Ruled n id m 0 (λ n. n) (λ _ after. Reserved (waiter_in m.0) after)
   reserves n id m w is none_yet =
       let u = waiter_stage w.known Unregistered w.looks w.found in
       let is' : m ≡ (Waits u, []) = is ∙ ap (λ k. (Waits (waiter_stage w.known k w.looks w.found), [])) none_yet in
@@ -221,10 +238,13 @@ module _ {V C : Type 0} where
 
   park_at : (p : SetterStage V) (c : C) (known : Known V) (l f : ℕ) → ValuesAgree p known → CallbacksAgree {C = C} p Laying
       → Steps 1 (Waits (waiter_stage known Laying l f), (1, Some (Callback c)) ∷ []) (λ n. either (n == 0) 1 n) (Parked c (waiter_stage known Laying l f)) (state_of (shared p (waiter_stage known Laying l f)))
-  park_at Unset c known l f a b = let w = waiter_stage known (Lies c) (l + 1) 0 in (Waits w, gives, tt, (shared Unset w, (a, refl), refl), ((λ _. refl), λ n. absurd (n refl)))
-  park_at Filling c known l f a b = let w = waiter_stage known (Lies c) (l + 1) 0 in (Waits w, gives, tt, (shared Filling w, (a, refl), refl), ((λ _. refl), λ n. absurd (n refl)))
+  park_at Unset c known l f a b =
+      let w = waiter_stage known (Lies c) (l + 1) 0 in (Waits w, gives, tt, (shared Unset w, (a, refl), refl), ((λ _. refl), λ n. absurd (n refl)))
+  park_at Filling c known l f a b =
+      let w = waiter_stage known (Lies c) (l + 1) 0 in (Waits w, gives, tt, (shared Filling w, (a, refl), refl), ((λ _. refl), λ n. absurd (n refl)))
   park_at (Running u) c known l f a b = cc
-  park_at (Finished u ran) c known l f a b = let w = waiter_stage known Refused (l + 1) 2 in (Waits w, keeps, tt, (shared (Finished u ran) w, (a, b), refl), ((λ e. absurd (omega arith)), λ _. (refl, refl)))
+  park_at (Finished u ran) c known l f a b =
+      let w = waiter_stage known Refused (l + 1) 2 in (Waits w, keeps, tt, (shared (Finished u ran) w, (a, b), refl), ((λ e. absurd (omega arith)), λ _. (refl, refl)))
 
   -- the callback is parked where the word was 0
   pub parks : (n id : ℕ) (m : Place V C) (w : WaiterStage V C) (c : C) → m ≡ (Waits w, (1, Some (Callback c)) ∷ []) → w.callback ≡ Laying
@@ -240,10 +260,12 @@ module _ {V C : Type 0} where
   restore_at Unset known l f a b = cc
   restore_at Filling known l f a b = cc
   restore_at (Running u) known l f a b = cc
-  restore_at (Finished u ran) known l f a b = let w = waiter_stage known Returned l f in (Waits w, gives, tt, (shared (Finished u ran) w, (a, b), refl), refl)
+  restore_at (Finished u ran) known l f a b =
+      let w = waiter_stage known Returned l f in (Waits w, gives, tt, (shared (Finished u ran) w, (a, b), refl), refl)
 
   -- the waiter gives slot 1 back
-  pub restores : (n id : ℕ) (m : Place V C) (w : WaiterStage V C) → m ≡ (Waits w, (1, None) ∷ []) → w.callback ≡ Refused → Allows Ruled n id m 0 (λ n. n) (λ _ after. Restored (waiter_in m.0) after)
+  pub restores : (n id : ℕ) (m : Place V C) (w : WaiterStage V C) → m ≡ (Waits w, (1, None) ∷ []) → w.callback ≡ Refused
+      → Allows Ruled n id m 0 (λ n. n) (λ _ after. Restored (waiter_in m.0) after)
   restores n id m w is refused =
       let u = waiter_stage w.known Refused w.looks w.found in
       let is' : m ≡ (Waits u, (1, None) ∷ []) = is ∙ ap (λ k. (Waits (waiter_stage w.known k w.looks w.found), (1, None) ∷ [])) refused in
@@ -251,7 +273,8 @@ module _ {V C : Type 0} where
       (waiter_steps n id (Waits u, (1, None) ∷ []) (λ n. n) (λ _ after. Restored u after) u refl (λ p sound. restore_at p w.known w.looks w.found sound.0 sound.1))
 
   -- the joined seat takes the value that was set
-  pub empties : (n id : ℕ) (m : Place V C) (v : V) (ran : Bool) (w : WaiterStage V C) → m ≡ (Meets (Finished v ran) w, []) → w.known ≡ Unseen
+  pub empties : (n id : ℕ) (m : Place V C) (v : V) (ran : Bool) (w : WaiterStage V C) → m ≡ (Meets (Finished v ran) w, [])
+      → w.known ≡ Unseen
       → Allows Ruled n id m 0 (λ n. n) (λ _ after. Emptied (setter_in m.0) (waiter_in m.0) after)
   empties n id m v ran w is unseen =
       let u = waiter_stage Unseen w.callback w.looks w.found in
@@ -261,7 +284,8 @@ module _ {V C : Type 0} where
       (joined_steps n id (Meets (Finished v ran) u, []) (λ n. n) (λ _ after. Emptied (Finished v ran) u after) (Finished v ran) u refl
       (λ sound. (Meets (Finished v ran) taking, takes 0 (Some (Value v)), refl, (joined (Finished v ran) taking, (refl, sound.1), refl), refl)))
 
-  close_at : (v : V) (ran : Bool) (known : Known V) (k : CallbackStage C) (l f : ℕ) → is_known known ≡ true → is_settled k ≡ true → Agree (Finished v ran) (waiter_stage known k l f)
+  close_at : (v : V) (ran : Bool) (known : Known V) (k : CallbackStage C) (l f : ℕ) → is_known known ≡ true → is_settled k ≡ true
+      → Agree (Finished v ran) (waiter_stage known k l f)
       → Steps 0 (Meets (Finished v ran) (waiter_stage known k l f), emptied_hand known) (λ n. n) (λ _ after. Closed (Finished v ran) (waiter_stage known k l f) after) (state_of (joined (Finished v ran) (waiter_stage known k l f)))
   close_at v ran Unseen k l f h s a = cc
   close_at v ran (Taking x) Unregistered l f h s a = (Over, gives, tt, (over 0, tt, refl), (refl, a))
@@ -276,9 +300,11 @@ module _ {V C : Type 0} where
   close_at v ran (Taken x) Returned l f h s a = (Over, keeps, tt, (over 0, tt, refl), (refl, a))
 
   -- the joined seat leaves both slots empty
-  pub closes : (n id : ℕ) (m : Place V C) (v : V) (ran : Bool) (w : WaiterStage V C) → m ≡ (Meets (Finished v ran) w, emptied_hand w.known) → is_known w.known ≡ true → is_settled w.callback ≡ true
+  pub closes : (n id : ℕ) (m : Place V C) (v : V) (ran : Bool) (w : WaiterStage V C) → m ≡ (Meets (Finished v ran) w, emptied_hand w.known)
+      → is_known w.known ≡ true → is_settled w.callback ≡ true
       → Allows Ruled n id m 0 (λ n. n) (λ _ after. Closed (setter_in m.0) (waiter_in m.0) after)
-  closes n id m v ran w is known settled = subst (λ (x : Place V C). Allows Ruled n id x 0 (λ n. n) (λ _ after. Closed (setter_in x.0) (waiter_in x.0) after)) (sym is)
+  closes n id m v ran w is known settled =
+      subst (λ (x : Place V C). Allows Ruled n id x 0 (λ n. n) (λ _ after. Closed (setter_in x.0) (waiter_in x.0) after)) (sym is)
       (joined_steps n id (Meets (Finished v ran) w, emptied_hand w.known) (λ n. n) (λ _ after. Closed (Finished v ran) w after) (Finished v ran) w refl
       (λ sound. close_at v ran w.known w.callback w.looks w.found known settled sound))
 
@@ -326,15 +352,19 @@ module _ {V C : Type 0} where
       subst (λ (t : St V C). Ruled record { words = t.words; homes = t.homes; views = set t.views id Over ++ Over ∷ [] }) same
       (over (suc n), tt, ap (λ vs. record { words = 2 ∷ []; homes = some None ∷ some None ∷ []; views = vs }) (ap (λ vs. vs ++ Over ∷ []) (set_again (views_of (over n)) id Over here') ∙ ap (λ vs. Over ∷ Spent ∷ vs) (one_more n Over)))
 
-  meet_at : (p : SetterStage V) (u w : WaiterStage V C) (other : ℕ) → Agree p u → ¬ (other ≡ 0) → get_elem? (Meets p w ∷ Waits u ∷ []) other ≡ some (Waits w)
+  meet_at : (p : SetterStage V) (u w : WaiterStage V C) (other : ℕ) → Agree p u → ¬ (other ≡ 0)
+      → get_elem? (Meets p w ∷ Waits u ∷ []) other ≡ some (Waits w)
       → Ruled record { words = words_of (shared p u); homes = homes_of (shared p u); views = set (Meets p w ∷ Waits u ∷ []) other Spent }
   meet_at p u w zero sound apart e = absurd (apart refl)
-  meet_at p u w (suc zero) sound apart e = (joined p u, sound, ap (λ v. record { words = words_of (shared p u); homes = homes_of (shared p u); views = Meets p (waiter_in v) ∷ Spent ∷ [] }) (sym (some-injective (Waits u) (Waits w) e)))
+  meet_at p u w (suc zero) sound apart e =
+      (joined p u, sound, ap (λ v. record { words = words_of (shared p u); homes = homes_of (shared p u); views = Meets p (waiter_in v) ∷ Spent ∷ [] }) (sym (some-injective (Waits u) (Waits w) e)))
   meet_at p u w (suc (suc other)) sound apart e = cc
 
   -- the setter's seat takes the waiter's in
-  pub meets : (id : ℕ) (v : View V C) (other : ℕ) (v' : View V C) (p : SetterStage V) (w : WaiterStage V C) → v ≡ Sets p → v' ≡ Waits w → Joins Ruled id v other v' (meeting v v') Spent
-  meets id v other v' p w is is' = subst (λ (t : View V C × View V C). Joins Ruled id t.0 other t.1 (meeting t.0 t.1) Spent) (λ i. (sym is i, sym is' i))
+  pub meets : (id : ℕ) (v : View V C) (other : ℕ) (v' : View V C) (p : SetterStage V) (w : WaiterStage V C) → v ≡ Sets p → v' ≡ Waits w
+      → Joins Ruled id v other v' (meeting v v') Spent
+  meets id v other v' p w is is' =
+      subst (λ (t : View V C × View V C). Joins Ruled id t.0 other t.1 (meeting t.0 t.1) Spent) (λ i. (sym is i, sym is' i))
       (λ s r at apart there.
       let seat : At r.0 id (Sets p) = subst (λ (t : St V C). get_elem? t.views id ≡ some (Sets p)) r.2 at in
       let here = setter_seat r.0 id p seat in
@@ -345,18 +375,21 @@ module _ {V C : Type 0} where
       subst (λ (t : ℕ × St V C). Ruled record { words = t.1.words; homes = t.1.homes; views = set (set t.1.views t.0 (Meets p w)) other Spent }) (λ i. (sym here.0 i, sym same i))
       (meet_at p u w other sound (subst (λ k. ¬ (other ≡ k)) here.0 apart) there'))
 
-  resting_at : (phase : Phase V C) (id : ℕ) (v : View V C) → At phase id v → is_resting v ≡ true → homes_of phase ≡ some None ∷ some None ∷ []
+  resting_at : (phase : Phase V C) (id : ℕ) (v : View V C) → At phase id v → is_resting v ≡ true
+      → homes_of phase ≡ some None ∷ some None ∷ []
   resting_at unsplit id v e r = refl
   resting_at (over n) id v e r = refl
   resting_at (shared p w) zero v e r = let is : Sets p ≡ v = some-injective _ _ e in let no : false ≡ true = ap is_resting is ∙ r in cc
-  resting_at (shared p w) (suc zero) v e r = let is : Waits w ≡ v = some-injective _ _ e in let no : false ≡ true = ap is_resting is ∙ r in cc
+  resting_at (shared p w) (suc zero) v e r =
+      let is : Waits w ≡ v = some-injective _ _ e in let no : false ≡ true = ap is_resting is ∙ r in cc
   resting_at (shared p w) (suc (suc id)) v e r = cc
   resting_at (joined p w) zero v e r = let is : Meets p w ≡ v = some-injective _ _ e in let no : false ≡ true = ap is_resting is ∙ r in cc
   resting_at (joined p w) (suc zero) v e r = let is : Spent ≡ v = some-injective _ _ e in let no : false ≡ true = ap is_resting is ∙ r in cc
   resting_at (joined p w) (suc (suc id)) v e r = cc
 
   -- the slots of a table at the end, where a seat at it rests
-  pub rests : (id : ℕ) (v : View V C) (words : List ℕ) (slots : List (Slot V C)) → Final (Seen Ruled id v) words slots → is_resting v ≡ true → (get_elem? slots 0 ≡ some None) × (get_elem? slots 1 ≡ some None)
+  pub rests : (id : ℕ) (v : View V C) (words : List ℕ) (slots : List (Slot V C)) → Final (Seen Ruled id v) words slots → is_resting v ≡ true
+      → (get_elem? slots 0 ≡ some None) × (get_elem? slots 1 ≡ some None)
   rests id v words slots f r =
       let s = f.0 in
       let rule = f.1.0 in
@@ -365,14 +398,16 @@ module _ {V C : Type 0} where
       (f.4 0 None (ap (λ hs. get_elem? hs 0) homes), f.4 1 None (ap (λ hs. get_elem? hs 1) homes))
 
   -- a write into the slot that was taken last
-  pub written : (before after : Place V C) (v : View V C) (k : ℕ) (old new : Slot V C) → before ≡ (v, (k, old) ∷ []) → after ≡ (before.0, (k, new) ∷ rest before.1) → after ≡ (v, (k, new) ∷ [])
+  pub written : (before after : Place V C) (v : View V C) (k : ℕ) (old new : Slot V C) → before ≡ (v, (k, old) ∷ [])
+      → after ≡ (before.0, (k, new) ∷ rest before.1) → after ≡ (v, (k, new) ∷ [])
   written before after v k old new is e = e ∙ ap (λ (m : Place V C). (m.0, (k, new) ∷ rest m.1)) is
 
   pub holding : (m : Place V C) (v : View V C) (k : ℕ) (x : Slot V C) → m ≡ (v, (k, x) ∷ []) → m.1 ≡ (k, x) ∷ rest m.1
   holding m v k x is = ap (λ (y : Place V C). y.1) is ∙ ap (λ (y : Place V C). (k, x) ∷ rest y.1) (sym is)
 
   -- what was read from it
-  pub found : (before : Place V C) (v : View V C) (k : ℕ) (old got : Slot V C) → before ≡ (v, (k, old) ∷ []) → before.1 ≡ (k, got) ∷ rest before.1 → got ≡ old
+  pub found : (before : Place V C) (v : View V C) (k : ℕ) (old got : Slot V C) → before ≡ (v, (k, old) ∷ [])
+      → before.1 ≡ (k, got) ∷ rest before.1 → got ≡ old
   found before v k old got is e = ap (item_in None) (sym e ∙ ap (λ (m : Place V C). m.1) is)
 
   finished_view : (v : View V C) (ran : Bool) → ran_in v ≡ Some ran → (x : V) × (v ≡ Sets (Finished x ran))

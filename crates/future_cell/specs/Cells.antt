@@ -47,7 +47,8 @@ module _ {V C : Type 0} where
 
   -- the same waiter later: what it showed it still shows
   abbrev pub Peeked : Waiter V C → Waiter V C → Type 0
-  Peeked old new = (waiter_cell new ≡ waiter_cell old) × (registration new ≡ registration old) × IfSome (shown old) (λ v. shown new ≡ Some v)
+  Peeked old new =
+      (waiter_cell new ≡ waiter_cell old) × (registration new ≡ registration old) × IfSome (shown old) (λ v. shown new ≡ Some v)
 
   -- No value is shown: the waiter looked once more, and the word that it found did not say that the value is there
   abbrev pub NotYet : Waiter V C → Waiter V C → Type 0

@@ -55,7 +55,8 @@ le_lt a b c above below = by (key_cmp b a) refl
     by : (o : Ordering) → key_cmp b a ≡ o → key_lt a c ≡ true
     by Less is = absurd (true≢false (sym (ap is_lt is) ∙ above))
     by Equal is = ap is_lt (sym (nat_list_cmp_total.congr b a c is)) ∙ below
-    by Greater is = ap is_lt (nat_list_cmp_total.trans a b c (nat_list_cmp_total.antisymm a b ∙ ap ordering_reverse is) (less (key_cmp b c) below))
+    by Greater is =
+        ap is_lt (nat_list_cmp_total.trans a b c (nat_list_cmp_total.antisymm a b ∙ ap ordering_reverse is) (less (key_cmp b c) below))
 
 -- the first is below the second, which is not above the third
 pub lt_le : (a b c : List ℕ) → key_lt a b ≡ true → key_lt c b ≡ false → key_lt a c ≡ true
@@ -63,8 +64,11 @@ lt_le a b c below above = by (key_cmp c b) refl
   where
     by : (o : Ordering) → key_cmp c b ≡ o → key_lt a c ≡ true
     by Less is = absurd (true≢false (sym (ap is_lt is) ∙ above))
-    by Equal is = ap is_lt (nat_list_cmp_total.antisymm a c ∙ ap ordering_reverse (nat_list_cmp_total.congr c b a is) ∙ sym (nat_list_cmp_total.antisymm a b)) ∙ below
-    by Greater is = ap is_lt (nat_list_cmp_total.trans a b c (less (key_cmp a b) below) (nat_list_cmp_total.antisymm b c ∙ ap ordering_reverse is))
+    by Equal is =
+        ap is_lt (nat_list_cmp_total.antisymm a c ∙ ap ordering_reverse (nat_list_cmp_total.congr c b a is) ∙ sym (nat_list_cmp_total.antisymm a b))
+        ∙ below
+    by Greater is =
+        ap is_lt (nat_list_cmp_total.trans a b c (less (key_cmp a b) below) (nat_list_cmp_total.antisymm b c ∙ ap ordering_reverse is))
 
 pub lt_trans : (a b c : List ℕ) → key_lt a b ≡ true → key_lt b c ≡ true → key_lt a c ≡ true
 lt_trans a b c p q = ap is_lt (nat_list_cmp_total.trans a b c (less (key_cmp a b) p) (less (key_cmp b c) q))
@@ -131,7 +135,9 @@ key_cmp-append [] [] x y e = refl
 key_cmp-append [] (d ∷ b) x y e = absurd (omega arith)
 key_cmp-append (c ∷ a) [] x y e = absurd (omega arith)
 key_cmp-append (c ∷ a) (d ∷ b) x y e =
-    ap (ordering_then (nat_cmp c d)) (key_cmp-append a b x y (omega arith)) ∙ sym (ordering_then-assoc (nat_cmp c d) (key_cmp a b) (key_cmp x y))
+    ap (ordering_then (nat_cmp c d)) (key_cmp-append a b x y (omega arith))
+    ∙ sym (ordering_then-assoc (nat_cmp c d) (key_cmp a b) (key_cmp x y))
 
 pub key_cmp-same_front : (a x y : List ℕ) → key_cmp (a ++ x) (a ++ y) ≡ key_cmp x y
-key_cmp-same_front a x y = key_cmp-append a a x y refl ∙ ap (λ (o : Ordering). ordering_then o (key_cmp x y)) (tied_itself nat_list_cmp_total a)
+key_cmp-same_front a x y =
+    key_cmp-append a a x y refl ∙ ap (λ (o : Ordering). ordering_then o (key_cmp x y)) (tied_itself nat_list_cmp_total a)

@@ -66,5 +66,6 @@ common_meets a b common =
     (not_below_greater key a.begin b.begin (not-true (key_lt key a.begin) first.0) (not-true (key_lt key b.begin) second.0))
     (below_the_lesser key a.end b.end first.1 second.1)
 
-pub meets_iff_common : (a b : KeyRange) → IsByteString a.begin → IsByteString b.begin → IsTrue (meets a b) ↔ ((key : List ℕ) × IsInBoth a b key)
+pub meets_iff_common : (a b : KeyRange) → IsByteString a.begin → IsByteString b.begin
+    → IsTrue (meets a b) ↔ ((key : List ℕ) × IsInBoth a b key)
 meets_iff_common a b are_a are_b = (has_common a b are_a are_b, common_meets a b)

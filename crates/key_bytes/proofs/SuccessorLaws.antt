@@ -31,14 +31,17 @@ begins_le (c ∷ k) (b ∷ p) h =
 
 -- ---- strinc, by the first byte
 
-split_some : (b : ℕ) (p next : List ℕ) → strinc (b ∷ p) ≡ Some next → ((n : List ℕ) × (strinc p ≡ Some n) × (b ∷ n ≡ next)) ⊎ ((strinc p ≡ None) × (b < 255) × ((b + 1) ∷ [] ≡ next))
+split_some : (b : ℕ) (p next : List ℕ) → strinc (b ∷ p) ≡ Some next
+    → ((n : List ℕ) × (strinc p ≡ Some n) × (b ∷ n ≡ next)) ⊎ ((strinc p ≡ None) × (b < 255) × ((b + 1) ∷ [] ≡ next))
 split_some b p next is = by (strinc p) refl is
   where
-    raises : (t : Bool) → nat_lt b 255 ≡ t → cond {A = Option (List ℕ)} t (Some ((b + 1) ∷ [])) None ≡ Some next → (b < 255) × ((b + 1) ∷ [] ≡ next)
+    raises : (t : Bool) → nat_lt b 255 ≡ t → cond {A = Option (List ℕ)} t (Some ((b + 1) ∷ [])) None ≡ Some next
+        → (b < 255) × ((b + 1) ∷ [] ≡ next)
     raises true e same = (ltb-true b 255 e, same_Some _ _ same)
     raises false e same = absurd (none-some next same)
 
-    by : (o : Option (List ℕ)) → strinc p ≡ o → option_map_or (λ n. Some (b ∷ n)) o (raised b) ≡ Some next → ((n : List ℕ) × (strinc p ≡ Some n) × (b ∷ n ≡ next)) ⊎ ((strinc p ≡ None) × (b < 255) × ((b + 1) ∷ [] ≡ next))
+    by : (o : Option (List ℕ)) → strinc p ≡ o → option_map_or (λ n. Some (b ∷ n)) o (raised b) ≡ Some next
+        → ((n : List ℕ) × (strinc p ≡ Some n) × (b ∷ n ≡ next)) ⊎ ((strinc p ≡ None) × (b < 255) × ((b + 1) ∷ [] ≡ next))
     by (Some n) e same = inl (n, e, same_Some _ _ same)
     by None e same = let low = raises (nat_lt b 255) refl same in inr (e, low.0, low.1)
 
@@ -71,10 +74,12 @@ tops_from_none (b ∷ p) bytes is =
     All-cons (λ b. b ≡ 255) b p (omega (arith, parts.1, below)) (tops_from_none p (All-tail (λ b. b < 256) b p bytes) parts.0)
 
 pub strinc-none : (p : List ℕ) → IsByteString p → (strinc p ≡ None) ↔ All (λ b. b ≡ 255) p
-strinc-none p bytes = (tops_from_none p bytes, λ all. none_from_tops p (All-weaker (λ b. b ≡ 255) (λ b. 255 ≤ b) (λ b e. omega arith) p all))
+strinc-none p bytes =
+    (tops_from_none p bytes, λ all. none_from_tops p (All-weaker (λ b. b ≡ 255) (λ b. 255 ≤ b) (λ b e. omega arith) p all))
 
 -- trailing FFs are dropped, and the byte before them is raised
-pub strinc-append : (front : List ℕ) (b : ℕ) (back : List ℕ) → b < 255 → All (λ b. 255 ≤ b) back → strinc (front ++ b ∷ back) ≡ Some (front ++ (b + 1) ∷ [])
+pub strinc-append : (front : List ℕ) (b : ℕ) (back : List ℕ) → b < 255 → All (λ b. 255 ≤ b) back
+    → strinc (front ++ b ∷ back) ≡ Some (front ++ (b + 1) ∷ [])
 strinc-append [] b back low high =
     ap (λ o. option_map_or (λ n. Some (b ∷ n)) o (raised b)) (none_from_tops back high) ∙ is_raised b low
   where
@@ -178,7 +183,8 @@ begins_with_tops (b ∷ p) (c ∷ k) key is from =
     let same : b ≡ c = omega (arith, parts.1, below, head) in
     begins_same b c k p same ∙ begins_with_tops p k (All-tail (λ b. b < 256) c k key) parts.0 (sym (lt_rest c b k p (sym same)) ∙ from)
 
-begins_between : (p next k : List ℕ) → IsByteString k → strinc p ≡ Some next → key_lt k p ≡ false → key_lt k next ≡ true → begins_with k p ≡ true
+begins_between : (p next k : List ℕ) → IsByteString k → strinc p ≡ Some next → key_lt k p ≡ false → key_lt k next ≡ true
+    → begins_with k p ≡ true
 begins_between [] next k key is from to = refl
 begins_between (b ∷ p) next [] key is from to = absurd (true≢false from)
 begins_between (b ∷ p) next (c ∷ k) key is from to =
@@ -201,7 +207,8 @@ begins_between (b ∷ p) next (c ∷ k) key is from to =
     rest = All-tail (λ b. b < 256) c k key
 
 -- the keys that begin with a prefix are those from it up to its strinc
-pub strinc-within : (prefix next k : List ℕ) → IsByteString k → strinc prefix ≡ Some next → IsTrue (begins_with k prefix) ↔ IsTrue (within prefix next k)
+pub strinc-within : (prefix next k : List ℕ) → IsByteString k → strinc prefix ≡ Some next
+    → IsTrue (begins_with k prefix) ↔ IsTrue (within prefix next k)
 strinc-within prefix next k key is = (there, back)
   where
     there : begins_with k prefix ≡ true → within prefix next k ≡ true

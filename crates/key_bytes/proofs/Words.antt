@@ -40,7 +40,8 @@ nat_cmp-shift a m n = elim (cases_order m n) [
 ]
 
 -- bytes of one number stand in the order of the numbers that they write
-key_cmp-number : (xs ys : List ℕ) → length xs ≡ length ys → IsByteString xs → IsByteString ys → key_cmp xs ys ≡ nat_cmp (number xs) (number ys)
+key_cmp-number : (xs ys : List ℕ) → length xs ≡ length ys → IsByteString xs → IsByteString ys
+    → key_cmp xs ys ≡ nat_cmp (number xs) (number ys)
 unfolding number
 key_cmp-number [] [] e are_xs are_ys = refl
 key_cmp-number [] (y ∷ ys) e are_xs are_ys = absurd (omega arith)
@@ -85,7 +86,8 @@ word_number (a ∷ b ∷ c ∷ d ∷ f ∷ g ∷ h ∷ []) e = absurd (omega ari
 word_number (a ∷ b ∷ c ∷ d ∷ f ∷ g ∷ h ∷ i ∷ []) e = omega arith
 word_number (a ∷ b ∷ c ∷ d ∷ f ∷ g ∷ h ∷ i ∷ j ∷ bytes) e = absurd (omega arith)
 
-pub key_cmp-words : (xs ys : List ℕ) → length xs ≡ 8 → length ys ≡ 8 → IsByteString xs → IsByteString ys → key_cmp xs ys ≡ nat_cmp (from_be_bytes w64 xs) (from_be_bytes w64 ys)
+pub key_cmp-words : (xs ys : List ℕ) → length xs ≡ 8 → length ys ≡ 8 → IsByteString xs → IsByteString ys
+    → key_cmp xs ys ≡ nat_cmp (from_be_bytes w64 xs) (from_be_bytes w64 ys)
 key_cmp-words xs ys eight_xs eight_ys are_xs are_ys =
     rw (word_number xs eight_xs, word_number ys eight_ys) (key_cmp-number xs ys (omega arith) are_xs are_ys)
 
@@ -135,7 +137,8 @@ nothing_above [] o differ h = absurd (differ (sym h))
 nothing_above (x ∷ xs) o differ h = h
 
 -- where the fronts of two rooms differ, what stands in the rooms is in their order
-pub fronts_decide : (k n m : ℕ) (a b : List ℕ) (o : Ordering) → length a ≡ length b → IsZeroFrom n a → IsZeroFrom m b → o ≢ Equal → key_cmp (take k a) (take k b) ≡ o → key_cmp (take n a) (take m b) ≡ o
+pub fronts_decide : (k n m : ℕ) (a b : List ℕ) (o : Ordering) → length a ≡ length b → IsZeroFrom n a → IsZeroFrom m b → o ≢ Equal
+    → key_cmp (take k a) (take k b) ≡ o → key_cmp (take n a) (take m b) ≡ o
 fronts_decide zero n m a b o e zeros_a zeros_b differ h = absurd (differ (sym h))
 fronts_decide (suc k) n m [] [] o e zeros_a zeros_b differ h = absurd (differ (sym h))
 fronts_decide (suc k) n m [] (y ∷ b) o e zeros_a zeros_b differ h = absurd (omega arith)
@@ -169,7 +172,8 @@ pub record HasWords (at first second : ℕ) (a b : List ℕ) : Type 0 where
   pub first_eight : length (take 8 (drop at a)) ≡ 8
   pub second_eight : length (take 8 (drop at b)) ≡ 8
 
-words_cmp : (at first second : ℕ) (a b : List ℕ) → HasWords at first second a b → key_cmp (take 8 (drop at a)) (take 8 (drop at b)) ≡ nat_cmp first second
+words_cmp : (at first second : ℕ) (a b : List ℕ) → HasWords at first second a b
+    → key_cmp (take 8 (drop at a)) (take 8 (drop at b)) ≡ nat_cmp first second
 words_cmp at first second a b w =
     key_cmp-words (take 8 (drop at a)) (take 8 (drop at b)) w.first_eight w.second_eight w.first_bytes w.second_bytes
     ∙ ap (λ (n : ℕ). nat_cmp n (from_be_bytes w64 (take 8 (drop at b)))) (sym w.first_is)
@@ -185,7 +189,8 @@ first_words_decide n m first second a b o e zeros_a zeros_b w is differ =
     sym (fronts_decide 8 n m a b o e zeros_a zeros_b differ (words_cmp 0 first second a b w ∙ sym is))
 
 -- the second words decide where the first are the same and they differ
-pub second_words_decide : (n m first second third fourth : ℕ) (a b : List ℕ) (o : Ordering) → length a ≡ length b → IsZeroFrom n a → IsZeroFrom m b
+pub second_words_decide : (n m first second third fourth : ℕ) (a b : List ℕ) (o : Ordering) → length a ≡ length b → IsZeroFrom n a
+    → IsZeroFrom m b
     → HasWords 0 first second a b → nat_cmp first second ≡ Equal → HasWords 8 third fourth a b → o ≡ nat_cmp third fourth → o ≢ Equal → o ≡ key_cmp (take n a) (take m b)
 second_words_decide n m first second third fourth a b o e zeros_a zeros_b w same later is differ =
     sym (fronts_decide 16 n m a b o e zeros_a zeros_b differ (

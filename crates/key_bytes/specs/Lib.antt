@@ -4,3 +4,4 @@ pub mod Ranges
 pub mod Entries
 pub mod Rooms
 pub mod Forms
+pub mod Numbers

@@ -85,6 +85,20 @@ fn inserts_and_removes(rt: HostRuntime) -> Result<(), Fail> {
     Ok(())
 }
 
+// The first value of a map whose entries are taken.
+fn first_taken(alloc: Global) -> Result<Option<u64>, AllocError> {
+    let mut map: KeyMap<u64> = KeyMap::new(alloc);
+    let _before = map.insert(key_of(alloc, b"b")?, 2)?;
+    let _before = map.insert(key_of(alloc, b"a")?, 1)?;
+    Ok(map.into_entries().next().map(|(_key, value)| value))
+}
+
+#[test]
+fn gives_its_entries(rt: HostRuntime) -> Result<(), Fail> {
+    assert_eq!(rt; first_taken(rt.alloc())?, Some(1));
+    Ok(())
+}
+
 // The pairs of a map that was made of these.
 fn loaded(alloc: Global, texts: &[(&'static [u8], &'static [u8])]) -> Result<Bytes, AllocError> {
     let map = KeyMap::from_pairs(alloc, pairs_of(alloc, texts)?)?;

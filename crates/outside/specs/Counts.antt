@@ -20,7 +20,3 @@ Rose-later before mid after falls rose = grind arith
 
 pub Rose-sooner : (before mid after : ℕ) → before ≤ mid → mid ≤ after → Rose before mid → Rose before after
 Rose-sooner before mid after falls stays rose = grind arith
-
--- a count that is always 0 never rose
-pub Rose-never : Rose 0 0 → ⊥
-Rose-never rose = grind arith

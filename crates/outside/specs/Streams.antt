@@ -54,10 +54,6 @@ pub record IsWhole (limit : ℕ) (before after : Option (List ℕ)) (items : Lis
   pub consumed : Consumes before after items
   pub end : IsAtEnd after
 
--- so they are the bytes that were left, where those were told
-pub IsWhole-left : (limit : ℕ) (before after : Option (List ℕ)) (items : List ℕ) → IsWhole limit before after items → IfSome before (λ left. left ≡ items)
-IsWhole-left limit before after items whole = Consumes-whole before after items (λ left. left ≡ items) whole.consumed whole.end refl
-
 -- `items` are as many bytes as the limit says, the front of those that were left
 pub record IsFull (limit : ℕ) (before after : Option (List ℕ)) (items : List ℕ) : Type 0 where
   pub exact : length items ≡ limit

@@ -34,7 +34,8 @@ cond_out false x y n = refl
 
 put_out : (low high : ℕ) (o : Owner) (who : ℕ → Owner) (p : ℕ) → (low ≤ p → p < high → ⊥) → put low high o who p ≡ who p
 unfolding put
-put_out low high o who p n = cond_out (leb low p && ltb p high) o (who p) (λ e. let t = both_true (leb low p) (ltb p high) e in n (leb-true low p t.0) (ltb-true p high t.1))
+put_out low high o who p n =
+    cond_out (leb low p && ltb p high) o (who p) (λ e. let t = both_true (leb low p) (ltb p high) e in n (leb-true low p t.0) (ltb-true p high t.1))
 
 held_apart : (a b : ℕ) → a ≢ b → held a ≢ held b
 held_apart a b n e = n (cc)
@@ -52,7 +53,8 @@ module _ {T : Type 0} where
   Owns_along log log' who o h e k = subst (λ l. Owns l who o h) e k
 
   -- what the others posted changes nothing for this sender
-  Owns_more : (log : List (ℕ × T)) (who : ℕ → Owner) (o : Owner) (h : History T) (m : ℕ × T) → who m.0 ≢ o → Owns log who o h → Owns (log ++ m ∷ []) who o h
+  Owns_more : (log : List (ℕ × T)) (who : ℕ → Owner) (o : Owner) (h : History T) (m : ℕ × T) → who m.0 ≢ o → Owns log who o h
+      → Owns (log ++ m ∷ []) who o h
   Owns_more log who o h m apart k = record {
     posted = items_of-last_other h.number log m (λ e. apart (ap who e ∙ k.owned h.number (own_number h))) ∙ k.posted;
     within = k.within;
@@ -68,7 +70,8 @@ module _ {T : Type 0} where
   }
 
   -- .. and what it posts itself is added to what it posted
-  Owns_post : (log : List (ℕ × T)) (who : ℕ → Owner) (o : Owner) (h : History T) (x : T) → Owns log who o h → Owns (log ++ (h.number, x) ∷ []) who o (with_post h x)
+  Owns_post : (log : List (ℕ × T)) (who : ℕ → Owner) (o : Owner) (h : History T) (x : T) → Owns log who o h
+      → Owns (log ++ (h.number, x) ∷ []) who o (with_post h x)
   Owns_post log who o h x k = record {
     posted = items_of-last_own h.number log x ∙ ap (λ l. l ++ x ∷ []) k.posted;
     within = k.within;
@@ -84,7 +87,8 @@ module _ {T : Type 0} where
   }
 
   -- other owners of other numbers
-  Owns_by : (log : List (ℕ × T)) (who who' : ℕ → Owner) (o o' : Owner) (h : History T) → ((p : ℕ) → IsInSpan h p → who p ≡ o → who' p ≡ o') → Owns log who o h → Owns log who' o' h
+  Owns_by : (log : List (ℕ × T)) (who who' : ℕ → Owner) (o o' : Owner) (h : History T) → ((p : ℕ) → IsInSpan h p → who p ≡ o → who' p ≡ o')
+      → Owns log who o h → Owns log who' o' h
   Owns_by log who who' o o' h f k = record {
     posted = k.posted;
     within = k.within;
@@ -94,7 +98,8 @@ module _ {T : Type 0} where
   }
 
   -- where some numbers went from one owner to another, a third keeps its own
-  Owns_stay : (log : List (ℕ × T)) (who : ℕ → Owner) (low high : ℕ) (from to o : Owner) (h : History T) → ((p : ℕ) → low ≤ p → p < high → who p ≡ from) → o ≢ from → Owns log who o h → Owns log (put low high to who) o h
+  Owns_stay : (log : List (ℕ × T)) (who : ℕ → Owner) (low high : ℕ) (from to o : Owner) (h : History T)
+      → ((p : ℕ) → low ≤ p → p < high → who p ≡ from) → o ≢ from → Owns log who o h → Owns log (put low high to who) o h
   Owns_stay log who low high from to o h gone apart k =
       Owns_by log who (put low high to who) o o h (λ p span mine. put_out low high to who p (λ a b. apart (sym mine ∙ gone p a b)) ∙ mine) k
 
@@ -106,9 +111,11 @@ module _ {T : Type 0} where
       first (suc pass) v e = absurd (some-ne-none v (sym e))
 
   -- the other passes, where the first one had all
-  others_of_first : (log got : List (ℕ × T)) (reader : ℕ) (who : ℕ → Owner) (pass j reader' : ℕ) → Fits log got reader who pass First → j ≢ pass → (v : View T) → Fits log got reader who j v → Fits log got reader' who j v
+  others_of_first : (log got : List (ℕ × T)) (reader : ℕ) (who : ℕ → Owner) (pass j reader' : ℕ) → Fits log got reader who pass First
+      → j ≢ pass → (v : View T) → Fits log got reader who j v → Fits log got reader' who j v
   others_of_first log got reader who pass j reader' f apart First g = absurd (apart (g.0 ∙ sym f.0))
-  others_of_first log got reader who pass j reader' f apart (Sends h) g = absurd (held_apart j pass apart (sym (g.owned h.number (own_number h)) ∙ f.2 h.number))
+  others_of_first log got reader who pass j reader' f apart (Sends h) g =
+      absurd (held_apart j pass apart (sym (g.owned h.number (own_number h)) ∙ f.2 h.number))
   others_of_first log got reader who pass j reader' f apart (Receives taken senders) g = absurd (apart (g.0 ∙ sym f.0))
   others_of_first log got reader who pass j reader' f apart Spent g = tt
 
@@ -118,7 +125,8 @@ module _ {T : Type 0} where
     got = k.got;
     reader = length (set views pass (Sends first_history));
     who = k.who;
-    each = each_last (Fits log k.got new k.who) (set views pass (Sends first_history)) (Receives [] []) (refl, nothing_taken, λ i h e. absurd (some-ne-none h (sym e)))
+    each =
+        each_last (Fits log k.got new k.who) (set views pass (Sends first_history)) (Receives [] []) (refl, nothing_taken, λ i h e. absurd (some-ne-none h (sym e)))
         (each_set (Fits log k.got new k.who) views pass (Sends first_history) mine (λ j u apart e. others_of_first log k.got k.reader k.who pass j new first apart u (k.each j u e)));
     bounded = k.bounded;
   }
@@ -145,11 +153,15 @@ module _ {T : Type 0} where
       }
 
   -- the other passes, where a sender's pass was cut in two
-  others_of_split : (log got : List (ℕ × T)) (reader : ℕ) (who : ℕ → Owner) (pass j new low high : ℕ) (h : History T) → Owns log who (held pass) h → ((p : ℕ) → low ≤ p → p < high → who p ≡ held pass) → j ≢ pass
+  others_of_split : (log got : List (ℕ × T)) (reader : ℕ) (who : ℕ → Owner) (pass j new low high : ℕ) (h : History T)
+      → Owns log who (held pass) h → ((p : ℕ) → low ≤ p → p < high → who p ≡ held pass) → j ≢ pass
       → (v : View T) → Fits log got reader who j v → Fits log got reader (put low high (held new) who) j v
-  others_of_split log got reader who pass j new low high h k gone apart First g = absurd (held_apart j pass apart (sym (g.2 h.number) ∙ k.owned h.number (own_number h)))
-  others_of_split log got reader who pass j new low high h k gone apart (Sends h') g = Owns_stay log who low high (held pass) (held new) (held j) h' gone (held_apart j pass apart) g
-  others_of_split log got reader who pass j new low high h k gone apart (Receives taken senders) g = (g.0, g.1, λ i h' e. Owns_stay log who low high (held pass) (held new) (closed_at i) h' gone (λ same. (cc)) (g.2 i h' e))
+  others_of_split log got reader who pass j new low high h k gone apart First g =
+      absurd (held_apart j pass apart (sym (g.2 h.number) ∙ k.owned h.number (own_number h)))
+  others_of_split log got reader who pass j new low high h k gone apart (Sends h') g =
+      Owns_stay log who low high (held pass) (held new) (held j) h' gone (held_apart j pass apart) g
+  others_of_split log got reader who pass j new low high h k gone apart (Receives taken senders) g =
+      (g.0, g.1, λ i h' e. Owns_stay log who low high (held pass) (held new) (closed_at i) h' gone (λ same. (cc)) (g.2 i h' e))
   others_of_split log got reader who pass j new low high h k gone apart Spent g = tt
 
   -- the lower half stays with its sender
@@ -158,9 +170,11 @@ module _ {T : Type 0} where
   Owns_lower log who pass new h some_room k = record {
     posted = k.posted;
     within = omega (arith, halves, k.within);
-    owned = λ p span. put_out (upper_half h).number (h.number + 2 ^ h.room) (held new) who p (λ a b. omega arith) ∙ k.owned p (wider p span);
+    owned =
+        λ p span. put_out (upper_half h).number (h.number + 2 ^ h.room) (held new) who p (λ a b. omega arith) ∙ k.owned p (wider p span);
     unused = λ p span other. k.unused p (wider p span) other;
-    follows = record { front = k.follows.front; back = k.follows.back; parts = k.follows.parts; none_yet = k.follows.none_yet; before = k.follows.before };
+    follows =
+        record { front = k.follows.front; back = k.follows.back; parts = k.follows.parts; none_yet = k.follows.none_yet; before = k.follows.before };
   }
     where
       halves : 2 ^ (h.room - 1) + 2 ^ (h.room - 1) ≡ 2 ^ h.room
@@ -187,7 +201,8 @@ module _ {T : Type 0} where
       wider p span = (omega (arith, span.0), omega (arith, halves, span.1))
 
       fresh : items_of (upper_half h).number log ≡ []
-      fresh = k.unused (upper_half h).number (wider (upper_half h).number (own_number (upper_half h))) (λ e. absurd (omega (arith, e, pow_pos (h.room - 1))))
+      fresh =
+          k.unused (upper_half h).number (wider (upper_half h).number (own_number (upper_half h))) (λ e. absurd (omega (arith, e, pow_pos (h.room - 1))))
 
   -- a sender's pass is cut in two
   pub splits : (pass : ℕ) (h : History T) → 1 ≤ h.room → Forks (Kept {T = T}) pass (Sends h) (Sends (lower_half h)) (Sends (upper_half h))
@@ -226,10 +241,13 @@ module _ {T : Type 0} where
       gone p a b = mine.owned p (omega (arith, a), b)
 
   -- the other passes, where this one posted
-  others_of_post : (log got : List (ℕ × T)) (reader : ℕ) (who : ℕ → Owner) (pass j : ℕ) (m : ℕ × T) → who m.0 ≡ held pass → j ≢ pass → (v : View T) → Fits log got reader who j v → Fits (log ++ m ∷ []) got reader who j v
+  others_of_post : (log got : List (ℕ × T)) (reader : ℕ) (who : ℕ → Owner) (pass j : ℕ) (m : ℕ × T) → who m.0 ≡ held pass → j ≢ pass
+      → (v : View T) → Fits log got reader who j v → Fits (log ++ m ∷ []) got reader who j v
   others_of_post log got reader who pass j m e apart First f = absurd (held_apart j pass apart (sym (f.2 m.0) ∙ e))
-  others_of_post log got reader who pass j m e apart (Sends h) f = Owns_more log who (held j) h m (λ x. held_apart j pass apart (sym x ∙ e)) f
-  others_of_post log got reader who pass j m e apart (Receives taken senders) f = (f.0, f.1, λ i h at. Owns_more log who (closed_at i) h m (λ x. (cc)) (f.2 i h at))
+  others_of_post log got reader who pass j m e apart (Sends h) f =
+      Owns_more log who (held j) h m (λ x. held_apart j pass apart (sym x ∙ e)) f
+  others_of_post log got reader who pass j m e apart (Receives taken senders) f =
+      (f.0, f.1, λ i h at. Owns_more log who (closed_at i) h m (λ x. (cc)) (f.2 i h at))
   others_of_post log got reader who pass j m e apart Spent f = tt
 
   -- a post
@@ -243,7 +261,9 @@ module _ {T : Type 0} where
       each = λ j u e. subst (λ l. Fits l k.got k.reader k.who j u) along
           (each_set (Fits longer k.got k.reader k.who) views pass (Sends (with_post h x)) (Owns_post log k.who (held pass) h x mine)
           (λ j' u' apart e'. others_of_post log k.got k.reader k.who pass j' (h.number, x) (mine.owned h.number (own_number h)) apart u' (k.each j' u' e')) j u e);
-      bounded = λ p big. ap (items_of p) (sym along) ∙ items_of-last_other p log (h.number, x) (λ e. absurd (omega (arith, big, e, mine.within, pow_pos h.room))) ∙ k.bounded p big;
+      bounded =
+          λ p big. ap (items_of p) (sym along)
+          ∙ items_of-last_other p log (h.number, x) (λ e. absurd (omega (arith, big, e, mine.within, pow_pos h.room))) ∙ k.bounded p big;
     },
     refl,
   )
@@ -261,14 +281,16 @@ module _ {T : Type 0} where
       mine = k.each pass (Sends h) at
 
   -- the other passes, where the reader's took
-  others_of_take : (log got got' : List (ℕ × T)) (reader : ℕ) (who : ℕ → Owner) (j : ℕ) → j ≢ reader → (v : View T) → Fits log got reader who j v → Fits log got' reader who j v
+  others_of_take : (log got got' : List (ℕ × T)) (reader : ℕ) (who : ℕ → Owner) (j : ℕ) → j ≢ reader → (v : View T)
+      → Fits log got reader who j v → Fits log got' reader who j v
   others_of_take log got got' reader who j apart First f = absurd (apart f.0)
   others_of_take log got got' reader who j apart (Sends h) f = f
   others_of_take log got got' reader who j apart (Receives taken senders) f = absurd (apart f.0)
   others_of_take log got got' reader who j apart Spent f = tt
 
   -- a take
-  pub takes : (pass : ℕ) (taken : List (ℕ × T)) (senders : List (History T)) → Pops Kept pass (Receives taken senders) (λ m w. w ≡ Receives (taken ++ m ∷ []) senders)
+  pub takes : (pass : ℕ) (taken : List (ℕ × T)) (senders : List (History T))
+      → Pops Kept pass (Receives taken senders) (λ m w. w ≡ Receives (taken ++ m ∷ []) senders)
   takes pass taken senders m items views k at = (
     Receives (taken ++ m ∷ []) senders,
     record {
@@ -296,7 +318,8 @@ module _ {T : Type 0} where
       mine = k.each pass (Receives taken senders) at
 
   -- the other passes, where a sender was closed
-  others_of_close : (log got : List (ℕ × T)) (reader : ℕ) (who : ℕ → Owner) (pass other j place : ℕ) (h : History T) → pass ≡ reader → Owns log who (held other) h → j ≢ pass → j ≢ other
+  others_of_close : (log got : List (ℕ × T)) (reader : ℕ) (who : ℕ → Owner) (pass other j place : ℕ) (h : History T) → pass ≡ reader
+      → Owns log who (held other) h → j ≢ pass → j ≢ other
       → (v : View T) → Fits log got reader who j v → Fits log got reader (put h.number (h.number + 2 ^ h.room) (closed_at place) who) j v
   others_of_close log got reader who pass other j place h same k apart apart' First f = absurd (apart (f.0 ∙ sym same))
   others_of_close log got reader who pass other j place h same k apart apart' (Sends h') f =
@@ -336,24 +359,33 @@ module _ {T : Type 0} where
       theirs = k.each other (Sends h) was
 
       new_in : Owns log who' (closed_at (length senders)) h
-      new_in = Owns_by log k.who who' (held other) (closed_at (length senders)) h (λ p span _. put_in h.number (h.number + 2 ^ h.room) (closed_at (length senders)) k.who p span.0 span.1) theirs
+      new_in =
+          Owns_by log k.who who' (held other) (closed_at (length senders)) h (λ p span _. put_in h.number (h.number + 2 ^ h.room) (closed_at (length senders)) k.who p span.0 span.1) theirs
 
       all_in : (i : ℕ) (h' : History T) → get_elem? (senders ++ h ∷ []) i ≡ some h' → Owns log who' (closed_at i) h'
       all_in = each_last (λ i h'. Owns log who' (closed_at i) h') senders h new_in
           (λ i h' e. Owns_stay log k.who h.number (h.number + 2 ^ h.room) (held other) (closed_at (length senders)) (closed_at i) h' (λ p a b. theirs.owned p (a, b)) (λ same. (cc)) (mine.2 i h' e))
 
   -- the same moves, at a view that is known by an equation
-  pub splits_at : (pass : ℕ) (v : View T) (h : History T) → v ≡ Sends h → 1 ≤ (told v).room → Forks Kept pass v (Sends (lower_half (told v))) (Sends (upper_half (told v)))
-  splits_at pass v h e = subst (λ u. 1 ≤ (told u).room → Forks Kept pass u (Sends (lower_half (told u))) (Sends (upper_half (told u)))) (sym e) (splits pass h)
+  pub splits_at : (pass : ℕ) (v : View T) (h : History T) → v ≡ Sends h → 1 ≤ (told v).room
+      → Forks Kept pass v (Sends (lower_half (told v))) (Sends (upper_half (told v)))
+  splits_at pass v h e =
+      subst (λ u. 1 ≤ (told u).room → Forks Kept pass u (Sends (lower_half (told u))) (Sends (upper_half (told u)))) (sym e) (splits pass h)
 
-  pub posts_at : (n pass : ℕ) (v : View T) (h : History T) (x : T) → v ≡ Sends h → Pushes Kept n pass v (h.number, x) (λ w. w ≡ Sends (with_post (told v) x))
-  posts_at n pass v h x e = subst (λ u. Pushes Kept n pass u (h.number, x) (λ w. w ≡ Sends (with_post (told u) x))) (sym e) (posts n pass h x)
+  pub posts_at : (n pass : ℕ) (v : View T) (h : History T) (x : T) → v ≡ Sends h
+      → Pushes Kept n pass v (h.number, x) (λ w. w ≡ Sends (with_post (told v) x))
+  posts_at n pass v h x e =
+      subst (λ u. Pushes Kept n pass u (h.number, x) (λ w. w ≡ Sends (with_post (told u) x))) (sym e) (posts n pass h x)
 
-  pub takes_at : (pass : ℕ) (v : View T) → v ≡ Receives (taken_by v) (closed_by v) → Pops Kept pass v (λ m w. w ≡ Receives (taken_by v ++ m ∷ []) (closed_by v))
-  takes_at pass v e = subst (λ u. Pops Kept pass u (λ m w. w ≡ Receives (taken_by v ++ m ∷ []) (closed_by v))) (sym e) (takes pass (taken_by v) (closed_by v))
+  pub takes_at : (pass : ℕ) (v : View T) → v ≡ Receives (taken_by v) (closed_by v)
+      → Pops Kept pass v (λ m w. w ≡ Receives (taken_by v ++ m ∷ []) (closed_by v))
+  takes_at pass v e =
+      subst (λ u. Pops Kept pass u (λ m w. w ≡ Receives (taken_by v ++ m ∷ []) (closed_by v))) (sym e) (takes pass (taken_by v) (closed_by v))
 
-  pub closes_at : (pass : ℕ) (v : View T) (other : ℕ) (u : View T) (h : History T) → v ≡ Receives (taken_by v) (closed_by v) → u ≡ Sends h → Merges Kept pass v other u (Receives (taken_by v) (closed_by v ++ told u ∷ [])) Spent
-  closes_at pass v other u h e f = subst (λ y. Merges Kept pass y other u (Receives (taken_by v) (closed_by v ++ told u ∷ [])) Spent) (sym e)
+  pub closes_at : (pass : ℕ) (v : View T) (other : ℕ) (u : View T) (h : History T) → v ≡ Receives (taken_by v) (closed_by v) → u ≡ Sends h
+      → Merges Kept pass v other u (Receives (taken_by v) (closed_by v ++ told u ∷ [])) Spent
+  closes_at pass v other u h e f =
+      subst (λ y. Merges Kept pass y other u (Receives (taken_by v) (closed_by v ++ told u ∷ [])) Spent) (sym e)
       (subst (λ z. Merges Kept pass (Receives (taken_by v) (closed_by v)) other z (Receives (taken_by v) (closed_by v ++ told z ∷ [])) Spent) (sym f) (closes pass (taken_by v) (closed_by v) other h))
 
   pub makes_ends_at : (pass : ℕ) (v : View T) → v ≡ First → Forks Kept pass v (Sends first_history) (Receives [] [])

@@ -35,7 +35,8 @@ module _ {T : Type 0} where
   abbrev pub Fits : List (ℕ × T) → List (ℕ × T) → ℕ → (ℕ → Owner) → ℕ → View T → Type 0
   Fits log got reader who pass First = (pass ≡ reader) × (log ≡ []) × ((p : ℕ) → who p ≡ held pass)
   Fits log got reader who pass (Sends h) = Owns log who (held pass) h
-  Fits log got reader who pass (Receives taken senders) = (pass ≡ reader) × (taken ≡ got) × ((k : ℕ) (h : History T) → get_elem? senders k ≡ some h → Owns log who (closed_at k) h)
+  Fits log got reader who pass (Receives taken senders) =
+      (pass ≡ reader) × (taken ≡ got) × ((k : ℕ) (h : History T) → get_elem? senders k ≡ some h → Owns log who (closed_at k) h)
   Fits log got reader who pass Spent = ⊤
 
   -- got: what was taken; reader: the receiver's pass; who: the owners of numbers

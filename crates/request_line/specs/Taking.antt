@@ -20,7 +20,8 @@ module _ {T : Type 0} where
 
   -- wherever an item of the sender stands, all that its maker had posted before the split stands in front of it
   abbrev pub TakesAfterSplit : List (ℕ × T) → History T → Type 0
-  TakesAfterSplit taken h = (front back : List (ℕ × T)) (item : T) → taken ≡ front ++ (h.number, item) ∷ back → IsPrefix h.posted_before (items_of h.maker front)
+  TakesAfterSplit taken h =
+      (front back : List (ℕ × T)) (item : T) → taken ≡ front ++ (h.number, item) ∷ back → IsPrefix h.posted_before (items_of h.maker front)
 
   -- each item taken is of one of these senders
   abbrev pub IsOfThese : List (ℕ × T) → List (History T) → Type 0

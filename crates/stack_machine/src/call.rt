@@ -1,13 +1,11 @@
 //! Requests by what an instruction pops.
 
-ghost use Rattle.std.specs.Prelude.{◌≡◌, false, IfOk};
-ghost use Rattle.std.specs.Option.{option_map_or};
-ghost use Rattle.database_rules.specs.Atomics.{is_versionstamped};
+ghost use Rattle.std.specs.Prelude.{◌≡◌, IfOk};
 ghost use Rattle.machine_rules.specs.Operands.{operand_by};
 ghost use Rattle.machine_rules.specs.Calls.{get_call, set_call, clear_call, clear_range_call, clear_range_starts_with_call, atomic_name, atomic_call, call_of, prefix_end, request_of, awaits_in, awaits_of};
 ghost use Rattle.stack_items.specs.Pops.{Pops, PopsUnlessFull};
 
-use atomic_ops::{AtomicOp, from_name};
+use atomic_ops::from_name;
 use fdb_calls::{Code, Request, TxnCall};
 use key_bytes::{Bytes, Key, KeyRange};
 use machine_rules::{Awaits, DatabaseOperation, Scope, TransactionOperation};
@@ -101,17 +99,10 @@ fn pop_atomic_name(stack: &mut Stack) -> Result<Bytes, StackFault>
     ensures { Pops (λ name. name) result (operand_by atomic_name stack.old) stack.new }
 {
     let name = stack.pop_bytes()?;
-    if is_versionstamped(from_name(name.as_slice())) {
+    if from_name(name.as_slice()).is_some_and(|op| op.is_versionstamped()) {
         return Err(StackFault::Operand);
     }
     Ok(name)
-}
-
-// Whether an operation fills in a versionstamp.
-fn is_versionstamped(op: Option<AtomicOp>) -> bool
-    ensures { result ≡ option_map_or is_versionstamped op false }
-{
-    op.is_some_and(|op| op.is_versionstamped())
 }
 
 /// The request that an operation makes on the transaction of a name, by what it pops.

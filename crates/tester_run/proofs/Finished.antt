@@ -30,10 +30,12 @@ kept_newest core world stands = ap (at core.store) stands.keeps.last_is ∙ stan
 
 -- machine 0 as it is started
 abbrev pub first_machine : Database → List ℕ → Machine
-first_machine database prefix = record { number = 0; prefix = prefix; instructions = instructions_in database prefix; next = 0; name = prefix; stack = []; errors = []; state = state.Running }
+first_machine database prefix =
+    record { number = 0; prefix = prefix; instructions = instructions_in database prefix; next = 0; name = prefix; stack = []; errors = []; state = state.Running }
 
 -- before any request the empty order leads to the start
-pub begins : (pairs : List (List ℕ × List ℕ)) (prefix : List ℕ) (core : CoreModel) (words : ℕ → ℕ) (machine : Machine) → StandsFor core (begun pairs words_of_run)
+pub begins : (pairs : List (List ℕ × List ℕ)) (prefix : List ℕ) (core : CoreModel) (words : ℕ → ℕ) (machine : Machine)
+    → StandsFor core (begun pairs words_of_run)
     → HasWords (begun pairs words_of_run) words → machine ≡ first_machine (kept_map core) prefix → Leads pairs prefix core words machine []
 unfolding run_from started
 begins pairs prefix core words machine stands has_words is =
@@ -42,7 +44,8 @@ begins pairs prefix core words machine stands has_words is =
       world = world;
       stands = stands;
       has_words = has_words;
-      runs = ap (λ (m : Machine). Some (run_of world m)) (sym (is ∙ ap (λ (d : Database). first_machine d prefix) (kept_newest core world stands)));
+      runs =
+          ap (λ (m : Machine). Some (run_of world m)) (sym (is ∙ ap (λ (d : Database). first_machine d prefix) (kept_newest core world stands)));
     }
 
 stopped_rests : (state : State) → has_stopped state ≡ true → is_running state ≡ false
@@ -53,7 +56,8 @@ stopped_rests (state.Stopped end) e = refl
 alone : {X : Type 0} (f : X → List ℕ) (x : X) → flat_map f (x ∷ []) ≡ f x
 alone f x = flat_map-cons f x [] ∙ append-nil (f x)
 
-dump_alone : (order : List ℕ) (world : World) (machine : Machine) → dump order (record { world = world; machines = silent machine ∷ [] }) ≡ machine_dump machine order (finite.entries (newest world))
+dump_alone : (order : List ℕ) (world : World) (machine : Machine)
+    → dump order (record { world = world; machines = silent machine ∷ [] }) ≡ machine_dump machine order (finite.entries (newest world))
 unfolding dump machine_dump
 dump_alone order world machine =
     ap (λ (ends : List ℕ). ends ++ flat_map (λ (p : Progress). stack_lines p.machine) (silent machine ∷ []) ++ flat_map (λ (p : Progress). error_lines p.machine) (silent machine ∷ []) ++ flat_map order_line order ++ pair_lines (finite.entries (newest world)))
@@ -67,18 +71,24 @@ and_true : (b : Bool) → (b && true) ≡ b
 and_true true = refl
 and_true false = refl
 
-status_alone : (world : World) (machine : Machine) → status_of (record { world = world; machines = silent machine ∷ [] }) ≡ cond (has_ended machine.state) 0 3
+status_alone : (world : World) (machine : Machine)
+    → status_of (record { world = world; machines = silent machine ∷ [] }) ≡ cond (has_ended machine.state) 0 3
 status_alone world machine = ap (λ b. cond b 0 3) (and_true (has_ended machine.state))
 
 -- where the order leads to a machine that has stopped, what was rendered is what the run leaves
-pub finishes : (pairs : List (List ℕ × List ℕ)) (prefix : List ℕ) (core : CoreModel) (words : ℕ → ℕ) (machine : Machine) (rendered : Rendered) → Leads pairs prefix core words machine rendered.order → has_stopped machine.state ≡ true
+pub finishes : (pairs : List (List ℕ × List ℕ)) (prefix : List ℕ) (core : CoreModel) (words : ℕ → ℕ) (machine : Machine) (rendered : Rendered)
+    → Leads pairs prefix core words machine rendered.order → has_stopped machine.state ≡ true
     → rendered.dump.items ≡ machine_dump machine rendered.order (finite.entries (kept_map core)) → rendered.status ≡ cond (has_ended machine.state) 0 3 → Renders pairs prefix rendered
 finishes pairs prefix core words machine rendered leads stopped dump_is status_is = record {
   run = record { world = leads.world; machines = silent machine ∷ [] };
   runs = record {
-    runs = leads.runs ∙ ap (λ (p : Progress). Some (record { world = leads.world; machines = p ∷ [] })) (at_rest_still machine (stopped_rests machine.state stopped));
+    runs =
+        leads.runs
+        ∙ ap (λ (p : Progress). Some (record { world = leads.world; machines = p ∷ [] })) (at_rest_still machine (stopped_rests machine.state stopped));
     complete = subst (λ b. IsTrue (b && true)) (sym stopped) refl;
   };
-  dump_is = dump_is ∙ ap (λ (d : Database). machine_dump machine rendered.order (finite.entries d)) (kept_newest core leads.world leads.stands) ∙ sym (dump_alone rendered.order leads.world machine);
+  dump_is =
+      dump_is ∙ ap (λ (d : Database). machine_dump machine rendered.order (finite.entries d)) (kept_newest core leads.world leads.stands)
+      ∙ sym (dump_alone rendered.order leads.world machine);
   status_is = status_is ∙ sym (status_alone leads.world machine);
 }

@@ -30,7 +30,8 @@ again_is : (asks : Option Request) (state : State) → answer_by asks state ≡ 
 again_is (Some asked) state e = absurd cc
 again_is None state e = refl
 
-again_state : (asks : Option Request) (state : State) → answer_by asks state ≡ step.Again → is_awaiting state ≡ false → is_running state ≡ true
+again_state : (asks : Option Request) (state : State) → answer_by asks state ≡ step.Again → is_awaiting state ≡ false
+    → is_running state ≡ true
 again_state (Some asked) state e quiet = absurd cc
 again_state None state.Running e quiet = refl
 again_state None (state.Awaiting awaits) e quiet = absurd cc
@@ -40,7 +41,8 @@ stopped_is : (asks : Option Request) (state : State) (end : End) → answer_by a
 stopped_is (Some asked) state end e = absurd cc
 stopped_is None state end e = refl
 
-stopped_state : (asks : Option Request) (state : State) (end : End) → answer_by asks state ≡ step.Stopped end → (has_stopped state ≡ true) × (is_running state ≡ false) × (is_awaiting state ≡ false)
+stopped_state : (asks : Option Request) (state : State) (end : End) → answer_by asks state ≡ step.Stopped end
+    → (has_stopped state ≡ true) × (is_running state ≡ false) × (is_awaiting state ≡ false)
 stopped_state (Some asked) state end e = absurd cc
 stopped_state None state.Running end e = absurd cc
 stopped_state None (state.Awaiting awaits) end e = absurd cc
@@ -64,21 +66,25 @@ pub record Quiet (before after : Machine) : Type 0 where
   pub same : at_rest before ≡ at_rest after
   pub silent_after : is_awaiting after.state ≡ false
 
-still_step : (old new : MachineModel) (answer : Step) → Moves old (advance old.machine) answer new → is_running old.machine.state ≡ false → (answer ≡ answer_in old.machine.state) × (new.machine ≡ old.machine)
+still_step : (old new : MachineModel) (answer : Step) → Moves old (advance old.machine) answer new → is_running old.machine.state ≡ false
+    → (answer ≡ answer_in old.machine.state) × (new.machine ≡ old.machine)
 still_step old new answer moves still =
     let same : advance old.machine ≡ silent old.machine = advance_still old.machine still in
     (moves.answer_is ∙ ap answer_of same, moves.machine ∙ ap (λ (p : Progress). p.machine) same)
 
-still_stopped : (state : State) → is_awaiting state ≡ false → is_running state ≡ false → (answer_in state ≡ step.Again → ⊥) × ((request : Request) → answer_in state ≡ step.Ask request → ⊥)
+still_stopped : (state : State) → is_awaiting state ≡ false → is_running state ≡ false
+    → (answer_in state ≡ step.Again → ⊥) × ((request : Request) → answer_in state ≡ step.Ask request → ⊥)
 still_stopped state.Running e f = absurd cc
 still_stopped (state.Awaiting awaits) e f = absurd cc
 still_stopped (state.Stopped end) e f = (λ h. cc, λ request h. cc)
 
 -- a step that answers Again was of a running machine, and one that asks too
-was_running : (old new : MachineModel) (answer : Step) → Moves old (advance old.machine) answer new → is_awaiting old.machine.state ≡ false → (answer ≡ step.Again → is_running old.machine.state ≡ true) × ((request : Request) → answer ≡ step.Ask request → is_running old.machine.state ≡ true)
+was_running : (old new : MachineModel) (answer : Step) → Moves old (advance old.machine) answer new → is_awaiting old.machine.state ≡ false
+    → (answer ≡ step.Again → is_running old.machine.state ≡ true) × ((request : Request) → answer ≡ step.Ask request → is_running old.machine.state ≡ true)
 was_running old new answer moves silent_before = by (is_running old.machine.state) refl
   where
-    by : (b : Bool) → is_running old.machine.state ≡ b → (answer ≡ step.Again → is_running old.machine.state ≡ true) × ((request : Request) → answer ≡ step.Ask request → is_running old.machine.state ≡ true)
+    by : (b : Bool) → is_running old.machine.state ≡ b
+        → (answer ≡ step.Again → is_running old.machine.state ≡ true) × ((request : Request) → answer ≡ step.Ask request → is_running old.machine.state ≡ true)
     by true e = (λ h. e, λ request h. e)
     by false e =
         let told = still_step old new answer moves e in
@@ -86,7 +92,8 @@ was_running old new answer moves silent_before = by (is_running old.machine.stat
         (λ h. absurd (never.0 (sym told.0 ∙ h)), λ request h. absurd (never.1 request (sym told.0 ∙ h)))
 
 -- a machine that went on by one instruction, or has stopped, has less left
-less_left : (before after : Machine) → is_running before.state ≡ true → after.instructions ≡ before.instructions → (is_running after.state ≡ true → after.next ≡ before.next + 1)
+less_left : (before after : Machine) → is_running before.state ≡ true → after.instructions ≡ before.instructions
+    → (is_running after.state ≡ true → after.next ≡ before.next + 1)
     → before.next < length before.instructions → work_left after < work_left before
 less_left before after was same next inside =
     subst (λ n. work_left after < n) (sym (ap (λ b. cond b (length before.instructions - before.next + 1) 0) was)) (by (is_running after.state) refl)
@@ -104,7 +111,9 @@ less_left before after was same next inside =
     by false e =
         subst (λ n. n < length before.instructions - before.next + 1) (sym (ap (λ b. cond b (length after.instructions - after.next + 1) 0) e)) (above_none (length before.instructions - before.next))
 
-pub turn_again : (old new : MachineModel) (answer : Step) → Moves old (advance old.machine) answer new → is_awaiting old.machine.state ≡ false → answer ≡ step.Again → Quiet old.machine new.machine × (work_left new.machine < work_left old.machine)
+pub turn_again : (old new : MachineModel) (answer : Step) → Moves old (advance old.machine) answer new
+    → is_awaiting old.machine.state ≡ false → answer ≡ step.Again
+    → Quiet old.machine new.machine × (work_left new.machine < work_left old.machine)
 turn_again old new answer moves silent_before e =
     let was = (was_running old new answer moves silent_before).0 e in
     let told : answer_of (advance old.machine) ≡ step.Again = sym moves.answer_is ∙ e in
@@ -119,7 +128,8 @@ turn_again old new answer moves silent_before e =
           (λ h. ap (λ (m : Machine). m.next) moves.machine ∙ finishes.next) finishes.inside,
     )
 
-pub turn_stopped : (old new : MachineModel) (answer : Step) (end : End) → Moves old (advance old.machine) answer new → is_awaiting old.machine.state ≡ false → answer ≡ step.Stopped end → Quiet old.machine new.machine
+pub turn_stopped : (old new : MachineModel) (answer : Step) (end : End) → Moves old (advance old.machine) answer new
+    → is_awaiting old.machine.state ≡ false → answer ≡ step.Stopped end → Quiet old.machine new.machine
 turn_stopped old new answer end moves silent_before e = by (is_running old.machine.state) refl
   where
     by : (b : Bool) → is_running old.machine.state ≡ b → Quiet old.machine new.machine
@@ -138,7 +148,9 @@ turn_stopped old new answer end moves silent_before e = by (is_running old.machi
           silent_after = ap (λ (m : Machine). is_awaiting m.state) told.1 ∙ silent_before;
         }
 
-pub turn_asks : (old new : MachineModel) (answer : Step) (request : Request) → Moves old (advance old.machine) answer new → is_awaiting old.machine.state ≡ false → answer ≡ step.Ask request → ComesToAsk old.machine new.machine request × (is_awaiting new.machine.state ≡ true)
+pub turn_asks : (old new : MachineModel) (answer : Step) (request : Request) → Moves old (advance old.machine) answer new
+    → is_awaiting old.machine.state ≡ false → answer ≡ step.Ask request
+    → ComesToAsk old.machine new.machine request × (is_awaiting new.machine.state ≡ true)
 turn_asks old new answer request moves silent_before e =
     let was = (was_running old new answer moves silent_before).1 request e in
     let told : answer_of (advance old.machine) ≡ step.Ask request = sym moves.answer_is ∙ e in
@@ -146,12 +158,15 @@ turn_asks old new answer request moves silent_before e =
     (record { was_running = was; asks = asks; machine = moves.machine }, ap (λ (m : Machine). is_awaiting m.state) moves.machine ∙ advance_asks old.machine request asks)
 
 -- a machine that stands as before leads as before
-pub quiet_goes_on : (core : CoreModel) (words : ℕ → ℕ) (before after : Machine) (order : List ℕ) → Quiet before after → GoesOn core words before order core words after order
-quiet_goes_on core words before after order quiet pairs prefix leads = same_stand pairs prefix core words before after order quiet.same leads
+pub quiet_goes_on : (core : CoreModel) (words : ℕ → ℕ) (before after : Machine) (order : List ℕ) → Quiet before after
+    → GoesOn core words before order core words after order
+quiet_goes_on core words before after order quiet pairs prefix leads =
+    same_stand pairs prefix core words before after order quiet.same leads
 
 -- ---- a reply
 
-stands_after : (given : Reply) (core : CoreModel) (words : ℕ → ℕ) (stepped : Stepped) → given ≢ reply.NoMemory → Answers given core words stepped
+stands_after : (given : Reply) (core : CoreModel) (words : ℕ → ℕ) (stepped : Stepped) → given ≢ reply.NoMemory
+    → Answers given core words stepped
     → (stepped.reply ≡ given) × StandsFor core stepped.world × HasWords stepped.world words
 stands_after reply.Done core words stepped is answers = answers
 stands_after (reply.Value value) core words stepped is answers = answers
@@ -164,9 +179,9 @@ unfolding take_place
 one_place run progress request e =
     ap (λ (asks : Option Request). option_map (λ request. replied (record { world = run.world; machines = progress ∷ [] }) 0 progress.machine (world_step run.world request)) asks) e
 
-one_more : (run : Run) → run_from (0 ∷ []) run ≡ take_place 0 run
+run_from-one_place : (run : Run) → run_from (0 ∷ []) run ≡ take_place 0 run
 unfolding run_from
-one_more run = by (take_place 0 run)
+run_from-one_place run = by (take_place 0 run)
   where
     by : (next : Option Run) → option_and_then (run_from []) next ≡ next
     by None = refl
@@ -183,7 +198,8 @@ taken_goes_on core core_after words words_after asking after order order_after r
     let stepped = world_step leads.world request in
     let answered = stands_after takes.given core_after words_after stepped takes.is_given (takes.answers leads.world leads.stands leads.has_words) in
     let machine_is : resumed (advance before).machine stepped.reply ≡ after =
-    ap (resumed (advance before).machine) answered.0 ∙ ap (λ (m : Machine). resumed m takes.given) (sym comes.machine) ∙ sym takes.machine_is in
+    ap (resumed (advance before).machine) answered.0 ∙ ap (λ (m : Machine). resumed m takes.given) (sym comes.machine)
+    ∙ sym takes.machine_is in
     record {
       world = stepped.world;
       stands = answered.1;
@@ -191,14 +207,15 @@ taken_goes_on core core_after words words_after asking after order order_after r
       runs = ap (λ o. run_from o (start pairs prefix)) takes.order_is
           ∙ run_from-append order (0 ∷ []) (start pairs prefix)
           ∙ ap (option_and_then (run_from (0 ∷ []))) leads.runs
-          ∙ one_more (run_of leads.world before)
+          ∙ run_from-one_place (run_of leads.world before)
           ∙ ap (λ (p : Progress). take_place 0 (record { world = leads.world; machines = p ∷ [] })) asked
           ∙ one_place run progress request refl
           ∙ ap (λ m. Some (run_of stepped.world m)) machine_is;
     }
 
 -- what the machine has left after its reply
-pub replied_nearer : (asking after : Machine) (request : Request) (given : Reply) → after ≡ resumed asking given → IsNearerThanAsking asking request after
+pub replied_nearer : (asking after : Machine) (request : Request) (given : Reply) → after ≡ resumed asking given
+    → IsNearerThanAsking asking request after
 replied_nearer asking after request given is before comes =
     let inside = advance_asks_inside before request comes.asks in
     let awaits : is_awaiting asking.state ≡ true = ap (λ (m : Machine). is_awaiting m.state) comes.machine ∙ advance_asks before request comes.asks in
@@ -208,5 +225,7 @@ replied_nearer asking after request given is before comes =
     (λ h. ap (λ (m : Machine). m.next) is ∙ goes.next ∙ ap (λ (m : Machine). m.next + 1) comes.machine ∙ ap (λ n. n + 1) inside.next)
     inside.inside
 
-pub replied_silent : (asking after : Machine) (given : Reply) → is_awaiting asking.state ≡ true → after ≡ resumed asking given → is_awaiting after.state ≡ false
-replied_silent asking after given awaits is = ap (λ (m : Machine). is_awaiting m.state) is ∙ ap is_awaiting (resumed_goes asking given awaits).state
+pub replied_silent : (asking after : Machine) (given : Reply) → is_awaiting asking.state ≡ true → after ≡ resumed asking given
+    → is_awaiting after.state ≡ false
+replied_silent asking after given awaits is =
+    ap (λ (m : Machine). is_awaiting m.state) is ∙ ap is_awaiting (resumed_goes asking given awaits).state

@@ -27,17 +27,20 @@ long_not_read bytes pairs long e =
     not_both (pairs_of bytes) pairs (subst (λ (b : List ℕ). IsErr (pairs_of b)) (append-nil bytes) (too_long_is_refused bytes [] long)) e
 
 -- where so many bytes were read, what the source had has a fault
-pub full_refused : (left after : Option (List ℕ)) (items : List ℕ) → input_limit < length items → Consumes left after items → IfSome left (λ bytes. IsErr (pairs_of bytes))
+pub full_refused : (left after : Option (List ℕ)) (items : List ℕ) → input_limit < length items → Consumes left after items
+    → IfSome left (λ bytes. IsErr (pairs_of bytes))
 full_refused None after items long consumed = tt
 full_refused (Some bytes) None items long consumed = absurd consumed
-full_refused (Some bytes) (Some rest) items long consumed = subst (λ (b : List ℕ). IsErr (pairs_of b)) (sym consumed) (too_long_is_refused items rest long)
+full_refused (Some bytes) (Some rest) items long consumed =
+    subst (λ (b : List ℕ). IsErr (pairs_of b)) (sym consumed) (too_long_is_refused items rest long)
 
-pub refused_full : (given : Refusal) (left after : Option (List ℕ)) (faults faults_after : ℕ) (items : List ℕ) → given ≢ refusal.Source → length items ≡ read_limit → Consumes left after items
+pub refused_full : (given : Refusal) (left after : Option (List ℕ)) (faults faults_after : ℕ) (items : List ℕ) → given ≢ refusal.Source
+    → length items ≡ read_limit → Consumes left after items
     → IsRefusedBy given left after faults faults_after
 refused_full refusal.Source left after faults faults_after items is exact consumed = absurd (is refl)
 refused_full (refusal.Line fault) left after faults faults_after items is exact consumed = record {
   fault = full_refused left after items (omega arith) consumed;
-  out = inr (items, (exact, consumed));
+  out = inr (items, exact, consumed);
 }
 refused_full refusal.Memory left after faults faults_after items is exact consumed = tt
 
@@ -47,10 +50,12 @@ final_by true = inl refl
 final_by false = inr refl
 
 not_write_fault : (status : ℕ) → IsFinal status → status ≢ write_fault
-not_write_fault status final e = ⊎_elim (λ z. (let h : 0 ≡ 5 = sym z ∙ e in absurd (omega arith))) (λ z. (let h : 3 ≡ 5 = sym z ∙ e in absurd (omega arith))) final
+not_write_fault status final e =
+    ⊎_elim (λ z. (let h : 0 ≡ 5 = sym z ∙ e in absurd (omega arith))) (λ z. (let h : 3 ≡ 5 = sym z ∙ e in absurd (omega arith))) final
 
 -- what a run rendered, of the pairs that were read
-run_of_read : (left after : Option (List ℕ)) (prefix : List ℕ) (pairs : List (List ℕ × List ℕ)) (rendered : Rendered) (order : List ℕ) → AreRead left after pairs → (renders : Renders pairs prefix rendered) → order ≡ rendered.order → HasRun left prefix order renders.run
+run_of_read : (left after : Option (List ℕ)) (prefix : List ℕ) (pairs : List (List ℕ × List ℕ)) (rendered : Rendered) (order : List ℕ)
+    → AreRead left after pairs → (renders : Renders pairs prefix rendered) → order ≡ rendered.order → HasRun left prefix order renders.run
 run_of_read left after prefix pairs rendered order read renders is = record {
   pairs = pairs;
   input = read.input;
@@ -62,7 +67,8 @@ final_is : (status run_status : ℕ) → (status ≡ run_status) ⊎ (status ≡
 final_is status run_status (inl e) final = e
 final_is status run_status (inr e) final = absurd (not_write_fault status final e)
 
-dump_moved : (rendered : Rendered) (order : List ℕ) (run : Run) → rendered.dump.items ≡ dump rendered.order run → order ≡ rendered.order → rendered.dump.items ≡ dump order run
+dump_moved : (rendered : Rendered) (order : List ℕ) (run : Run) → rendered.dump.items ≡ dump rendered.order run → order ≡ rendered.order
+    → rendered.dump.items ≡ dump order run
 dump_moved rendered order run e is = e ∙ ap (λ (o : List ℕ). dump o run) (sym is)
 
 -- a final status
@@ -74,7 +80,8 @@ delivered words prefix left after before written pairs rendered order status wor
       run = renders.run;
       has_run = run_of_read left after prefix pairs rendered order read renders order_is;
       status_is = final_is status rendered.status status_is final ∙ renders.status_is;
-      written = subst (Appends before written) (dump_moved rendered order renders.run renders.dump_is order_is) (whole (not_write_fault status final));
+      written =
+          subst (Appends before written) (dump_moved rendered order renders.run renders.dump_is order_is) (whole (not_write_fault status final));
     })
 
 -- a sink that failed

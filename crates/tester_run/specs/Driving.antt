@@ -23,7 +23,8 @@ pub record Leads (pairs : List (List ℕ × List ℕ)) (prefix : List ℕ) (core
 -- wherever the order led before, it leads now
 abbrev pub GoesOn : CoreModel → (ℕ → ℕ) → Machine → List ℕ → CoreModel → (ℕ → ℕ) → Machine → List ℕ → Type 0
 GoesOn core words machine order core_after words_after machine_after order_after =
-    (pairs : List (List ℕ × List ℕ)) (prefix : List ℕ) → Leads pairs prefix core words machine order → Leads pairs prefix core_after words_after machine_after order_after
+    (pairs : List (List ℕ × List ℕ)) (prefix : List ℕ) → Leads pairs prefix core words machine order
+    → Leads pairs prefix core_after words_after machine_after order_after
 
 -- a machine that runs comes to ask this request in its next step, and is then the second machine
 pub record ComesToAsk (before after : Machine) (request : Request) : Type 0 where
@@ -50,4 +51,5 @@ GoesOnFromAsking core words asking order request core_after words_after machine_
 
 -- the machine that has its reply has less left than one that comes to ask
 abbrev pub IsNearerThanAsking : Machine → Request → Machine → Type 0
-IsNearerThanAsking asking request machine_after = (before : Machine) → ComesToAsk before asking request → work_left machine_after < work_left before
+IsNearerThanAsking asking request machine_after =
+    (before : Machine) → ComesToAsk before asking request → work_left machine_after < work_left before

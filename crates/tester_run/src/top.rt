@@ -59,7 +59,7 @@ pub fn tester<R: Threads + Wait + Sync, S: Source, K: Sink, N: Sink, G: Gate>(
     args: &ArgWords,
     source: &mut S,
     out: &mut K,
-    err: &mut N,
+    _err: &mut N,
     _gate: &G,
 ) -> Outcome
     // 1: the words are not the three that exist. Nothing was read.
@@ -89,9 +89,8 @@ pub fn tester<R: Threads + Wait + Sync, S: Source, K: Sink, N: Sink, G: Gate>(
 
     // At each status: no more was read than the limit, and nothing was written to err.
     ensures limit { result.status ≢ usage → ReadsWithin (S.left source.old) (S.left source.new) }
-    ensures quiet { err.new ≡ err.old }
+    ensures quiet { _err.new ≡ _err.old }
 {
-    let _silent = err;
     let Some(prefix) = args.prefix() else {
         return without_order(alloc, USAGE);
     };

@@ -4,7 +4,7 @@ use Rattle.std.proofs.lemmas.List.Elements.{All-from_get_or}
 use Rattle.key_bytes.specs.Keys.{IsByteString}
 use Rattle.database_rules.specs.Atomics.{fitted}
 use Rattle.atomic_ops.proofs.Fitted.{length-fitted, get_or-fitted, fitted-IsByteString}
-use Rattle.atomic_ops.proofs.Little.{nat_lt-little}
+use Rattle.atomic_ops.proofs.Little.{nat_lt-number_low}
 use Rattle.atomic_ops.proofs.numbers.is_less.Goals as goal
 
 -- one byte more is the same
@@ -33,7 +33,7 @@ returns-then-kept-operand c =
     let inside : i < length operand = omega (arith, c.loop-place.auto.place) in
     let byte : c.byte_at-kept.result ≡ get_or (fitted old operand) i 0 = c.byte_at-kept.ensures ∙ sym (get_or-fitted old operand i inside) in
     let kept_bytes = fitted-IsByteString old operand (is_byte_string old c.type_inv.old) in
-    rw byte (nat_lt-little (fitted old operand) operand i kept_bytes (is_byte_string operand c.type_inv.operand) (length-fitted old operand)
+    rw byte (nat_lt-number_low (fitted old operand) operand i kept_bytes (is_byte_string operand c.type_inv.operand) (length-fitted old operand)
     (omega (arith, length-fitted old operand, inside)) (rw next c.loop-place.invariant) (λ e. c.if-kept-operand.true (byte ∙ e)))
 
 pub loop-place-preserved : goal.loop-place-preserved

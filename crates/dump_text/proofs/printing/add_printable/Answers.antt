@@ -1,40 +1,30 @@
-use Rattle.std.proofs.Common.{◌≡◌, ◌++◌, take, drop, slice_index_or, length, ◌-◌, refl, append_assoc}
-use Rattle.line_rules.specs.Printing.{is_plain, printed, printable}
-use Rattle.dump_text.proofs.Runs.{printable_run, after_stops, first_fails, print_more, print_done}
-use Rattle.dump_text.proofs.Grown.{grew_same, grew_more}
+use Rattle.std.proofs.Common.{◌≡◌, ℕ, List, ◌++◌, sym, ◌∙◌, arith}
+use Rattle.std.proofs.lemmas.Bool.{eqb-true}
+use Rattle.std.proofs.lemmas.Result.{on_ok_weaker}
+use Rattle.line_rules.specs.Printing.{is_plain, printable}
+use Rattle.dump_text.proofs.Runs.{after_stops, parts_printed, print_done}
 use Rattle.dump_text.proofs.printing.add_printable.Goals as goal
 
-pub loop-left-init : goal.loop-left-init
-loop-left-init c =
-    let s = c.split_plain.ensures in
-    let bytes = c.args.bytes.now in
-    record {
-      all = rw (c.in_ok-extend_from_slice.ensures.items, s.front, s.rest, append_assoc, ← printable_run bytes) refl;
-      stopped = rw s.rest (after_stops is_plain bytes);
-      grew = rw c.in_ok-extend_from_slice.ensures.items
-          (grew_more c.args.to.now.items c.args.to.now.items c.split_plain.result.0.now (grew_same c.args.to.now.items));
-    }
+pub add_escaped-requires : goal.add_escaped-requires
+add_escaped-requires c = rw c.split_plain.ensures.rest (after_stops is_plain c.args.bytes.now)
 
-pub add_escape-requires : goal.add_escape-requires
-add_escape-requires c = first_fails is_plain c.loop-left.left.now c.in-len1-up.len_at_least c.loop-left.invariant.stopped
-
-pub loop-left-preserved : goal.loop-left-preserved
-loop-left-preserved c =
-    let s = c.split_plain-in-len1-up in
-    let left = c.loop-left.left.now in
+pub returns-then-is_empty-clause-ok : goal.returns-then-is_empty-clause-ok
+returns-then-is_empty-clause-ok c =
+    let s = c.split_plain in
     let to = c.args.to.now.items in
-    let front = c.loop-left.to.items in
-    let spelled = printed (slice_index_or left 0 0) in
-    let now : c.add_run.new.to.items ≡ (front ++ spelled) ++ s.result.0.now =
-    rw (c.in_ok-add_run.ensures.ok, c.in_ok-add_escape.ensures.ok) refl in
-    record {
-      all = rw (now, s.ensures.front, s.ensures.rest)
-          (print_more front left (to ++ printable c.args.bytes.now) c.in-len1-up.len_at_least c.loop-left.invariant.all);
-      stopped = rw s.ensures.rest (after_stops is_plain (take (length left - 1) (drop 1 left)));
-      grew = rw now (grew_more to (front ++ spelled) s.result.0.now (grew_more to front spelled c.loop-left.invariant.grew));
-    }
+    let none = eqb-true _ 0 (sym c.is_empty.ensures ∙ c.if-is_empty.true) in
+    c.in_ok-add_run.ensures.ok
+    ∙ print_done (to ++ s.result.0.now) s.result.1.now (to ++ printable c.args.bytes.now) (omega (arith, none))
+    (parts_printed to c.args.bytes.now s.result.0.now s.result.1.now s.ensures.front s.ensures.rest)
+
+-- what was added after what was added before
+both_added : (to run left mid new total : List ℕ) → mid ≡ to ++ run → (to ++ run) ++ printable left ≡ total
+    → new ≡ mid ++ printable left → new ≡ total
+both_added to run left mid new total before parts after = cc
 
 pub returns-clause-ok : goal.returns-clause-ok
 returns-clause-ok c =
-    print_done c.loop-left.to.items c.loop-left.left.now
-    (c.args.to.now.items ++ printable c.args.bytes.now) c.in_default.len_below c.loop-left.invariant.all
+    let s = c.split_plain in
+    let to = c.args.to.now.items in
+    let parts = parts_printed to c.args.bytes.now s.result.0.now s.result.1.now s.ensures.front s.ensures.rest in
+    on_ok_weaker c.add_escaped.result (both_added to s.result.0.now s.result.1.now _ _ _ c.in_ok-add_run.ensures.ok parts) c.add_escaped.ensures.ok

@@ -25,7 +25,8 @@ loop-n-preserved c =
       all = rw (take_rest left (n + 1), next, now)
           (escaped_more c.loop-n.to.items left total escaped n found.0.high (λ k l. found.0.before k (omega arith) l) found.1 c.loop-n.invariant.all);
       within = rw (take_rest left (n + 1)) (omega (arith, length-drop (n + 1) left));
-      grew = rw now (grew_more to front (in_digits escaped) (grew_more to c.loop-n.to.items (printable (take n left)) c.loop-n.invariant.grew));
+      grew =
+          rw now (grew_more to front (in_digits escaped) (grew_more to c.loop-n.to.items (printable (take n left)) c.loop-n.invariant.grew));
     }
 
 pub returns-clause-ok : goal.returns-clause-ok

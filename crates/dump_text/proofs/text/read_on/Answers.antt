@@ -19,7 +19,7 @@ loop-byte-preserved c =
     let p = c.in-Spelled in
     let front = c.loop-byte.scratch.items in
     let left = c.loop-byte.left.now in
-    let items : c.add_run.new.to.items ≡ (front ++ p.byte ∷ []) ++ s.result.0.now =
+    let items : c.add_run-in-Spelled.new.to.items ≡ (front ++ p.byte ∷ []) ++ s.result.0.now =
     rw (c.in_ok-add_run-in-Spelled.ensures.ok, c.in_ok-push-in-Spelled.ensures.items) refl in
     let total = with_front c.args.run.now (text_of c.args.bytes.now) in
     let all = read_more front left p.rest.now s.result.0.now s.result.1.now p.byte total

@@ -10,8 +10,8 @@ returns-in_default-after_escape c =
 pub loop-run-preserved : goal.loop-run-preserved
 loop-run-preserved c =
     let split = c.in-Some.ensures in
-    let pushed = c.in_ok-push.ensures.items ∙ ap (λ read. read ++ 0 ∷ []) c.in_ok-extend_from_slice.ensures.items in
-    read_more c.args.whole c.args.bytes.now c.loop-run.string.items c.loop-run.rest.now c.in-Some.run'.now c.in-Some.after.now c.in-Some-after_escape.others.now c.push.new.self.items c.loop-run.invariant split.0 split.1 c.in-Some-after_escape.ensures pushed
+    let pushed = c.in_ok-extend_from_slice-2.ensures.items ∙ ap (λ read. read ++ 0 ∷ []) c.in_ok-extend_from_slice.ensures.items in
+    read_more c.args.whole c.args.bytes.now c.loop-run.string.items c.loop-run.rest.now c.in-Some.run'.now c.in-Some.after.now c.in-Some-after_escape.others.now c.extend_from_slice-in-Some.new.self.items c.loop-run.invariant split.0 split.1 c.in-Some-after_escape.ensures pushed
 
 pub returns : goal.returns
 returns c = read_open c.args.whole c.args.bytes.now c.loop-run.string.items c.loop-run.rest.now c.loop-run.invariant c.in_default.ensures

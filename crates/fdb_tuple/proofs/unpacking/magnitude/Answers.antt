@@ -1,5 +1,5 @@
 use Rattle.std.proofs.Common.{arith, refl}
-use Rattle.fdb_tuple.specs.Reading.{number_low}
+use Rattle.key_bytes.specs.Numbers.{number_low}
 use Rattle.fdb_tuple.proofs.ByteLists.{AreBytes-by_place, number_fits, number_more}
 use Rattle.fdb_tuple.proofs.unpacking.magnitude.Goals as goal
 

@@ -19,7 +19,8 @@ of_zero m found = let e = only m.0 found.0 found.1 found.2 found.3 found.4 in λ
 in_order : (x y z : ℕ) → x ∷ y ∷ z ∷ [] ≡ 1 ∷ 2 ∷ 3 ∷ [] → (x ≡ 1) × (y ≡ 2) × (z ≡ 3)
 in_order x y z e = ((cc), (cc), (cc))
 
-three : (a b c : ℕ × ℕ) → (CoverAllNumbers one_sender → IsOfThese (a ∷ b ∷ c ∷ []) one_sender) → All (TakesAllWhereAsMany (a ∷ b ∷ c ∷ [])) one_sender → (a ≡ (0, 1)) × (b ≡ (0, 2)) × (c ≡ (0, 3))
+three : (a b c : ℕ × ℕ) → (CoverAllNumbers one_sender → IsOfThese (a ∷ b ∷ c ∷ []) one_sender)
+    → All (TakesAllWhereAsMany (a ∷ b ∷ c ∷ [])) one_sender → (a ≡ (0, 1)) × (b ≡ (0, 2)) × (c ≡ (0, 3))
 three a b c of_these whole =
     let ones = of_these (λ p lt. (0, with_post (with_post (with_post first_history 1) 2) 3, omega arith, refl, (omega arith, lt))) in
     let a' = of_zero a (ones 0 a (omega arith)) in let b' = of_zero b (ones 1 b (omega arith)) in let c' = of_zero c (ones 2 c (omega arith)) in

@@ -1,7 +1,8 @@
 use Rattle.tester_run.proofs.driving.drive.Goals as goal
 
 pub returns-in-Stopped-clause-goes_on : goal.returns-in-Stopped-clause-goes_on
-returns-in-Stopped-clause-goes_on g c = λ pairs prefix leads. c.in_ok-turn.ensures.goes_on pairs prefix (c.loop.invariant.goes_on pairs prefix leads)
+returns-in-Stopped-clause-goes_on g c =
+    λ pairs prefix leads. c.in_ok-turn.ensures.goes_on pairs prefix (c.loop.invariant.goes_on pairs prefix leads)
 
 pub loop-preserved : goal.loop-preserved
 loop-preserved g c = record {

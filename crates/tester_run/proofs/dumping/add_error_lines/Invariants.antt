@@ -4,4 +4,5 @@ use Rattle.line_rules.specs.Printing.{error_line}
 use Rattle.tester_run.proofs.dumping.add_error_lines.Given as goal
 
 abbrev pub invariant-loop-note : goal.invariant-loop-note
-invariant-loop-note l = l.to.items ≡ l.fn.to.items ++ flat_map (λ note. error_line l.number note.instruction note.word) (take l.note-index l.note-items)
+invariant-loop-note l =
+    l.to.items ≡ l.fn.to.items ++ flat_map (λ note. error_line l.number note.instruction note.word) (take l.note-index l.note-items)

@@ -7,7 +7,7 @@ pub invariant_of-self-2 : goal.invariant_of-self-2
 invariant_of-self-2 c =
     let items = c.self.inside.items.items in
     let depth = depth_of-push items c.args.element in
-    rw c.in_ok-push.ensures.items (omega (arith, depth), (AreElements-push items c.args.element c.self.invariant.1.0 c.is_lawful.ensures, omega (arith, depth)))
+    rw c.in_ok-push.ensures.items (omega (arith, depth), (AreElements-push items c.args.element c.self.invariant.1.0 c.shows_element.ensures, omega (arith, depth)))
 
 pub returns-clause-ok : goal.returns-clause-ok
 returns-clause-ok c =

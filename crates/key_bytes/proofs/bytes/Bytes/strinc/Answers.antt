@@ -10,8 +10,11 @@ none_is : (bytes : List ℕ) → ((k : ℕ) → k < length bytes → 255 ≤ get
 none_is bytes high = none_from_tops bytes (All-from_get_or (λ b. 255 ≤ b) bytes 0 high)
 
 -- the bytes behind the one at last are FF
-some_is : (bytes : List ℕ) (last : ℕ) → last < length bytes → get_or bytes last 0 < 255 → ((k : ℕ) → last + 1 ≤ k → k < length bytes → 255 ≤ get_or bytes k 0) → strinc bytes ≡ Some (take last bytes ++ (get_or bytes last 0 + 1) ∷ [])
-some_is bytes last inside low high = ap strinc parts ∙ strinc-append (take last bytes) (get_or bytes last 0) (drop (last + 1) bytes) low tops
+some_is : (bytes : List ℕ) (last : ℕ) → last < length bytes → get_or bytes last 0 < 255
+    → ((k : ℕ) → last + 1 ≤ k → k < length bytes → 255 ≤ get_or bytes k 0)
+    → strinc bytes ≡ Some (take last bytes ++ (get_or bytes last 0 + 1) ∷ [])
+some_is bytes last inside low high =
+    ap strinc parts ∙ strinc-append (take last bytes) (get_or bytes last 0) (drop (last + 1) bytes) low tops
   where
     parts : bytes ≡ take last bytes ++ get_or bytes last 0 ∷ drop (last + 1) bytes
     parts = sym (take-append-drop last bytes) ∙ ap (λ back. take last bytes ++ back) (drop_more bytes last 0 inside)

@@ -6,7 +6,8 @@ use borrow.Rule.Slice.PartMut.{put_mid}
 use Rattle.key_bytes.proofs.short.Short.joined.Goals as goal
 
 -- the one part and then the other, before zeros
-parts_joined : (first second zeros : List ℕ) (k : ℕ) → take (length first + length second) (put_mid (length first) k (first ++ zeros) second) ≡ first ++ second
+parts_joined : (first second zeros : List ℕ) (k : ℕ)
+    → take (length first + length second) (put_mid (length first) k (first ++ zeros) second) ≡ first ++ second
 parts_joined first second zeros k =
     take-put_mid (length first) k (first ++ zeros) second (length first + length second) refl (omega (arith, length-append first zeros))
     ∙ ap (λ (xs : List ℕ). xs ++ second) (take-append_seam first zeros)
