@@ -1,6 +1,6 @@
 -- How many commits a call makes, and how many lives it draws.
 use Rattle.std.proofs.Common.{◌≡◌, ℕ, ◌≤◌, ◌⊎◌, inl, inr, Bool, true, false, List, [], length, Option, Some, None, refl, sym, ap, subst, ◌∙◌, arith}
-use Rattle.fdb_calls.specs.declared.Code.{Code}
+use Rattle.database_rules.specs.declared.Code.{Code}
 use Rattle.fdb_calls.specs.declared.TxnCall.{TxnCall}
 use Rattle.fdb_calls.specs.declared.TxnCall.TheVariants as call
 use Rattle.database_rules.specs.declared.AtomicOp.{AtomicOp}
@@ -24,16 +24,19 @@ write_quiet : (code : Option ℕ) (transaction : Transaction) (mutation : Mutati
 write_quiet (Some code) transaction mutation = record { commits = refl; lives = omega arith }
 write_quiet None transaction mutation = record { commits = refl; lives = omega arith }
 
-atomic_quiet : (code : Option ℕ) (op : Option AtomicOp) (transaction : Transaction) (key operand : List ℕ) → IsQuiet (atomic_by code op transaction key operand)
+atomic_quiet : (code : Option ℕ) (op : Option AtomicOp) (transaction : Transaction) (key operand : List ℕ)
+    → IsQuiet (atomic_by code op transaction key operand)
 atomic_quiet code None transaction key operand = record { commits = refl; lives = omega arith }
 atomic_quiet (Some code) (Some op) transaction key operand = record { commits = refl; lives = omega arith }
 atomic_quiet None (Some op) transaction key operand = record { commits = refl; lives = omega arith }
 
-handled_quiet : (retryable : Bool) (life : ℕ) (transaction : Transaction) (code : Code) → IsQuiet (error_handled retryable life transaction code)
+handled_quiet : (retryable : Bool) (life : ℕ) (transaction : Transaction) (code : Code)
+    → IsQuiet (error_handled retryable life transaction code)
 handled_quiet true life transaction code = record { commits = refl; lives = omega arith }
 handled_quiet false life transaction code = record { commits = refl; lives = omega arith }
 
-on_error_quiet : (cancelled : Bool) (life : ℕ) (transaction : Transaction) (code : Code) → IsQuiet (on_error_by cancelled life transaction code)
+on_error_quiet : (cancelled : Bool) (life : ℕ) (transaction : Transaction) (code : Code)
+    → IsQuiet (on_error_by cancelled life transaction code)
 on_error_quiet true life transaction code = record { commits = refl; lives = omega arith }
 on_error_quiet false life transaction code = handled_quiet (is_retryable code.0) life transaction code
 
@@ -55,7 +58,8 @@ commit_few : (code : Option ℕ) (history : History) (transaction : Transaction)
 commit_few (Some code) history transaction = refused_few transaction.phase code transaction
 commit_few None history transaction = allowed_few (is_read_only transaction) history transaction
 
-pub commit_commits : (history : History) (life : ℕ) (transaction : Transaction) → length (called history life transaction call.Commit).commits ≤ 1
+pub commit_commits : (history : History) (life : ℕ) (transaction : Transaction)
+    → length (called history life transaction call.Commit).commits ≤ 1
 unfolding called
 commit_commits history life transaction = (commit_few (commit_code transaction) history transaction).commits
 
@@ -64,37 +68,46 @@ unfolding called
 commit_lives history life transaction = (commit_few (commit_code transaction) history transaction).lives
 
 -- a call but a commit
-quiet : (history : History) (life : ℕ) (transaction : Transaction) (its_call : TxnCall) → (IsQuiet (called history life transaction its_call)) ⊎ (its_call ≡ call.Commit)
+quiet_or_commit : (history : History) (life : ℕ) (transaction : Transaction) (its_call : TxnCall)
+    → (IsQuiet (called history life transaction its_call)) ⊎ (its_call ≡ call.Commit)
 unfolding called
-quiet history life transaction (call.Get key snapshot) = inl (get_quiet (one_key_code transaction key) history transaction key)
-quiet history life transaction (call.Set key value) = inl (write_quiet (set_code transaction key value) transaction (Set key value))
-quiet history life transaction (call.Clear key) = inl (write_quiet (one_key_code transaction key) transaction (Clear key))
-quiet history life transaction (call.ClearRange range) = inl (write_quiet (clear_range_code transaction range.begin range.end) transaction (ClearRange range.begin range.end))
-quiet history life transaction (call.Atomic name key operand) = inl (atomic_quiet (atomic_code transaction name key operand) (atomic_named name) transaction key operand)
-quiet history life transaction call.Commit = inr refl
-quiet history life transaction (call.OnError code) = inl (on_error_quiet (is_cancelled transaction.phase) life transaction code)
-quiet history life transaction call.Reset = inl (record { commits = refl; lives = omega arith })
-quiet history life transaction call.Cancel = inl (record { commits = refl; lives = omega arith })
+quiet_or_commit history life transaction (call.Get key snapshot) = inl (get_quiet (one_key_code transaction key) history transaction key)
+quiet_or_commit history life transaction (call.Set key value) =
+    inl (write_quiet (set_code transaction key value) transaction (Set key value))
+quiet_or_commit history life transaction (call.Clear key) = inl (write_quiet (one_key_code transaction key) transaction (Clear key))
+quiet_or_commit history life transaction (call.ClearRange range) =
+    inl (write_quiet (clear_range_code transaction range.begin range.end) transaction (ClearRange range.begin range.end))
+quiet_or_commit history life transaction (call.Atomic name key operand) =
+    inl (atomic_quiet (atomic_code transaction name key operand) (atomic_named name) transaction key operand)
+quiet_or_commit history life transaction call.Commit = inr refl
+quiet_or_commit history life transaction (call.OnError code) = inl (on_error_quiet (is_cancelled transaction.phase) life transaction code)
+quiet_or_commit history life transaction call.Reset = inl (record { commits = refl; lives = omega arith })
+quiet_or_commit history life transaction call.Cancel = inl (record { commits = refl; lives = omega arith })
 
-pub few_commits : (history : History) (life : ℕ) (transaction : Transaction) (its_call : TxnCall) → length (called history life transaction its_call).commits ≤ 1
-few_commits history life transaction its_call = by (quiet history life transaction its_call)
+pub few_commits : (history : History) (life : ℕ) (transaction : Transaction) (its_call : TxnCall)
+    → length (called history life transaction its_call).commits ≤ 1
+few_commits history life transaction its_call = by_quiet (quiet_or_commit history life transaction its_call)
   where
     none_few : (commits : List Commit) → commits ≡ [] → length commits ≤ 1
     none_few commits e = subst (λ cs. length cs ≤ 1) (sym e) (omega arith)
 
-    by : (IsQuiet (called history life transaction its_call)) ⊎ (its_call ≡ call.Commit) → length (called history life transaction its_call).commits ≤ 1
-    by (inl is) = none_few (called history life transaction its_call).commits is.commits
-    by (inr e) = subst (λ c. length (called history life transaction c).commits ≤ 1) (sym e) (commit_commits history life transaction)
+    by_quiet : (IsQuiet (called history life transaction its_call)) ⊎ (its_call ≡ call.Commit)
+        → length (called history life transaction its_call).commits ≤ 1
+    by_quiet (inl is) = none_few (called history life transaction its_call).commits is.commits
+    by_quiet (inr e) = subst (λ c. length (called history life transaction c).commits ≤ 1) (sym e) (commit_commits history life transaction)
 
-pub few_lives : (history : History) (life : ℕ) (transaction : Transaction) (its_call : TxnCall) → (called history life transaction its_call).lives ≤ 1
-few_lives history life transaction its_call = by (quiet history life transaction its_call)
+pub few_lives : (history : History) (life : ℕ) (transaction : Transaction) (its_call : TxnCall)
+    → (called history life transaction its_call).lives ≤ 1
+few_lives history life transaction its_call = by_quiet (quiet_or_commit history life transaction its_call)
   where
     none_few : (n : ℕ) → n ≡ 0 → n ≤ 1
     none_few n e = omega arith
 
-    by : (IsQuiet (called history life transaction its_call)) ⊎ (its_call ≡ call.Commit) → (called history life transaction its_call).lives ≤ 1
-    by (inl is) = is.lives
-    by (inr e) = subst (λ c. (called history life transaction c).lives ≤ 1) (sym e) (none_few _ (commit_lives history life transaction))
+    by_quiet : (IsQuiet (called history life transaction its_call)) ⊎ (its_call ≡ call.Commit)
+        → (called history life transaction its_call).lives ≤ 1
+    by_quiet (inl is) = is.lives
+    by_quiet (inr e) =
+        subst (λ c. (called history life transaction c).lives ≤ 1) (sym e) (none_few _ (commit_lives history life transaction))
 
 -- a transaction without a mutation commits nothing
 empty_commits : (history : History) (life n : ℕ) → (called history life (with_version history (fresh n)) call.Commit).commits ≡ []
@@ -102,9 +115,11 @@ unfolding called commit_code
 empty_commits history life n = refl
 
 -- a first call on a transaction of its own makes no commit
-pub first_commits : (history : History) (life n : ℕ) (its_call : TxnCall) → (called history life (with_version history (fresh n)) its_call).commits ≡ []
-first_commits history life n its_call = by (quiet history life (with_version history (fresh n)) its_call)
+pub first_commits : (history : History) (life n : ℕ) (its_call : TxnCall)
+    → (called history life (with_version history (fresh n)) its_call).commits ≡ []
+first_commits history life n its_call = by_quiet (quiet_or_commit history life (with_version history (fresh n)) its_call)
   where
-    by : (IsQuiet (called history life (with_version history (fresh n)) its_call)) ⊎ (its_call ≡ call.Commit) → (called history life (with_version history (fresh n)) its_call).commits ≡ []
-    by (inl is) = is.commits
-    by (inr e) = ap (λ c. (called history life (with_version history (fresh n)) c).commits) e ∙ empty_commits history life n
+    by_quiet : (IsQuiet (called history life (with_version history (fresh n)) its_call)) ⊎ (its_call ≡ call.Commit)
+        → (called history life (with_version history (fresh n)) its_call).commits ≡ []
+    by_quiet (inl is) = is.commits
+    by_quiet (inr e) = ap (λ c. (called history life (with_version history (fresh n)) c).commits) e ∙ empty_commits history life n

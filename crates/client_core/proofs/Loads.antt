@@ -12,20 +12,22 @@ use Rattle.client_core.specs.Stands.{CoreModel, StandsFor, AreAlike}
 -- the store keeps the history of the first commit
 pub first_kept : (store : Versions) (pairs : List (List ℕ × List ℕ)) → last_of store ≡ 1 → versions.at store 0 ≡ finite.empty
     → versions.at store 1 ≡ do_all (loaded pairs).mutations finite.empty → Keeps store (loaded pairs ∷ [])
-first_kept store pairs last empty first = record { last_is = last; at_is = by }
+first_kept store pairs last empty first = record { last_is = last; at_is = by_version }
   where
-    by : (version : ℕ) → version ≤ 1 → versions.at store version ≡ at (loaded pairs ∷ []) version
-    by zero within = empty
-    by (suc zero) within = first
-    by (suc (suc n)) within = absurd (omega arith)
+    by_version : (version : ℕ) → version ≤ 1 → versions.at store version ≡ at (loaded pairs ∷ []) version
+    by_version zero within = empty
+    by_version (suc zero) within = first
+    by_version (suc (suc n)) within = absurd (omega arith)
 
 -- a store of the first version, and no transaction, stand for the beginning
-pub begun_stands : (core : CoreModel) (pairs : List (List ℕ × List ℕ)) (words : ℕ → ℕ) → Keeps core.store (loaded pairs ∷ []) → core.transactions ≡ finite.empty → core.next_life ≡ 0
+pub begun_stands : (core : CoreModel) (pairs : List (List ℕ × List ℕ)) (words : ℕ → ℕ) → Keeps core.store (loaded pairs ∷ [])
+    → core.transactions ≡ finite.empty → core.next_life ≡ 0
     → StandsFor core (begun pairs words)
 begun_stands core pairs words keeps none life = record {
   keeps = keeps;
   transactions = λ name.
       let nothing = finite.get-empty key_cmp name in
-      subst (λ (m : Transactions). AreAlike (finite.get m name) (finite.get (begun pairs words).transactions name)) (sym none) (subst (λ o. AreAlike o o) (sym nothing) tt);
+      subst (λ (m : Transactions). AreAlike (finite.get m name) (finite.get (begun pairs words).transactions name)) (sym none)
+      (subst (λ o. AreAlike o o) (sym nothing) tt);
   next_life = life;
 }

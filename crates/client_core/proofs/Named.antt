@@ -24,24 +24,30 @@ same_key name = (eq_by_cmp_equiv nat_list_cmp_total).refl name
 abbrev pub AllAlike : Transactions → Transactions → Type 0
 AllAlike kept transactions = (name : List ℕ) → AreAlike (finite.get kept name) (finite.get transactions name)
 
-pub there_inserted : (transactions : Transactions) (name : List ℕ) (transaction : Transaction) → IsSome (finite.get (finite.insert transactions name transaction) name)
+pub there_inserted : (transactions : Transactions) (name : List ℕ) (transaction : Transaction)
+    → IsSome (finite.get (finite.insert transactions name transaction) name)
 there_inserted transactions name transaction =
-    ap is_some (finite.get-insert nat_list_cmp_total transactions name transaction name) ∙ ap (λ b. is_some (cond b (Some transaction) (finite.get transactions name))) (same_key name)
+    ap is_some (finite.get-insert nat_list_cmp_total transactions name transaction name)
+    ∙ ap (λ b. is_some (cond b (Some transaction) (finite.get transactions name))) (same_key name)
 
-alike_by : (b : Bool) (kept transaction : Transaction) (x y : Option Transaction) → txn.StandsFor kept transaction → AreAlike x y → AreAlike (cond b (Some kept) x) (cond b (Some transaction) y)
-alike_by true kept transaction x y stands alike = stands
-alike_by false kept transaction x y stands alike = alike
+alike_cond : (b : Bool) (kept transaction : Transaction) (x y : Option Transaction) → txn.StandsFor kept transaction → AreAlike x y
+    → AreAlike (cond b (Some kept) x) (cond b (Some transaction) y)
+alike_cond true kept transaction x y stands alike = stands
+alike_cond false kept transaction x y stands alike = alike
 
 pub alike_inserted : (m w : Transactions) (name : List ℕ) (kept transaction : Transaction) → txn.StandsFor kept transaction → AllAlike m w
     → AllAlike (finite.insert m name kept) (finite.insert w name transaction)
 alike_inserted m w name kept transaction stands alike = λ q.
-    let both = alike_by (eq_by_cmp key_cmp q name) kept transaction (finite.get m q) (finite.get w q) stands (alike q) in
+    let both = alike_cond (eq_by_cmp key_cmp q name) kept transaction (finite.get m q) (finite.get w q) stands (alike q) in
     subst (λ x. AreAlike x (finite.get (finite.insert w name transaction) q)) (sym (finite.get-insert nat_list_cmp_total m name kept q))
-    (subst (λ y. AreAlike (cond (eq_by_cmp key_cmp q name) (Some kept) (finite.get m q)) y) (sym (finite.get-insert nat_list_cmp_total w name transaction q)) both)
+    (subst (λ y. AreAlike (cond (eq_by_cmp key_cmp q name) (Some kept) (finite.get m q)) y)
+    (sym (finite.get-insert nat_list_cmp_total w name transaction q)) both)
 
 -- a transaction of a new life under a name
-pub new_stands : (core : CoreModel) (world : World) (name : List ℕ) (kept : Transaction) (after : CoreModel) → StandsFor core world → txn.StandsFor kept (fresh core.next_life)
-    → after.store ≡ core.store → after.transactions ≡ finite.insert core.transactions name kept → after.next_life ≡ core.next_life + 1 → StandsFor after (with_new world name)
+pub new_stands : (core : CoreModel) (world : World) (name : List ℕ) (kept : Transaction) (after : CoreModel) → StandsFor core world
+    → txn.StandsFor kept (fresh core.next_life)
+    → after.store ≡ core.store → after.transactions ≡ finite.insert core.transactions name kept → after.next_life ≡ core.next_life + 1 →
+    StandsFor after (with_new world name)
 new_stands core world name kept after stands fresh_one store transactions next_life = record {
   keeps = subst (λ s. txn.Keeps s world.history) (sym store) stands.keeps;
   transactions = subst (λ m. AllAlike m (finite.insert world.transactions name (fresh world.next_life))) (sym transactions)
@@ -58,16 +64,21 @@ alike_there (Some x) None alike = absurd alike
 alike_there (Some x) (Some y) alike = refl
 
 -- a name that has a transaction needs none
-pub named_had : (core : CoreModel) (world : World) (name : List ℕ) → StandsFor core world → is_some (finite.get core.transactions name) ≡ true → with_named world name ≡ world
+pub named_had : (core : CoreModel) (world : World) (name : List ℕ) → StandsFor core world
+    → is_some (finite.get core.transactions name) ≡ true → with_named world name ≡ world
 named_had core world name stands there =
-    ap (λ b. cond b world (with_new world name)) (sym (alike_there (finite.get core.transactions name) (finite.get world.transactions name) (stands.transactions name)) ∙ there)
+    ap (λ b. cond b world (with_new world name))
+    (sym (alike_there (finite.get core.transactions name) (finite.get world.transactions name) (stands.transactions name)) ∙ there)
 
-pub named_none : (core : CoreModel) (world : World) (name : List ℕ) → StandsFor core world → is_some (finite.get core.transactions name) ≡ false → with_named world name ≡ with_new world name
+pub named_none : (core : CoreModel) (world : World) (name : List ℕ) → StandsFor core world
+    → is_some (finite.get core.transactions name) ≡ false → with_named world name ≡ with_new world name
 named_none core world name stands there =
-    ap (λ b. cond b world (with_new world name)) (sym (alike_there (finite.get core.transactions name) (finite.get world.transactions name) (stands.transactions name)) ∙ there)
+    ap (λ b. cond b world (with_new world name))
+    (sym (alike_there (finite.get core.transactions name) (finite.get world.transactions name) (stands.transactions name)) ∙ there)
 
 -- the transaction of a name is one that the kept one stands for
-pub found_stands : (kept fresh_one : Transaction) (x y : Option Transaction) → x ≡ Some kept → AreAlike x y → txn.StandsFor kept (unwrap_or y fresh_one)
+pub found_stands : (kept fresh_one : Transaction) (x y : Option Transaction) → x ≡ Some kept → AreAlike x y
+    → txn.StandsFor kept (unwrap_or y fresh_one)
 found_stands kept fresh_one None y e alike = absurd cc
 found_stands kept fresh_one (Some x) None e alike = absurd alike
 found_stands kept fresh_one (Some x) (Some y) e alike = subst (λ k. txn.StandsFor k y) (let same : x ≡ kept = cc in same) alike
@@ -80,7 +91,9 @@ byte_counts false = refl
 -- a call on the transaction of a name, which is there, is the call of the step
 pub named_took : (core after : CoreModel) (world : World) (name : List ℕ) (call : TxnCall) (before left : Transaction) (answer : Answer)
     → finite.get core.transactions name ≡ Some before
-    → ((transaction : Transaction) (history : History) → txn.StandsFor before transaction → txn.Keeps core.store history → txn.Answers answer left after.store history (called history core.next_life transaction call))
+    →
+    ((transaction : Transaction) (history : History) → txn.StandsFor before transaction → txn.Keeps core.store history → txn.Answers
+    answer left after.store history (called history core.next_life transaction call))
     → after.transactions ≡ finite.insert core.transactions name left → after.next_life ≡ core.next_life + cond answer.drew_life 1 0
     → StandsFor core world → Took answer.reply after (call_named world name call)
 named_took core after world name call before left answer found answers transactions next_life stands =

@@ -20,8 +20,8 @@ pub record IsFew (before after : World) : Type 0 where
   pub commits : last after.history ≤ last before.history + 1
   pub lives : after.next_life ≤ before.next_life + 2
 
-counts : (first second : List Commit) → length second ≤ 1 → length (first ++ second) ≤ length first + 1
-counts first second few = subst (λ n. n ≤ length first + 1) (sym (length-append first second)) (omega arith)
+appended_counts : (first second : List Commit) → length second ≤ 1 → length (first ++ second) ≤ length first + 1
+appended_counts first second few = subst (λ n. n ≤ length first + 1) (sym (length-append first second)) (omega arith)
 
 one_or_none : (b : Bool) (commits : List Commit) → length commits ≤ 1 → length (cond b [] commits) ≤ 1
 one_or_none true commits few = omega arith
@@ -30,29 +30,37 @@ one_or_none false commits few = few
 pub step_few : (world : World) (given : Request) → IsFew world (step world given).world
 unfolding step
 step_few world (request.New name) = record { commits = omega arith; lives = omega arith }
-step_few world (request.On name its_call) = by (is_some (finite.get world.transactions name))
+step_few world (request.On name its_call) = by_named (is_some (finite.get world.transactions name))
   where
     -- a call in a world that drew one life at most since
-    called_few : (between : World) → between.history ≡ world.history → between.next_life ≤ world.next_life + 1 → IsFew world (call_named between name its_call).world
+    called_few : (between : World) → between.history ≡ world.history → between.next_life ≤ world.next_life + 1
+        → IsFew world (call_named between name its_call).world
     called_few between same few =
         let made = few_commits between.history between.next_life (transaction_of between name) its_call in
         let drawn = few_lives between.history between.next_life (transaction_of between name) its_call in
         record {
-          commits = subst (λ h. length (between.history ++ (called between.history between.next_life (transaction_of between name) its_call).commits) ≤ length h + 1) same
-              (counts between.history (called between.history between.next_life (transaction_of between name) its_call).commits made);
+          commits =
+              subst
+              (λ h. length
+              (between.history ++ (called between.history between.next_life (transaction_of between name) its_call).commits) ≤
+              length h + 1)
+              same
+              (appended_counts between.history (called between.history between.next_life (transaction_of between name) its_call).commits
+              made);
           lives = omega (arith, few, drawn);
         }
 
-    by : (b : Bool) → IsFew world (call_named (cond b world (with_new world name)) name its_call).world
-    by true = called_few world refl (omega arith)
-    by false = called_few (with_new world name) refl (omega arith)
+    by_named : (b : Bool) → IsFew world (call_named (cond b world (with_new world name)) name its_call).world
+    by_named true = called_few world refl (omega arith)
+    by_named false = called_few (with_new world name) refl (omega arith)
 step_few world (request.Database its_call) =
     let made = first_called world its_call in
     let second = called world.history (world.next_life + 1 + made.lives) made.transaction call.Commit in
     let drawn = few_lives world.history (world.next_life + 1) (fresh_at_last world) its_call in
     record {
-      commits = counts world.history (cond (is_fault made.reply) [] second.commits)
-          (one_or_none (is_fault made.reply) second.commits (commit_commits world.history (world.next_life + 1 + made.lives) made.transaction));
+      commits = appended_counts world.history (cond (is_fault made.reply) [] second.commits)
+          (one_or_none (is_fault made.reply) second.commits
+          (commit_commits world.history (world.next_life + 1 + made.lives) made.transaction));
       lives = omega (arith, drawn);
     }
 
@@ -68,18 +76,21 @@ pub words_kept : (world : World) (given : Request) (words : ℕ → ℕ) → Has
 words_kept world given words has place = has place ∙ (λ i. sym (step_words world given) i place)
 
 -- the reply and what a core stands for, as the contract says it
-pub took_answers : (its_reply : Reply) (core : CoreModel) (words : ℕ → ℕ) (stepped : Stepped) → Took its_reply core stepped → HasWords stepped.world words → Answers its_reply core words stepped
+pub took_answers : (its_reply : Reply) (core : CoreModel) (words : ℕ → ℕ) (stepped : Stepped) → Took its_reply core stepped
+    → HasWords stepped.world words → Answers its_reply core words stepped
 took_answers reply.Done core words stepped took has = (sym took.reply_is, took.stands, has)
 took_answers (reply.Value value) core words stepped took has = (sym took.reply_is, took.stands, has)
 took_answers (reply.Fault code) core words stepped took has = (sym took.reply_is, took.stands, has)
 took_answers reply.NoMemory core words stepped took has = tt
 
 -- how many requests were taken does not matter for what a core stands for
-pub stands_counted : (core : CoreModel) (applied : ℕ) (world : World) → StandsFor core world → StandsFor (record core { applied = applied }) world
+pub stands_counted : (core : CoreModel) (applied : ℕ) (world : World) → StandsFor core world
+    → StandsFor (record core { applied = applied }) world
 stands_counted core applied world stands = record { keeps = stands.keeps; transactions = stands.transactions; next_life = stands.next_life }
 
 -- a core that is sound takes a request, and is sound after it
-pub sound_taken : (core after : CoreModel) (given : Request) (its_reply : Reply) (applied : ℕ) → ((world : World) → StandsFor core world → Took its_reply after (step world given))
+pub sound_taken : (core after : CoreModel) (given : Request) (its_reply : Reply) (applied : ℕ)
+    → ((world : World) → StandsFor core world → Took its_reply after (step world given))
     → IsSound core (applied + 1) (2 * applied) → IsSound after (applied + 1 + 1) (2 * (applied + 1))
 sound_taken core after given its_reply applied took sound =
     let few = step_few sound.world given in
@@ -91,7 +102,8 @@ sound_taken core after given its_reply applied took sound =
     }
 
 -- a core that is sound has versions and lives to spare
-pub sound_enough : (core : CoreModel) (applied counted : ℕ) → applied < 2 ^ 62 → IsSound core (applied + 1) (2 * applied) → IsSound (record core { applied = counted }) (2 ^ 62) (2 ^ 63)
+pub sound_enough : (core : CoreModel) (applied counted : ℕ) → applied < 2 ^ 62 → IsSound core (applied + 1) (2 * applied)
+    → IsSound (record core { applied = counted }) (2 ^ 62) (2 ^ 63)
 sound_enough core applied counted few sound = record {
   world = sound.world;
   stands = stands_counted core counted sound.world sound.stands;

@@ -3,4 +3,5 @@ use Rattle.client_core.specs.declared.contents.Contents.{Contents}
 use Rattle.client_core.specs.Stands.{CoreModel}
 
 abbrev pub model_of : Contents → CoreModel
-model_of contents = record { store = contents.store; transactions = contents.transactions; next_life = contents.next_life; applied = contents.applied }
+model_of contents =
+    record { store = contents.store; transactions = contents.transactions; next_life = contents.next_life; applied = contents.applied }

@@ -1,7 +1,6 @@
 -- What a core stands for.
 use Rattle.std.specs.Prelude.{◌≡◌, ℕ, ⊤, List, Option, Some, None}
 use Rattle.std.specs.FinMap as finite
-use Rattle.fdb_calls.specs.declared.Code.{Code}
 use Rattle.fdb_calls.specs.declared.Reply.{Reply}
 use Rattle.fdb_calls.specs.declared.Reply.TheVariants as reply
 use Rattle.database_rules.specs.Transactions.{Transaction}
@@ -35,6 +34,8 @@ pub record StandsFor (core : CoreModel) (world : World) : Type 0 where
 -- out, and nothing is said of the core and of the words
 abbrev pub Answers : Reply → CoreModel → (ℕ → ℕ) → Stepped → Type 0
 Answers reply.Done core words stepped = (stepped.reply ≡ reply.Done) × StandsFor core stepped.world × HasWords stepped.world words
-Answers (reply.Value value) core words stepped = (stepped.reply ≡ reply.Value value) × StandsFor core stepped.world × HasWords stepped.world words
-Answers (reply.Fault code) core words stepped = (stepped.reply ≡ reply.Fault code) × StandsFor core stepped.world × HasWords stepped.world words
+Answers (reply.Value value) core words stepped =
+    (stepped.reply ≡ reply.Value value) × StandsFor core stepped.world × HasWords stepped.world words
+Answers (reply.Fault code) core words stepped =
+    (stepped.reply ≡ reply.Fault code) × StandsFor core stepped.world × HasWords stepped.world words
 Answers reply.NoMemory core words stepped = ⊤

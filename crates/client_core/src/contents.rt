@@ -35,7 +35,8 @@ impl Contents {
     /// requests were taken.
     pub fn take(&mut self, request: &Request) -> Result<Reply, AllocError>
         requires { IsSound (model_of self.old) (2 ^ 62) (2 ^ 63) }
-        ensures step { IfOk result (λ reply. (world : World) → StandsFor (model_of self.old) world → Took reply (model_of self.new) (step world request.now)) }
+        ensures step { IfOk result (λ reply. (world : World) → StandsFor (model_of self.old) world
+            → Took reply (model_of self.new) (step world request.now)) }
         ensures applied { self.new.applied ≡ self.old.applied }
     {
         match request {
@@ -48,7 +49,8 @@ impl Contents {
     // A transaction of a new life stands under a name, in place of the one that is there.
     fn make_new(&mut self, name: &Bytes) -> Result<Reply, AllocError>
         requires { self.old.next_life < 2 ^ 64 - 1 }
-        ensures stands { IfOk result (λ reply. (world : World) → StandsFor (model_of self.old) world → Took reply (model_of self.new) (record { world = with_new world name.now; reply = Done })) }
+        ensures stands { IfOk result (λ reply. (world : World) → StandsFor (model_of self.old) world
+            → Took reply (model_of self.new) (record { world = with_new world name.now; reply = Done })) }
         ensures there { OnOk result (IsSome (finite.get self.new.transactions name.now)) }
         ensures store { self.new.store ≡ self.old.store }
         ensures lives { OnOk result (self.new.next_life ≡ self.old.next_life + 1) }
@@ -63,7 +65,8 @@ impl Contents {
     // A name that has no transaction gets one.
     fn make(&mut self, name: &Bytes) -> Result<(), AllocError>
         requires { self.old.next_life < 2 ^ 64 - 1 }
-        ensures stands { OnOk result ((world : World) → StandsFor (model_of self.old) world → StandsFor (model_of self.new) (with_named world name.now)) }
+        ensures stands { OnOk result ((world : World) → StandsFor (model_of self.old) world
+            → StandsFor (model_of self.new) (with_named world name.now)) }
         ensures there { OnOk result (IsSome (finite.get self.new.transactions name.now)) }
         ensures store { self.new.store ≡ self.old.store }
         ensures lives { OnOk result (self.new.next_life ≤ self.old.next_life + 1) }
@@ -78,7 +81,8 @@ impl Contents {
     // A call on the transaction of a name, which is made where the name has none.
     fn call_made(&mut self, name: &Bytes, call: &TxnCall) -> Result<Reply, AllocError>
         requires { IsSound (model_of self.old) (2 ^ 62) (2 ^ 63) }
-        ensures step { IfOk result (λ reply. (world : World) → StandsFor (model_of self.old) world → Took reply (model_of self.new) (call_named (with_named world name.now) name.now call.now)) }
+        ensures step { IfOk result (λ reply. (world : World) → StandsFor (model_of self.old) world
+            → Took reply (model_of self.new) (call_named (with_named world name.now) name.now call.now)) }
         ensures applied { self.new.applied ≡ self.old.applied }
     {
         self.make(name)?;
@@ -90,7 +94,8 @@ impl Contents {
         requires there { IsSome (finite.get self.old.transactions name.now) }
         requires few_commits { last_of self.old.store < 2 ^ 63 }
         requires few_lives { self.old.next_life < 2 ^ 64 - 1 }
-        ensures step { IfOk result (λ reply. (world : World) → StandsFor (model_of self.old) world → Took reply (model_of self.new) (call_named world name.now call.now)) }
+        ensures step { IfOk result (λ reply. (world : World) → StandsFor (model_of self.old) world
+            → Took reply (model_of self.new) (call_named world name.now call.now)) }
         ensures applied { self.new.applied ≡ self.old.applied }
     {
         let transaction = self.transactions.get_mut(name).unwrap();
@@ -102,7 +107,8 @@ impl Contents {
     // A call on a transaction of its own at the last version, which is then committed.
     fn call_database(&mut self, call: &TxnCall) -> Result<Reply, AllocError>
         requires { IsSound (model_of self.old) (2 ^ 62) (2 ^ 63) }
-        ensures step { IfOk result (λ reply. (world : World) → StandsFor (model_of self.old) world → Took reply (model_of self.new) (step world (Database call.now))) }
+        ensures step { IfOk result (λ reply. (world : World) → StandsFor (model_of self.old) world
+            → Took reply (model_of self.new) (step world (Database call.now))) }
         ensures applied { self.new.applied ≡ self.old.applied }
     {
         let mut transaction = Txn::at_last(self.alloc, self.next_life, &self.store);
@@ -119,7 +125,8 @@ impl Contents {
     fn call_apart(&mut self, transaction: &mut Txn, call: &TxnCall) -> Result<Reply, AllocError>
         requires few_commits { last_of self.old.store < 2 ^ 63 }
         requires few_lives { self.old.next_life < 2 ^ 64 - 1 }
-        ensures step { IfOk result (λ reply. (t : Transaction) (world : World) → txn.StandsFor transaction.old t → StandsFor (model_of self.old) world
+        ensures step { IfOk result (λ reply. (t : Transaction) (world : World) → txn.StandsFor transaction.old t
+            → StandsFor (model_of self.old) world
             → TookApart reply transaction.new (model_of self.new) world (called world.history world.next_life t call.now)) }
         ensures applied { self.new.applied ≡ self.old.applied }
     {

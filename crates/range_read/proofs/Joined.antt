@@ -24,7 +24,8 @@ module _ (database : Database) (b e : List ℕ) (limit : ℕ) (down : Bool) (mod
         omega (arith, size.some, long, same, front)
 
     module _ (rest : slice database b e limit down ≡ got ++ slice_behind database b e (limit - length got) down (last_key got))
-        (c d : List ℕ) (begin : c ≡ begin_behind b (last_key got) down) (end : d ≡ end_behind e (last_key got) down) (left : ℕ) (fewer : left ≡ limit - length got)
+        (c d : List ℕ) (begin : c ≡ begin_behind b (last_key got) down) (end : d ≡ end_behind e (last_key got) down) (left : ℕ)
+        (fewer : left ≡ limit - length got)
       where
         rest_is_slice : slice database b e limit down ≡ got ++ slice database c d left down
         rest_is_slice =
@@ -38,7 +39,8 @@ module _ (database : Database) (b e : List ℕ) (limit : ℕ) (down : Bool) (mod
             omega (arith, same, both, got_some)
 
         -- what was read, followed by what is left, stays the slice
-        pub joined_whole : (ps now all : Entries) → ps ++ slice database b e limit down ≡ all → now ≡ ps ++ got → now ++ slice database c d left down ≡ all
+        pub joined_whole : (ps now all : Entries) → ps ++ slice database b e limit down ≡ all → now ≡ ps ++ got
+            → now ++ slice database c d left down ≡ all
         joined_whole ps now all whole added =
             ap (λ now. now ++ slice database c d left down) added ∙ append_assoc ps got (slice database c d left down)
             ∙ ap (λ ys. ps ++ ys) (sym rest_is_slice) ∙ whole

@@ -66,16 +66,18 @@ module _ {X : Type 0} where
   no_more zero size all short = le-ltb size (length all) short
   no_more (suc n) size all short = let e = length-take (suc n) all in le-ltb size (length (take (suc n) all)) (omega (arith, e))
 
-  some_more : (limit size : ℕ) (all : List X) → IsSize limit size → (limit ≡ size → ⊥) → size < length all → nat_lt size (length (cut limit all)) ≡ true
+  some_more : (limit size : ℕ) (all : List X) → IsSize limit size → (limit ≡ size → ⊥) → size < length all
+      → nat_lt size (length (cut limit all)) ≡ true
   some_more zero size all is other long = lt-ltb size (length all) long
   some_more (suc n) size all is other long =
       let e = length-take (suc n) all in
       let within = is.within (omega arith) in
-      lt-ltb size (length (take (suc n) all)) (by (nat_lt size (suc n)) refl e within)
+      lt-ltb size (length (take (suc n) all)) (by_size (nat_lt size (suc n)) refl e within)
     where
-      by : (b : Bool) → nat_lt size (suc n) ≡ b → length (take (suc n) all) ≡ min (suc n) (length all) → size ≤ suc n → size < length (take (suc n) all)
-      by true below e within = let h = ltb-true size (suc n) below in omega (arith, h, e, long)
-      by false not_below e within = absurd (other (equal within))
+      by_size : (b : Bool) → nat_lt size (suc n) ≡ b → length (take (suc n) all) ≡ min (suc n) (length all) → size ≤ suc n
+          → size < length (take (suc n) all)
+      by_size true below e within = let h = ltb-true size (suc n) below in omega (arith, h, e, long)
+      by_size false not_below e within = absurd (other (equal within))
         where
           equal : size ≤ suc n → suc n ≡ size
           equal within = let h = ltb-false size (suc n) not_below in omega (arith, h, within)
@@ -93,9 +95,10 @@ module _ {X : Type 0} where
   cut_whole size all some is = let a = ap length is in let b = length-cut size all some in omega (arith, a, b)
 
   -- what follows a page is cut by what is left of the limit
-  cut_append : (limit : ℕ) (ps rest : List X) → (0 < limit → length ps < limit) → cut limit (ps ++ rest) ≡ ps ++ cut (limit - length ps) rest
+  cut_append : (limit : ℕ) (ps rest : List X) → (0 < limit → length ps < limit)
+      → cut limit (ps ++ rest) ≡ ps ++ cut (limit - length ps) rest
   cut_append zero ps rest short = let e : 0 - length ps ≡ 0 = omega arith in ap (λ n. ps ++ cut n rest) (sym e)
-  cut_append (suc n) ps rest short = by ps n (short (omega arith))
+  cut_append (suc n) ps rest short = by_pairs ps n (short (omega arith))
     where
       take_append : (ps : List X) (n : ℕ) → length ps ≤ n → take n (ps ++ rest) ≡ ps ++ take (n - length ps) rest
       take_append [] n h = let e : n - 0 ≡ n = omega arith in ap (λ n. take n rest) (sym e)
@@ -107,27 +110,29 @@ module _ {X : Type 0} where
       positive zero h = absurd (omega arith)
       positive (suc n) h = refl
 
-      by : (ps : List X) (n : ℕ) → length ps < suc n → take (suc n) (ps ++ rest) ≡ ps ++ cut (suc n - length ps) rest
-      by ps n h = take_append ps (suc n) (omega arith) ∙ ap (λ ys. ps ++ ys) (positive (suc n - length ps) (omega arith))
+      by_pairs : (ps : List X) (n : ℕ) → length ps < suc n → take (suc n) (ps ++ rest) ≡ ps ++ cut (suc n - length ps) rest
+      by_pairs ps n h = take_append ps (suc n) (omega arith) ∙ ap (λ ys. ps ++ ys) (positive (suc n - length ps) (omega arith))
 
 -- whether pairs of the slice follow a page
-pub more_is : (limit size : ℕ) (ps rest all : Entries) → IsSize limit size → ps ++ rest ≡ all → ps ≡ cut size all → has_more limit size rest ≡ nat_lt size (length (cut limit all))
+pub more_is : (limit size : ℕ) (ps rest all : Entries) → IsSize limit size → ps ++ rest ≡ all → ps ≡ cut size all
+    → has_more limit size rest ≡ nat_lt size (length (cut limit all))
 more_is limit size ps [] all is whole page =
     nothing (not (nat_eq limit size)) ∙ sym (no_more limit size all (cut_whole size all is.some (sym whole ∙ append-nil ps ∙ page)))
   where
     nothing : (b : Bool) → (b && false) ≡ false
     nothing true = refl
     nothing false = refl
-more_is limit size ps (r ∷ rs) all is whole page = by (nat_eq limit size) refl
+more_is limit size ps (r ∷ rs) all is whole page = by_limit (nat_eq limit size) refl
   where
-    by : (b : Bool) → nat_eq limit size ≡ b → (not b && true) ≡ nat_lt size (length (cut limit all))
-    by true same = sym (ap (λ n. nat_lt size (length (cut n all))) (eqb-true limit size same) ∙ at_limit size all is.some)
-    by false other = sym (some_more limit size all is (eqb-false limit size other) (full_page size ps all r rs is.some whole page))
+    by_limit : (b : Bool) → nat_eq limit size ≡ b → (not b && true) ≡ nat_lt size (length (cut limit all))
+    by_limit true same = sym (ap (λ n. nat_lt size (length (cut n all))) (eqb-true limit size same) ∙ at_limit size all is.some)
+    by_limit false other = sym (some_more limit size all is (eqb-false limit size other) (full_page size ps all r rs is.some whole page))
 
 -- ---- what is left behind a page
 
 -- behind a pair of a range stand those of what is left of the range behind its key
-pub span_left : (database : Database) (b e : List ℕ) (down : Bool) (qs : Entries) (x : Entry) (ys : Entries) → span database b e down ≡ qs ++ x ∷ ys → ys ≡ span database (begin_behind b x.0 down) (end_behind e x.0 down) down
+pub span_left : (database : Database) (b e : List ℕ) (down : Bool) (qs : Entries) (x : Entry) (ys : Entries)
+    → span database b e down ≡ qs ++ x ∷ ys → ys ≡ span database (begin_behind b x.0 down) (end_behind e x.0 down) down
 span_left database b e down [] x ys is = sym (span_behind database b e down x ys is)
 span_left database b e down (z ∷ qs) x ys is =
     span_left database (begin_behind b z.0 down) (end_behind e z.0 down) down qs x ys (span_behind database b e down z (qs ++ x ∷ ys) is)
@@ -156,12 +161,14 @@ last_at (x ∷ y ∷ ps) e some is =
     let m : suc (suc (length ps)) - 1 ≡ suc (length ps) = omega arith in
     last_at (y ∷ ps) e (omega arith) (ap (slice_get (y ∷ ps)) n ∙ ap (slice_get (x ∷ y ∷ ps)) (sym m) ∙ is)
 
-pub behind_is : (database : Database) (b e : List ℕ) (limit : ℕ) (down : Bool) (key : List ℕ) → cut limit (span database (begin_behind b key down) (end_behind e key down) down) ≡ slice_behind database b e limit down key
+pub behind_is : (database : Database) (b e : List ℕ) (limit : ℕ) (down : Bool) (key : List ℕ)
+    → cut limit (span database (begin_behind b key down) (end_behind e key down) down) ≡ slice_behind database b e limit down key
 behind_is database b e limit true key = refl
 behind_is database b e limit false key = refl
 
 -- a slice is its front, followed by the slice of what is left of the range and the limit
-pub rest_is : (database : Database) (b e : List ℕ) (limit : ℕ) (down : Bool) (ps rest : Entries) → ps ++ rest ≡ span database b e down → 0 < length ps → (0 < limit → length ps < limit)
+pub rest_is : (database : Database) (b e : List ℕ) (limit : ℕ) (down : Bool) (ps rest : Entries) → ps ++ rest ≡ span database b e down
+    → 0 < length ps → (0 < limit → length ps < limit)
     → slice database b e limit down ≡ ps ++ slice_behind database b e (limit - length ps) down (last_key ps)
 rest_is database b e limit down ps rest whole some short =
     let parts = with_last ps some in
@@ -173,8 +180,10 @@ rest_is database b e limit down ps rest whole some short =
     ∙ ap (λ k. ps ++ slice_behind database b e (limit - length ps) down k) (sym key)
 
 -- the same for a page behind which pairs follow
-pub page_rest : (database : Database) (b e : List ℕ) (limit size : ℕ) (down : Bool) (ps rest : Entries) → IsSize limit size → ps ++ rest ≡ span database b e down → ps ≡ cut size (span database b e down)
-    → nat_lt size (length (slice database b e limit down)) ≡ true → slice database b e limit down ≡ ps ++ slice_behind database b e (limit - length ps) down (last_key ps)
+pub page_rest : (database : Database) (b e : List ℕ) (limit size : ℕ) (down : Bool) (ps rest : Entries) → IsSize limit size
+    → ps ++ rest ≡ span database b e down → ps ≡ cut size (span database b e down)
+    → nat_lt size (length (slice database b e limit down)) ≡ true → slice database b e limit down ≡ ps ++ slice_behind database b e
+    (limit - length ps) down (last_key ps)
 page_rest database b e limit size down ps rest is whole page more =
     rest_is database b e limit down ps rest whole (some limit (ltb-true _ _ more)) (λ limited. short limited (ltb-true _ _ more))
   where

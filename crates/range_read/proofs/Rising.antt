@@ -37,10 +37,12 @@ module _ {X : Type 0} (lt : X → X → Bool) where
   pub rises_reverse : (xs : List X) → Rises (flipped lt) xs → Rises lt (reverse xs)
   rises_reverse [] rises = tt
   rises_reverse (x ∷ xs) rises =
-      subst (Rises lt) (sym (reverse-cons x xs)) (rises_append (reverse xs) x (rises_reverse xs rises.1) (before_reverse (flipped lt) x xs rises.0))
+      subst (Rises lt) (sym (reverse-cons x xs))
+      (rises_append (reverse xs) x (rises_reverse xs rises.1) (before_reverse (flipped lt) x xs rises.0))
 
 module _ {X : Type 0} where
-  same_tests : (lt : X → X → Bool) (p q : X → Bool) (x : X) (ys : List X) → IsBefore lt x ys → ((e : X) → q e ≡ (p e && lt x e)) → filter q ys ≡ filter p ys
+  same_tests : (lt : X → X → Bool) (p q : X → Bool) (x : X) (ys : List X) → IsBefore lt x ys → ((e : X) → q e ≡ (p e && lt x e))
+      → filter q ys ≡ filter p ys
   same_tests lt p q x [] before is = refl
   same_tests lt p q x (y ∷ ys) before is =
       let test : q y ≡ p y = is y ∙ ap (λ b. p y && b) before.0 ∙ and_true (p y) in
@@ -96,7 +98,8 @@ module _ {X : Type 0} where
         ] refl is
 
     -- it takes nothing where it does not take that one and nothing above it
-    pub none_above : (lt : X → X → Bool) (es : List X) → Rises lt es → (x : X) → first (filter p es) ≡ Some x → q x ≡ false → ((e : X) → lt x e ≡ true → q e ≡ false) → first (filter q es) ≡ None
+    pub none_above : (lt : X → X → Bool) (es : List X) → Rises lt es → (x : X) → first (filter p es) ≡ Some x → q x ≡ false
+        → ((e : X) → lt x e ≡ true → q e ≡ false) → first (filter q es) ≡ None
     none_above lt [] rises x is fails above = absurd (none-some x is)
     none_above lt (e ∷ es) rises x is fails above =
         elim (p e) as (λ b. p e ≡ b → first (cond b (e ∷ filter p es) (filter p es)) ≡ Some x → first (filter q (e ∷ es)) ≡ None) [
@@ -104,7 +107,8 @@ module _ {X : Type 0} where
               let here : e ≡ x = same_Some e x is in
               ap (λ b. first (cond b (e ∷ filter q es) (filter q es))) (ap q here ∙ fails)
               ∙ all_fail es (subst (λ x. IsBefore lt x es) here rises.0)
-          | false ↦ λ fail is. ap (λ b. first (cond b (e ∷ filter q es) (filter q es))) (stricter e fail) ∙ none_above lt es rises.1 x is fails above
+          | false ↦ λ fail is. ap (λ b. first (cond b (e ∷ filter q es) (filter q es))) (stricter e fail)
+              ∙ none_above lt es rises.1 x is fails above
         ] refl is
       where
         all_fail : (ys : List X) → IsBefore lt x ys → first (filter q ys) ≡ None

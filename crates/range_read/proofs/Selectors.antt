@@ -23,17 +23,21 @@ use Rattle.range_read.proofs.Walks.{Entry, meets_first, turned_rises}
 
 -- a key stands before the place where it is below the start
 before_start : (s : Selector) (k : List ℕ) → stands_before s k ≡ key_lt k (start_of s)
-before_start s k = by s.or_equal
+before_start s k = by_or_equal s.or_equal
   where
-    by : (b : Bool) → cond b (key_le k s.key) (key_lt k s.key) ≡ key_lt k (cond b (after s.key) s.key)
-    by true = sym (lt_after k s.key)
-    by false = refl
+    by_or_equal : (b : Bool) → cond b (key_le k s.key) (key_lt k s.key) ≡ key_lt k (cond b (after s.key) s.key)
+    by_or_equal true = sym (lt_after k s.key)
+    by_or_equal false = refl
 
-keys_filter : (p : List ℕ → Bool) (q : List ℕ → Bool) → ((k : List ℕ) → p k ≡ q k) → (es : Entries) → filter p (keys_of es) ≡ keys_of (filter (λ e. q e.0) es)
+keys_filter : (p : List ℕ → Bool) (q : List ℕ → Bool) → ((k : List ℕ) → p k ≡ q k) → (es : Entries)
+    → filter p (keys_of es) ≡ keys_of (filter (λ e. q e.0) es)
 keys_filter p q same [] = refl
 keys_filter p q same (e ∷ es) =
     (λ i. cond (same e.0 i) (e.0 ∷ keys_filter p q same es i) (keys_filter p q same es i))
-    ∙ elim (q e.0) as (λ b. cond b (e.0 ∷ keys_of (filter (λ e. q e.0) es)) (keys_of (filter (λ e. q e.0) es)) ≡ keys_of (cond b (e ∷ filter (λ e. q e.0) es) (filter (λ e. q e.0) es))) [ true ↦ refl | false ↦ refl ]
+    ∙ elim (q e.0) as
+    (λ b. cond b (e.0 ∷ keys_of (filter (λ e. q e.0) es)) (keys_of (filter (λ e. q e.0) es))
+    ≡ keys_of (cond b (e ∷ filter (λ e. q e.0) es) (filter (λ e. q e.0) es)))
+    [ true ↦ refl | false ↦ refl ]
 
 keys_reverse : (es : Entries) → keys_of (reverse es) ≡ reverse (keys_of es)
 keys_reverse [] = refl
@@ -48,7 +52,8 @@ module _ (start : List ℕ) where
   not_below : Entries → Entries
   not_below es = filter (λ e. key_le start e.0) es
 
-  none_is_below : (e : Entry) (es : Entries) → IsBefore (meets_first false) e es → key_lt e.0 start ≡ false → (below es ≡ []) × (not_below es ≡ es)
+  none_is_below : (e : Entry) (es : Entries) → IsBefore (meets_first false) e es → key_lt e.0 start ≡ false
+      → (below es ≡ []) × (not_below es ≡ es)
   unfolding below not_below
   none_is_below e [] before high = (refl, refl)
   none_is_below e (f ∷ es) before high =
@@ -63,7 +68,8 @@ module _ (start : List ℕ) where
   unfolding below not_below
   split [] rises = refl
   split (e ∷ es) rises =
-      elim (key_lt e.0 start) as (λ b. key_lt e.0 start ≡ b → e ∷ es ≡ cond b (e ∷ below es) (below es) ++ cond (not b) (e ∷ not_below es) (not_below es)) [
+      elim (key_lt e.0 start)
+      as (λ b. key_lt e.0 start ≡ b → e ∷ es ≡ cond b (e ∷ below es) (below es) ++ cond (not b) (e ∷ not_below es) (not_below es)) [
         | true ↦ λ low. ap (λ ys. e ∷ ys) (split es rises.1)
         | false ↦ λ high. let rest = none_is_below e es rises.0 high in
             sym ((λ i. rest.0 i ++ e ∷ rest.1 i))
@@ -97,24 +103,28 @@ module _ (database : Database) (s : Selector) where
   pub law_up : (n : ℕ) → s.offset ≡ pos (suc n) → get_or (keys_of (onward database (start_of s) false)) n top ≡ select database s
   unfolding highs
   law_up n is =
-      let place : pos (length lows) -ℤ pos 1 +ℤ s.offset ≡ pos (length lows + n) = ap (λ z. pos (length lows) -ℤ pos 1 +ℤ z) is ∙ omega (arith, ints) in
+      let place : pos (length lows) -ℤ pos 1 +ℤ s.offset ≡ pos (length lows + n) = ap (λ z. pos (length lows) -ℤ pos 1 +ℤ z) is
+      ∙ omega (arith, ints) in
       sym (selected ∙ ap (λ z. key_at z (lows ++ highs)) place ∙ get_or-append-add lows highs n top)
 
   pub law_down : (i : ℕ) → s.offset ≡ neg_ℤ (pos i) → get_or (keys_of (onward database (start_of s) true)) i [] ≡ select database s
   unfolding lows
   law_down i is =
-      ap (λ ks. get_or ks i []) (ap keys_of (filter-reverse (λ e. key_lt e.0 (start_of s)) (finite.entries database)) ∙ keys_reverse (filter (λ e. key_lt e.0 (start_of s)) (finite.entries database)))
-      ∙ by (nat_lt i (length lows)) refl
+      ap (λ ks. get_or ks i [])
+      (ap keys_of (filter-reverse (λ e. key_lt e.0 (start_of s)) (finite.entries database)) ∙ keys_reverse
+      (filter (λ e. key_lt e.0 (start_of s)) (finite.entries database)))
+      ∙ by_place (nat_lt i (length lows)) refl
       ∙ sym (selected ∙ ap (λ z. key_at (pos (length lows) -ℤ pos 1 +ℤ z) (lows ++ highs)) is)
     where
-      by : (b : Bool) → nat_lt i (length lows) ≡ b → get_or (reverse lows) i [] ≡ key_at (pos (length lows) -ℤ pos 1 +ℤ neg_ℤ (pos i)) (lows ++ highs)
-      by true inside =
+      by_place : (b : Bool) → nat_lt i (length lows) ≡ b
+          → get_or (reverse lows) i [] ≡ key_at (pos (length lows) -ℤ pos 1 +ℤ neg_ℤ (pos i)) (lows ++ highs)
+      by_place true inside =
           let h = ltb-true i (length lows) inside in
           let place : pos (length lows) -ℤ pos 1 +ℤ neg_ℤ (pos i) ≡ pos (length lows - 1 - i) = omega (arith, ints, h) in
           let low : length lows - 1 - i < length lows = omega (arith, h) in
           get_or-reverse lows i [] h ∙ get_or_default lows (length lows - 1 - i) [] top low
           ∙ sym (ap (λ z. key_at z (lows ++ highs)) place ∙ get_or_append_left lows highs top (length lows - 1 - i) low)
-      by false outside =
+      by_place false outside =
           let h = ltb-false i (length lows) outside in
           let e = length-reverse lows in
           let place : pos (length lows) -ℤ pos 1 +ℤ neg_ℤ (pos i) ≡ negsuc (i - length lows) = omega (arith, ints, h) in

@@ -10,12 +10,14 @@ use Rattle.range_read.proofs.Walks.{Entry, onward_behind, span_behind}
 
 -- ---- one step through a range
 
-pub span_first : (database : Database) (b e : List ℕ) (down : Bool) (x : Entry) → first (span database b e down) ≡ Some x → span database b e down ≡ x ∷ span database (begin_behind b x.0 down) (end_behind e x.0 down) down
+pub span_first : (database : Database) (b e : List ℕ) (down : Bool) (x : Entry) → first (span database b e down) ≡ Some x
+    → span database b e down ≡ x ∷ span database (begin_behind b x.0 down) (end_behind e x.0 down) down
 span_first database b e down x is =
     let parts = first_is (span database b e down) x is in
     parts.1 ∙ ap (λ ys. x ∷ ys) (sym (span_behind database b e down x parts.0 parts.1))
 
-module _ (database : Database) (b e : List ℕ) (down : Bool) (x : Entry) (is : first (span database b e down) ≡ Some x) (c d : List ℕ) (begin : c ≡ begin_behind b x.0 down) (end : d ≡ end_behind e x.0 down) where
+module _ (database : Database) (b e : List ℕ) (down : Bool) (x : Entry) (is : first (span database b e down) ≡ Some x) (c d : List ℕ)
+    (begin : c ≡ begin_behind b x.0 down) (end : d ≡ end_behind e x.0 down) where
   rest_is : span database b e down ≡ x ∷ span database c d down
   rest_is = span_first database b e down x is ∙ (λ i. x ∷ span database (sym begin i) (sym end i) down)
 
@@ -46,7 +48,8 @@ module _ {X : Type 0} where
 
 -- ---- one step of a walk from a key
 
-pub nth_step : (database : Database) (from : List ℕ) (down : Bool) (x : Entry) (next : List ℕ) (left : ℕ) → Some x ≡ first (onward database from down) → next ≡ behind x.0 down → 0 < left
+pub nth_step : (database : Database) (from : List ℕ) (down : Bool) (x : Entry) (next : List ℕ) (left : ℕ)
+    → Some x ≡ first (onward database from down) → next ≡ behind x.0 down → 0 < left
     → slice_get (keys_of (onward database next down)) (left - 1) ≡ slice_get (keys_of (onward database from down)) left
 nth_step database from down x next zero is on some = absurd (omega arith)
 nth_step database from down x next (suc n) is on some =

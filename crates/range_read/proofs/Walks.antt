@@ -37,23 +37,27 @@ right_of false b h = absurd h
 
 before_all : (e : Entry) (es : Entries) → T (below_all key_cmp e.0 es) → IsBefore (meets_first false) e es
 before_all e [] all = tt
-before_all e (f ∷ es) all = (is_true (key_lt e.0 f.0) (left_of _ (below_all key_cmp e.0 es) all), before_all e es (right_of (key_lt e.0 f.0) _ all))
+before_all e (f ∷ es) all =
+    (is_true (key_lt e.0 f.0) (left_of _ (below_all key_cmp e.0 es) all), before_all e es (right_of (key_lt e.0 f.0) _ all))
 
 rises_up : (es : Entries) → T (is_sorted key_cmp es) → Rises (meets_first false) es
 rises_up [] sorted = tt
-rises_up (e ∷ es) sorted = (before_all e es (left_of _ (is_sorted key_cmp es) sorted), rises_up es (right_of (below_all key_cmp e.0 es) _ sorted))
+rises_up (e ∷ es) sorted =
+    (before_all e es (left_of _ (is_sorted key_cmp es) sorted), rises_up es (right_of (below_all key_cmp e.0 es) _ sorted))
 
 -- the pairs rise in the order of the walk
 pub turned_rises : (database : Database) (down : Bool) → Rises (meets_first down) (turned down (finite.entries database))
 turned_rises database false = rises_up (finite.entries database) (finite.entries_sorted database)
-turned_rises database true = rises_reverse (meets_first true) (finite.entries database) (rises_up (finite.entries database) (finite.entries_sorted database))
+turned_rises database true =
+    rises_reverse (meets_first true) (finite.entries database) (rises_up (finite.entries database) (finite.entries_sorted database))
 
-strict : (down : Bool) (e : Entry) → meets_first down e e ≡ false
-strict true e = irreflexive e.0
-strict false e = irreflexive e.0
+not_before_itself : (down : Bool) (e : Entry) → meets_first down e e ≡ false
+not_before_itself true e = irreflexive e.0
+not_before_itself false e = irreflexive e.0
 
 -- the pairs of a range are what a test takes in the order of the walk
-pub span_is : (database : Database) (b e : List ℕ) (down : Bool) → span database b e down ≡ filter (λ x. within b e x.0) (turned down (finite.entries database))
+pub span_is : (database : Database) (b e : List ℕ) (down : Bool)
+    → span database b e down ≡ filter (λ x. within b e x.0) (turned down (finite.entries database))
 span_is database b e true = sym (filter-reverse (λ x. within b e x.0) (finite.entries database))
 span_is database b e false = refl
 
@@ -107,9 +111,11 @@ still_from b k x low above = ap not (above_not_below b x (le_lt b k x (not_false
 -- ---- one key after the other
 
 -- behind the first that a walk meets, it meets what a walk from behind that key meets
-pub onward_behind : (database : Database) (from : List ℕ) (down : Bool) (x : Entry) (ys : Entries) → onward database from down ≡ x ∷ ys → onward database (behind x.0 down) down ≡ ys
+pub onward_behind : (database : Database) (from : List ℕ) (down : Bool) (x : Entry) (ys : Entries) → onward database from down ≡ x ∷ ys
+    → onward database (behind x.0 down) down ≡ ys
 onward_behind database from true x ys is =
-    behind_first (meets_first true) (strict true) (λ e. key_lt e.0 from) (λ e. key_lt e.0 x.0) (turned true (finite.entries database)) (turned_rises database true) x ys is
+    behind_first (meets_first true) (not_before_itself true) (λ e. key_lt e.0 from) (λ e. key_lt e.0 x.0)
+    (turned true (finite.entries database)) (turned_rises database true) x ys is
     (λ e. test e)
   where
     passes : key_lt x.0 from ≡ true
@@ -118,7 +124,8 @@ onward_behind database from true x ys is =
     test : (e : Entry) → key_lt e.0 x.0 ≡ (key_lt e.0 from && key_lt e.0 x.0)
     test e = and_below true (key_lt e.0 from) (key_lt e.0 x.0) (λ below. lt_trans e.0 x.0 from below passes)
 onward_behind database from false x ys is =
-    behind_first (meets_first false) (strict false) (λ e. key_le from e.0) (λ e. key_le (after x.0) e.0) (finite.entries database) (turned_rises database false) x ys is
+    behind_first (meets_first false) (not_before_itself false) (λ e. key_le from e.0) (λ e. key_le (after x.0) e.0)
+    (finite.entries database) (turned_rises database false) x ys is
     (λ e. from_after x.0 e.0 ∙ test e)
   where
     passes : key_le from x.0 ≡ true
@@ -128,17 +135,23 @@ onward_behind database from false x ys is =
     test e = and_below true (key_le from e.0) (key_lt x.0 e.0) (still_from from x.0 e.0 passes)
 
 -- behind the first pair of a range stand those of what is left of the range behind its key
-pub span_behind : (database : Database) (b e : List ℕ) (down : Bool) (x : Entry) (ys : Entries) → span database b e down ≡ x ∷ ys → span database (begin_behind b x.0 down) (end_behind e x.0 down) down ≡ ys
+pub span_behind : (database : Database) (b e : List ℕ) (down : Bool) (x : Entry) (ys : Entries) → span database b e down ≡ x ∷ ys
+    → span database (begin_behind b x.0 down) (end_behind e x.0 down) down ≡ ys
 span_behind database b e true x ys is =
     span_is database b x.0 true
-    ∙ behind_first (meets_first true) (strict true) (λ y. within b e y.0) (λ y. within b x.0 y.0) (turned true (finite.entries database)) (turned_rises database true) x ys (sym (span_is database b e true) ∙ is)
+    ∙ behind_first (meets_first true) (not_before_itself true) (λ y. within b e y.0) (λ y. within b x.0 y.0)
+    (turned true (finite.entries database)) (turned_rises database true) x ys (sym (span_is database b e true) ∙ is)
     (λ y. and_below (key_le b y.0) (key_lt y.0 e) (key_lt y.0 x.0) (λ below. lt_trans y.0 x.0 e below passes.1))
   where
     passes : (key_le b x.0 ≡ true) × (key_lt x.0 e ≡ true)
-    passes = and_parts _ _ (first_passes (λ y. within b e y.0) (turned true (finite.entries database)) x (ap first (sym (span_is database b e true) ∙ is)))
+    passes =
+        and_parts _ _
+        (first_passes (λ y. within b e y.0) (turned true (finite.entries database)) x (ap first (sym (span_is database b e true) ∙ is)))
 span_behind database b e false x ys is =
-    behind_first (meets_first false) (strict false) (λ y. within b e y.0) (λ y. within (after x.0) e y.0) (finite.entries database) (turned_rises database false) x ys is
-    (λ y. ap (λ t. t && key_lt y.0 e) (from_after x.0 y.0) ∙ and_under (key_le b y.0) (key_lt y.0 e) (key_lt x.0 y.0) (still_from b x.0 y.0 passes.0))
+    behind_first (meets_first false) (not_before_itself false) (λ y. within b e y.0) (λ y. within (after x.0) e y.0)
+    (finite.entries database) (turned_rises database false) x ys is
+    (λ y. ap (λ t. t && key_lt y.0 e) (from_after x.0 y.0)
+    ∙ and_under (key_le b y.0) (key_lt y.0 e) (key_lt x.0 y.0) (still_from b x.0 y.0 passes.0))
   where
     passes : (key_le b x.0 ≡ true) × (key_lt x.0 e ≡ true)
     passes = and_parts _ _ (first_passes (λ y. within b e y.0) (finite.entries database) x (ap first is))
@@ -151,7 +164,8 @@ outside_range b e true k is = and_false_right (key_le b k) (key_lt k e) is
 outside_range b e false k is = and_false_left (key_le b k) (key_lt k e) is
 
 -- where the first that a walk meets is past the range, so are those behind it
-past_range : (b e : List ℕ) (down : Bool) (k q : Entry) → is_onward (near b e down) down k.0 ≡ true → within b e k.0 ≡ false → meets_first down k q ≡ true → within b e q.0 ≡ false
+past_range : (b e : List ℕ) (down : Bool) (k q : Entry) → is_onward (near b e down) down k.0 ≡ true → within b e k.0 ≡ false
+    → meets_first down k q ≡ true → within b e q.0 ≡ false
 past_range b e true k q met past behind = and_false_left (key_le b q.0) (key_lt q.0 e) (ap not (lt_trans q.0 k.0 b behind low))
   where
     low : key_lt k.0 b ≡ true
@@ -160,7 +174,8 @@ past_range b e true k q met past behind = and_false_left (key_le b q.0) (key_lt 
         left_false : (a b : Bool) → b ≡ true → (a && b) ≡ false → a ≡ false
         left_false true b is none = absurd (true≢false (sym is ∙ none))
         left_false false b is none = refl
-past_range b e false k q met past behind = and_false_right (key_le b q.0) (key_lt q.0 e) (above_not_below e q.0 (le_lt e k.0 q.0 high behind))
+past_range b e false k q met past behind =
+    and_false_right (key_le b q.0) (key_lt q.0 e) (above_not_below e q.0 (le_lt e k.0 q.0 high behind))
   where
     high : key_lt k.0 e ≡ false
     high = sym (ap (λ a. a && key_lt k.0 e) met) ∙ past
@@ -169,15 +184,21 @@ module _ (database : Database) (b e : List ℕ) (down : Bool) where
   pub inside_none : first (onward database (near b e down) down) ≡ None → first (span database b e down) ≡ None
   inside_none is =
       ap first (span_is database b e down)
-      ∙ none_stricter (λ x. is_onward (near b e down) down x.0) (λ x. within b e x.0) (λ x. outside_range b e down x.0) (turned down (finite.entries database)) is
+      ∙ none_stricter (λ x. is_onward (near b e down) down x.0) (λ x. within b e x.0) (λ x. outside_range b e down x.0)
+      (turned down (finite.entries database)) is
 
-  pub inside_some : (x : Entry) → first (onward database (near b e down) down) ≡ Some x → within b e x.0 ≡ true → first (span database b e down) ≡ Some x
+  pub inside_some : (x : Entry) → first (onward database (near b e down) down) ≡ Some x → within b e x.0 ≡ true
+      → first (span database b e down) ≡ Some x
   inside_some x is inside =
       ap first (span_is database b e down)
-      ∙ first_stricter (λ x. is_onward (near b e down) down x.0) (λ x. within b e x.0) (λ x. outside_range b e down x.0) (turned down (finite.entries database)) x is inside
+      ∙ first_stricter (λ x. is_onward (near b e down) down x.0) (λ x. within b e x.0) (λ x. outside_range b e down x.0)
+      (turned down (finite.entries database)) x is inside
 
-  pub inside_past : (x : Entry) → first (onward database (near b e down) down) ≡ Some x → within b e x.0 ≡ false → first (span database b e down) ≡ None
+  pub inside_past : (x : Entry) → first (onward database (near b e down) down) ≡ Some x → within b e x.0 ≡ false
+      → first (span database b e down) ≡ None
   inside_past x is past =
       ap first (span_is database b e down)
-      ∙ none_above (λ x. is_onward (near b e down) down x.0) (λ x. within b e x.0) (λ x. outside_range b e down x.0) (meets_first down) (turned down (finite.entries database)) (turned_rises database down) x is past
-      (λ q behind. past_range b e down x q (first_passes (λ x. is_onward (near b e down) down x.0) (turned down (finite.entries database)) x is) past behind)
+      ∙ none_above (λ x. is_onward (near b e down) down x.0) (λ x. within b e x.0) (λ x. outside_range b e down x.0) (meets_first down)
+      (turned down (finite.entries database)) (turned_rises database down) x is past
+      (λ q behind. past_range b e down x q
+      (first_passes (λ x. is_onward (near b e down) down x.0) (turned down (finite.entries database)) x is) past behind)

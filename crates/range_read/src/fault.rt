@@ -3,7 +3,7 @@
 ghost use Rattle.std.specs.Prelude.{◌≡◌};
 ghost use Rattle.range_read.specs.declared.fault.RangeFault.TheVariants as fault;
 
-use std::alloc::{AllocError, AllocFailed};
+use std::alloc::AllocError;
 use thiserror::Error;
 
 /// Why a range was not read.
@@ -22,14 +22,6 @@ impl From<AllocError> for RangeFault {
     ghost from_gives = { λ _ e. e ≡ fault.NoMemory };
 
     fn from(_e: AllocError) -> RangeFault {
-        RangeFault::NoMemory
-    }
-}
-
-impl<T: Drop> From<AllocFailed<T>> for RangeFault {
-    ghost from_gives = { λ _ e. e ≡ fault.NoMemory };
-
-    fn from(_e: AllocFailed<T>) -> RangeFault {
         RangeFault::NoMemory
     }
 }

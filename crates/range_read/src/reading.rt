@@ -85,7 +85,8 @@ pub fn page<V: OrderedView>(
         ≡ nat_lt (page_size mode limit turn) (length (slice (V.map view.now) range.now.begin range.now.end limit reverse))) }
     ensures rest { IfOk result (λ page. page.more ≡ true
         → slice (V.map view.now) range.now.begin range.now.end limit reverse
-        ≡ page.pairs ++ slice_behind (V.map view.now) range.now.begin range.now.end (limit - length page.pairs) reverse (last_key page.pairs)) }
+        ≡ page.pairs ++ slice_behind (V.map view.now) range.now.begin range.now.end
+        (limit - length page.pairs) reverse (last_key page.pairs)) }
     ensures limited { IfOk result (λ _. lacks_limit mode limit ≡ false) }
     ensures refused { IfErr result (IsRefused mode limit) }
 {

@@ -18,16 +18,21 @@ struct Seen {
     pairs: KeyMap<Bytes>,
 }
 
+fn pair_of(key: &Key, value: &Bytes) -> Result<Pair, AllocError>
+    ensures { IfOk result (λ pair. entry_of pair ≡ (key.now, value.now)) }
+{
+    let key = key.copy()?;
+    let value = value.copy()?;
+    Ok(Pair { key, value })
+}
+
 // A copy of a pair that a map lent.
 fn copied(found: Option<(&Key, &Bytes)>) -> Result<Option<Pair>, AllocError>
     ensures { IfOk result (λ pair. option_map entry_of pair ≡ option_map deref_pair found.entry) }
 {
     match found {
         None => Ok(None),
-        Some((key, value)) => Ok(Some(Pair {
-            key: key.copy()?,
-            value: value.copy()?,
-        })),
+        Some((key, value)) => Ok(Some(pair_of(key, value)?)),
     }
 }
 
@@ -133,17 +138,24 @@ fn key_of(alloc: Global, text: &[u8]) -> Result<Key, AllocError> {
 }
 
 fn range_of(alloc: Global, begin: &[u8], end: &[u8]) -> Result<KeyRange, AllocError> {
-    Ok(KeyRange {
-        begin: key_of(alloc, begin)?,
-        end: key_of(alloc, end)?,
-    })
+    let begin = key_of(alloc, begin)?;
+    let end = key_of(alloc, end)?;
+    Ok(KeyRange { begin, end })
+}
+
+// Sets a key to 1.
+fn set_one(alloc: Global, pairs: &mut KeyMap<Bytes>, key: &[u8]) -> Result<(), AllocError> {
+    let key = key_of(alloc, key)?;
+    let one = key_of(alloc, b"1")?;
+    pairs.insert(key, one)?;
+    Ok(())
 }
 
 // A view of these keys, each with the value 1.
 fn seen_of(alloc: Global, keys: &[&'static [u8]]) -> Result<Seen, AllocError> {
     let mut pairs = KeyMap::new(alloc);
     for key in keys {
-        pairs.insert(key_of(alloc, key)?, key_of(alloc, b"1")?)?;
+        set_one(alloc, &mut pairs, key)?;
     }
     Ok(Seen { alloc, pairs })
 }
@@ -152,143 +164,178 @@ fn seen_of(alloc: Global, keys: &[&'static [u8]]) -> Result<Seen, AllocError> {
 fn single_bytes(alloc: Global, count: u8) -> Result<Seen, AllocError> {
     let mut pairs = KeyMap::new(alloc);
     for byte in 0..count {
-        pairs.insert(key_of(alloc, &[byte])?, key_of(alloc, b"1")?)?;
+        set_one(alloc, &mut pairs, &[byte])?;
     }
     Ok(Seen { alloc, pairs })
 }
 
 // Each key, followed by a semicolon.
-fn shown(alloc: Global, pairs: &Pairs) -> Result<Bytes, AllocError> {
-    let mut text = Bytes::new(alloc);
+fn shown(alloc: Global, pairs: &Pairs) -> Result<Vec<u8>, AllocError> {
+    let mut text = Vec::new(alloc);
     for pair in pairs.as_slice() {
-        text.extend(pair.key.as_slice())?;
-        text.extend(b";")?;
+        text.extend_from_slice(pair.key.as_slice())?;
+        text.push(b';')?;
     }
     Ok(text)
 }
 
-fn selected(
-    alloc: Global,
-    view: &Seen,
-    key: &[u8],
-    or_equal: bool,
-    offset: i32,
-) -> Result<Key, AllocError> {
+// Keys of a view, a selector's `or_equal` and offset, and the key that it means: it is counted from `d`.
+type Place = (&'static [&'static [u8]], bool, i32, &'static [u8]);
+
+const THREE: &[&'static [u8]] = &[b"b", b"d", b"f"];
+
+const PLACES: &[Place] = &[
+    (THREE, false, 0, b"b"),
+    (THREE, true, 0, b"d"),
+    (THREE, false, 1, b"d"),
+    (THREE, true, 1, b"f"),
+    (THREE, false, 1000, &[255]),
+    (THREE, false, -3, b""),
+    (THREE, false, i32::MIN, b""),
+    (THREE, true, i32::MAX, &[255]),
+    (THREE, true, -1, b"b"),
+    (THREE, false, 2, b"f"),
+    (&[], false, 0, b""),
+    (&[], false, 1, &[255]),
+];
+
+// Whether a selector means this key.
+fn is_selected(alloc: Global, place: Place) -> Result<bool, AllocError> {
+    let (keys, or_equal, offset, wanted) = place;
+    let view = seen_of(alloc, keys)?;
+    let key = key_of(alloc, b"d")?;
     let selector = Selector {
-        key: key_of(alloc, key)?,
+        key,
         or_equal,
         offset,
     };
-    resolve(alloc, view, &selector)
+    let found = resolve(alloc, &view, &selector)?;
+    Ok(found.as_slice() == wanted)
 }
 
-const ROWS: [(bool, i32, &'static [u8]); 10] = [
-    (false, 0, b"b"),
-    (true, 0, b"d"),
-    (false, 1, b"d"),
-    (true, 1, b"f"),
-    (false, 1000, &[255]),
-    (false, -3, b""),
-    (false, i32::MIN, b""),
-    (true, i32::MAX, &[255]),
-    (true, -1, b"b"),
-    (false, 2, b"f"),
-];
+// The place of the first selector that means another key.
+fn first_unselected(alloc: Global) -> Result<Option<usize>, AllocError> {
+    for (place, row) in PLACES.iter().enumerate() {
+        if !is_selected(alloc, *row)? {
+            return Ok(Some(place));
+        }
+    }
+    Ok(None)
+}
 
 #[test]
 fn selects_by_place(rt: HostRuntime) -> Result<(), Fail> {
-    let alloc = rt.alloc();
-    let view = seen_of(alloc, &[b"b", b"d", b"f"])?;
-    for (or_equal, offset, key) in &ROWS {
-        let found = selected(alloc, &view, b"d", *or_equal, *offset)?;
-        assert_eq!(rt; found.as_slice(), *key);
-    }
+    assert_eq!(rt; first_unselected(rt.alloc())?, None);
     Ok(())
 }
 
-#[test]
-fn selects_among_no_keys(rt: HostRuntime) -> Result<(), Fail> {
-    let alloc = rt.alloc();
-    let view = seen_of(alloc, &[])?;
-    let (low, high) = (
-        selected(alloc, &view, b"d", false, 0)?,
-        selected(alloc, &view, b"d", false, 1)?,
-    );
-    assert_eq!(rt; low.as_slice(), b"".as_slice());
-    assert_eq!(rt; high.as_slice(), [255].as_slice());
-    Ok(())
+// The ends of a range of the keys from `a` to `e`, a limit, whether it is read in reverse, the mode, and the keys.
+type Slice = (&'static [u8], &'static [u8], u32, bool, Mode, &'static [u8]);
+
+const SLICES: &[Slice] = &[
+    (b"b", b"e", 2, false, Mode::WantAll, b"b;c;"),
+    // cut after it is reversed
+    (b"b", b"e", 2, true, Mode::Exact, b"d;c;"),
+    (b"b", b"e", 0, true, Mode::Small, b"d;c;b;"),
+    // begin above end
+    (b"e", b"b", 0, false, Mode::WantAll, b""),
+    (b"e", b"b", 0, true, Mode::WantAll, b""),
+];
+
+// Whether a slice has these keys.
+fn is_slice(alloc: Global, view: &Seen, row: Slice) -> Result<bool, RangeFault> {
+    let (begin, end, limit, reverse, mode, wanted) = row;
+    let range = range_of(alloc, begin, end)?;
+    let found = all(alloc, view, &range, limit, reverse, mode)?;
+    Ok(shown(alloc, &found)?.as_slice() == wanted)
+}
+
+// The place of the first slice that has other keys.
+fn first_other_slice(alloc: Global) -> Result<Option<usize>, RangeFault> {
+    let view = seen_of(alloc, &[b"a", b"b", b"c", b"d", b"e"])?;
+    for (place, row) in SLICES.iter().enumerate() {
+        if !is_slice(alloc, &view, *row)? {
+            return Ok(Some(place));
+        }
+    }
+    Ok(None)
+}
+
+// Why an exact read without a limit is refused.
+fn refusal(alloc: Global) -> Result<Option<RangeFault>, AllocError> {
+    let view = seen_of(alloc, &[b"b"])?;
+    let range = range_of(alloc, b"b", b"e")?;
+    Ok(all(alloc, &view, &range, 0, false, Mode::Exact).err())
 }
 
 #[test]
 fn reads_slices(rt: HostRuntime) -> Result<(), Fail> {
-    let alloc = rt.alloc();
-    let view = seen_of(alloc, &[b"a", b"b", b"c", b"d", b"e"])?;
-    let (inside, turned) = (range_of(alloc, b"b", b"e")?, range_of(alloc, b"e", b"b")?);
-    let first = all(alloc, &view, &inside, 2, false, Mode::WantAll)?;
-    assert_eq!(rt; shown(alloc, &first)?.as_slice(), b"b;c;".as_slice());
-    // cut after it is reversed
-    let last = all(alloc, &view, &inside, 2, true, Mode::Exact)?;
-    assert_eq!(rt; shown(alloc, &last)?.as_slice(), b"d;c;".as_slice());
-    let whole = all(alloc, &view, &inside, 0, true, Mode::Small)?;
-    assert_eq!(rt; shown(alloc, &whole)?.as_slice(), b"d;c;b;".as_slice());
-    // begin above end
-    assert!(rt; all(alloc, &view, &turned, 0, false, Mode::WantAll)?.is_empty());
-    assert!(rt; all(alloc, &view, &turned, 0, true, Mode::WantAll)?.is_empty());
-    let refused = all(alloc, &view, &inside, 0, false, Mode::Exact);
-    assert!(rt; matches!(refused, Err(RangeFault::NoLimit)));
+    assert_eq!(rt; first_other_slice(rt.alloc())?, None);
+    assert_eq!(rt; refusal(rt.alloc())?, Some(RangeFault::NoLimit));
     Ok(())
 }
 
-// How many pairs a page of all keys of a view has, and whether more follow.
-fn size_of(
-    alloc: Global,
-    view: &Seen,
-    limit: u32,
-    mode: Mode,
-    turn: u32,
-) -> Result<(usize, bool), RangeFault>
-    requires { 1 ≤ turn }
-{
-    let got = page(
-        alloc,
-        view,
-        &range_of(alloc, &[], &[255])?,
-        limit,
-        false,
-        mode,
-        turn,
-    )?;
-    Ok((got.pairs.len(), got.more))
+// A limit, a mode and a turn; how many pairs the page of twenty keys has, and whether more follow.
+type Size = (u32, Mode, u32, usize, bool);
+
+const SIZES: &[Size] = &[
+    (0, Mode::Small, 1, 16, true),
+    (0, Mode::Iterator, 1, 16, true),
+    (0, Mode::Iterator, 2, 20, false),
+    (16, Mode::Small, 1, 16, false),
+    (17, Mode::Small, 1, 16, true),
+    (7, Mode::Exact, 1, 7, false),
+    (0, Mode::Serial, 9, 20, false),
+];
+
+// Whether a page has so many pairs, and is followed so.
+fn is_page(alloc: Global, view: &Seen, row: Size) -> Result<bool, RangeFault> {
+    let (limit, mode, turn, size, more) = row;
+    let range = range_of(alloc, &[], &[255])?;
+    let found = page(alloc, view, &range, limit, false, mode, turn.max(1))?;
+    Ok(found.pairs.len() == size && found.more == more)
+}
+
+// The place of the first page that has another size.
+fn first_other_page(alloc: Global) -> Result<Option<usize>, RangeFault> {
+    let view = single_bytes(alloc, 20)?;
+    for (place, row) in SIZES.iter().enumerate() {
+        if !is_page(alloc, &view, *row)? {
+            return Ok(Some(place));
+        }
+    }
+    Ok(None)
 }
 
 #[test]
 fn reads_pages(rt: HostRuntime) -> Result<(), Fail> {
-    let alloc = rt.alloc();
-    let view = single_bytes(alloc, 20)?;
-    assert_eq!(rt; size_of(alloc, &view, 0, Mode::Small, 1)?, (16, true));
-    assert_eq!(rt; size_of(alloc, &view, 0, Mode::Iterator, 1)?, (16, true));
-    assert_eq!(rt; size_of(alloc, &view, 0, Mode::Iterator, 2)?, (20, false));
-    assert_eq!(rt; size_of(alloc, &view, 16, Mode::Small, 1)?, (16, false));
-    assert_eq!(rt; size_of(alloc, &view, 17, Mode::Small, 1)?, (16, true));
-    assert_eq!(rt; size_of(alloc, &view, 7, Mode::Exact, 1)?, (7, false));
-    assert_eq!(rt; size_of(alloc, &view, 0, Mode::Serial, 9)?, (20, false));
+    assert_eq!(rt; first_other_page(rt.alloc())?, None);
     Ok(())
+}
+
+// Whether the slice of a range is the same by pages as whole.
+fn joins(alloc: Global, view: &Seen, limit: u32, reverse: bool) -> Result<bool, RangeFault> {
+    let range = range_of(alloc, &[1], &[255])?;
+    let joined = by_pages(alloc, view, &range, limit, reverse, Mode::Small)?;
+    let whole = all(alloc, view, &range, limit, reverse, Mode::WantAll)?;
+    Ok(shown(alloc, &joined)? == shown(alloc, &whole)?)
+}
+
+const READS: &[(u32, bool)] = &[(0, false), (18, false), (0, true), (18, true)];
+
+// The place of the first read that is another by pages.
+fn first_unjoined(alloc: Global) -> Result<Option<usize>, RangeFault> {
+    let view = single_bytes(alloc, 20)?;
+    for (place, (limit, reverse)) in READS.iter().enumerate() {
+        if !joins(alloc, &view, *limit, *reverse)? {
+            return Ok(Some(place));
+        }
+    }
+    Ok(None)
 }
 
 #[test]
 fn joins_pages(rt: HostRuntime) -> Result<(), Fail> {
-    let alloc = rt.alloc();
-    let view = single_bytes(alloc, 20)?;
-    let range = range_of(alloc, &[1], &[255])?;
-    for reverse in [false, true] {
-        for limit in [0u32, 18] {
-            let joined = by_pages(alloc, &view, &range, limit, reverse, Mode::Small)?;
-            let whole = all(alloc, &view, &range, limit, reverse, Mode::WantAll)?;
-            assert_eq!(rt;
-                shown(alloc, &joined)?.as_slice(),
-                shown(alloc, &whole)?.as_slice()
-            );
-        }
-    }
+    assert_eq!(rt; first_unjoined(rt.alloc())?, None);
     Ok(())
 }

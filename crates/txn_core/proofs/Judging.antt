@@ -17,17 +17,25 @@ use Rattle.txn_core.proofs.Alike.{commit_code_alike, versioned}
 -- a commit that no check refuses is one of an active life
 pub active_of : (transaction : Transaction) → commit_code transaction ≡ None → transaction.phase ≡ phase.Active
 unfolding commit_code
-active_of transaction accepted = by transaction.phase accepted
+active_of transaction accepted = by_phase transaction.phase accepted
   where
-    by : (now : Phase) → first_failing (after_phase now ((not (is_read_only transaction) && nat_lt SIZE_LIMIT transaction.size, TRANSACTION_TOO_LARGE) ∷ [])) ≡ None → now ≡ phase.Active
-    by phase.Active accepted = refl
-    by phase.Cancelled accepted = absurd cc
-    by (phase.Tried outcome) accepted = absurd cc
+    by_phase : (now : Phase)
+        → first_failing
+        (after_phase now ((not (is_read_only transaction) && nat_lt SIZE_LIMIT transaction.size, TRANSACTION_TOO_LARGE) ∷ []))
+        ≡ None
+        → now ≡ phase.Active
+    by_phase phase.Active accepted = refl
+    by_phase phase.Cancelled accepted = absurd cc
+    by_phase (phase.Tried outcome) accepted = absurd cc
 
 pub judged_alike : (result : Result Verdict TrFault) (new kept transaction : Transaction) (history : History) → StandsFor kept transaction
     → Judged result (λ t. new ≡ t) history kept → Judged result (StandsFor new) history transaction
-judged_alike (Ok verdict.ReadOnly) new kept transaction history stands judged =
-    (sym (commit_code_alike kept transaction stands) ∙ judged.0, sym stands.writes ∙ judged.1, subst (λ t. StandsFor t transaction) (sym judged.2) stands)
+judged_alike (Ok verdict.ReadOnly) new kept transaction history stands judged = (
+  sym (commit_code_alike kept transaction stands) ∙ judged.0,
+  sym stands.writes ∙ judged.1,
+  subst (λ t. StandsFor t transaction)
+      (sym judged.2) stands,
+)
 judged_alike (Ok verdict.Commits) new kept transaction history stands judged = (
   sym (commit_code_alike kept transaction stands) ∙ judged.0,
   sym stands.writes ∙ judged.1,

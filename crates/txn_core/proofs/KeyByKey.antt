@@ -11,8 +11,10 @@ use Rattle.database_rules.specs.Atomics.{atom, is_versionstamped}
 use Rattle.database_rules.specs.Databases.{Database, Mutation, Set, Clear, ClearRange, Atomic, put, do_one, do_all}
 use Rattle.txn_core.specs.KeyByKey.{at_key, at_keys}
 
-pub get-put : (m : Database) (key : List ℕ) (value : Option (List ℕ)) (q : List ℕ) → finite.get (put m key value) q ≡ cond (bytes_eq q key) value (finite.get m q)
-get-put m key (Some value) q = finite.get-insert nat_list_cmp_total m key value q ∙ ap (λ b. cond b (Some value) (finite.get m q)) (sym (texts_ties q key))
+pub get-put : (m : Database) (key : List ℕ) (value : Option (List ℕ)) (q : List ℕ)
+    → finite.get (put m key value) q ≡ cond (bytes_eq q key) value (finite.get m q)
+get-put m key (Some value) q =
+    finite.get-insert nat_list_cmp_total m key value q ∙ ap (λ b. cond b (Some value) (finite.get m q)) (sym (texts_ties q key))
 get-put m key None q = finite.get-remove nat_list_cmp_total m key q ∙ ap (λ b. cond b None (finite.get m q)) (sym (texts_ties q key))
 
 cond_not : (b : Bool) (old : Option (List ℕ)) → cond (not b) old None ≡ cond b None old
@@ -33,16 +35,19 @@ get-do_one (Atomic op key operand) m q =
     ] refl
 
 -- a map after mutations has at a key what they make of its value there
-pub get-do_all : (mutations : List Mutation) (m : Database) (q : List ℕ) → finite.get (do_all mutations m) q ≡ at_keys mutations q (finite.get m q)
+pub get-do_all : (mutations : List Mutation) (m : Database) (q : List ℕ)
+    → finite.get (do_all mutations m) q ≡ at_keys mutations q (finite.get m q)
 get-do_all [] m q = refl
 get-do_all (mutation ∷ mutations) m q = get-do_all mutations (do_one mutation m) q ∙ ap (at_keys mutations q) (get-do_one mutation m q)
 
-pub at_keys-append : (first second : List Mutation) (q : List ℕ) (old : Option (List ℕ)) → at_keys (first ++ second) q old ≡ at_keys second q (at_keys first q old)
+pub at_keys-append : (first second : List Mutation) (q : List ℕ) (old : Option (List ℕ))
+    → at_keys (first ++ second) q old ≡ at_keys second q (at_keys first q old)
 at_keys-append [] second q old = refl
 at_keys-append (mutation ∷ first) second q old = at_keys-append first second q (at_key mutation q old)
 
 -- a mutation with a versionstamp changes nothing
-pub versionstamped_same : (op : AtomicOp) (old : Option (List ℕ)) (operand : List ℕ) → is_versionstamped op ≡ true → atom op old operand ≡ old
+pub versionstamped_same : (op : AtomicOp) (old : Option (List ℕ)) (operand : List ℕ) → is_versionstamped op ≡ true
+    → atom op old operand ≡ old
 unfolding atom
 versionstamped_same atomic.SetVersionstampedKey None operand is = refl
 versionstamped_same atomic.SetVersionstampedKey (Some old) operand is = refl

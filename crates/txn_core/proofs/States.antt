@@ -20,49 +20,61 @@ SameMaps kept mutations = (database : Database) → do_all kept database ≡ do_
 
 -- ---- what a state makes of a value
 
-all_atoms-append : (mutations : List (AtomicOp × List ℕ)) (op : AtomicOp) (operand : List ℕ) (old : Option (List ℕ)) → all_atoms (mutations ++ (op, operand) ∷ []) old ≡ atom op (all_atoms mutations old) operand
+all_atoms-append : (mutations : List (AtomicOp × List ℕ)) (op : AtomicOp) (operand : List ℕ) (old : Option (List ℕ))
+    → all_atoms (mutations ++ (op, operand) ∷ []) old ≡ atom op (all_atoms mutations old) operand
 all_atoms-append [] op operand old = refl
 all_atoms-append (mutation ∷ mutations) op operand old = all_atoms-append mutations op operand (atom mutation.0 old mutation.1)
 
-value-after_atomic : (op : AtomicOp) (operand : List ℕ) (state : KeyState) (old : Option (List ℕ)) → value_in (after_atomic op operand state) old ≡ atom op (value_in state old) operand
+value-after_atomic : (op : AtomicOp) (operand : List ℕ) (state : KeyState) (old : Option (List ℕ))
+    → value_in (after_atomic op operand state) old ≡ atom op (value_in state old) operand
 value-after_atomic op operand Unmodified old = refl
 value-after_atomic op operand (Decided value) old = refl
 value-after_atomic op operand (Depends mutations) old = all_atoms-append mutations op operand old
 
-value-decided : (b : Bool) (value : Option (List ℕ)) (state : KeyState) (old : Option (List ℕ)) → value_in (cond b (Decided value) state) old ≡ cond b value (value_in state old)
+value-decided : (b : Bool) (value : Option (List ℕ)) (state : KeyState) (old : Option (List ℕ))
+    → value_in (cond b (Decided value) state) old ≡ cond b value (value_in state old)
 value-decided true value state old = refl
 value-decided false value state old = refl
 
-value-state_after : (mutation : Mutation) (asked : List ℕ) (state : KeyState) (old : Option (List ℕ)) → value_in (state_after mutation asked state) old ≡ at_key mutation asked (value_in state old)
+value-state_after : (mutation : Mutation) (asked : List ℕ) (state : KeyState) (old : Option (List ℕ))
+    → value_in (state_after mutation asked state) old ≡ at_key mutation asked (value_in state old)
 value-state_after (Set key value) asked state old = value-decided (bytes_eq asked key) (Some value) state old
 value-state_after (Clear key) asked state old = value-decided (bytes_eq asked key) None state old
 value-state_after (ClearRange begin end) asked state old = value-decided (within begin end asked) None state old
-value-state_after (Atomic op key operand) asked state old = by (bytes_eq asked key) (is_versionstamped op) refl
+value-state_after (Atomic op key operand) asked state old = by_stamped (bytes_eq asked key) (is_versionstamped op) refl
   where
-    by : (b stamped : Bool) → is_versionstamped op ≡ stamped → value_in (cond (b && not stamped) (after_atomic op operand state) state) old ≡ cond b (atom op (value_in state old) operand) (value_in state old)
-    by true true is = sym (versionstamped_same op (value_in state old) operand is)
-    by true false is = value-after_atomic op operand state old
-    by false stamped is = refl
+    by_stamped : (b stamped : Bool) → is_versionstamped op ≡ stamped
+        → value_in (cond (b && not stamped) (after_atomic op operand state) state) old
+        ≡ cond b (atom op (value_in state old) operand) (value_in state old)
+    by_stamped true true is = sym (versionstamped_same op (value_in state old) operand is)
+    by_stamped true false is = value-after_atomic op operand state old
+    by_stamped false stamped is = refl
 
-value-states_after : (mutations : List Mutation) (asked : List ℕ) (state : KeyState) (old : Option (List ℕ)) → value_in (states_after mutations asked state) old ≡ at_keys mutations asked (value_in state old)
+value-states_after : (mutations : List Mutation) (asked : List ℕ) (state : KeyState) (old : Option (List ℕ))
+    → value_in (states_after mutations asked state) old ≡ at_keys mutations asked (value_in state old)
 value-states_after [] asked state old = refl
 value-states_after (mutation ∷ mutations) asked state old =
-    value-states_after mutations asked (state_after mutation asked state) old ∙ ap (at_keys mutations asked) (value-state_after mutation asked state old)
+    value-states_after mutations asked (state_after mutation asked state) old
+    ∙ ap (at_keys mutations asked) (value-state_after mutation asked state old)
 
 -- mutations that agree lead from each map to the same map
 pub same_maps : (kept mutations : List Mutation) → SameMutations kept mutations → SameMaps kept mutations
-same_maps kept mutations same database = finite.same_map nat_list_cmp_total exact_bytes _ _ (λ q. made kept q ∙ ap (λ state. value_in state (finite.get database q)) (same.state_same q) ∙ sym (made mutations q))
+same_maps kept mutations same database =
+    finite.same_map nat_list_cmp_total exact_bytes _ _
+    (λ q. made kept q ∙ ap (λ state. value_in state (finite.get database q)) (same.state_same q) ∙ sym (made mutations q))
   where
     made : (list : List Mutation) (q : List ℕ) → finite.get (do_all list database) q ≡ value_in (state_under list q) (finite.get database q)
     made list q = get-do_all list database q ∙ sym (value-states_after list q Unmodified (finite.get database q))
 
 -- ---- one mutation more
 
-states_after-append : (first second : List Mutation) (asked : List ℕ) (state : KeyState) → states_after (first ++ second) asked state ≡ states_after second asked (states_after first asked state)
+states_after-append : (first second : List Mutation) (asked : List ℕ) (state : KeyState)
+    → states_after (first ++ second) asked state ≡ states_after second asked (states_after first asked state)
 states_after-append [] second asked state = refl
 states_after-append (mutation ∷ first) second asked state = states_after-append first second asked (state_after mutation asked state)
 
-filled-append : (stamp : List ℕ) (first second : List Mutation) → all_filled stamp (first ++ second) ≡ all_filled stamp first ++ all_filled stamp second
+filled-append : (stamp : List ℕ) (first second : List Mutation)
+    → all_filled stamp (first ++ second) ≡ all_filled stamp first ++ all_filled stamp second
 filled-append stamp [] second = refl
 filled-append stamp (mutation ∷ first) second = ap (λ list. filled stamp mutation ∷ list) (filled-append stamp first second)
 
@@ -73,9 +85,11 @@ or_assoc false b c = refl
 covers-append : (first second : List KeyRange) (key : List ℕ) → covers (first ++ second) key ≡ (covers first key || covers second key)
 covers-append [] second key = refl
 covers-append (range ∷ first) second key =
-    ap (λ b. within range.begin range.end key || b) (covers-append first second key) ∙ or_assoc (within range.begin range.end key) (covers first key) (covers second key)
+    ap (λ b. within range.begin range.end key || b) (covers-append first second key)
+    ∙ or_assoc (within range.begin range.end key) (covers first key) (covers second key)
 
-covers-unreadable-append : (first second : List Mutation) (key : List ℕ) → covers (unreadable (first ++ second)) key ≡ (covers (unreadable first) key || covers (unreadable second) key)
+covers-unreadable-append : (first second : List Mutation) (key : List ℕ)
+    → covers (unreadable (first ++ second)) key ≡ (covers (unreadable first) key || covers (unreadable second) key)
 covers-unreadable-append [] second key = refl
 covers-unreadable-append (mutation ∷ first) second key =
     covers-append (unreadable_by mutation) (unreadable (first ++ second)) key
@@ -83,7 +97,8 @@ covers-unreadable-append (mutation ∷ first) second key =
     ∙ or_assoc (covers (unreadable_by mutation) key) (covers (unreadable first) key) (covers (unreadable second) key)
     ∙ ap (λ b. b || covers (unreadable second) key) (sym (covers-append (unreadable_by mutation) (unreadable first) key))
 
-states_more : (kept mutations more : List Mutation) (key : List ℕ) → state_under kept key ≡ state_under mutations key → state_under (kept ++ more) key ≡ state_under (mutations ++ more) key
+states_more : (kept mutations more : List Mutation) (key : List ℕ) → state_under kept key ≡ state_under mutations key
+    → state_under (kept ++ more) key ≡ state_under (mutations ++ more) key
 states_more kept mutations more key same =
     states_after-append kept more key Unmodified ∙ ap (states_after more key) same ∙ sym (states_after-append mutations more key Unmodified)
 
@@ -91,7 +106,9 @@ states_more kept mutations more key same =
 pub same_more : (kept mutations more : List Mutation) → SameMutations kept mutations → SameMutations (kept ++ more) (mutations ++ more)
 same_more kept mutations more same = record {
   unreadable_same = λ key.
-      covers-unreadable-append kept more key ∙ ap (λ b. b || covers (unreadable more) key) (same.unreadable_same key) ∙ sym (covers-unreadable-append mutations more key);
+      covers-unreadable-append kept more key
+      ∙ ap (λ b. b || covers (unreadable more) key) (same.unreadable_same key)
+      ∙ sym (covers-unreadable-append mutations more key);
   state_same = λ key. states_more kept mutations more key (same.state_same key);
   filled_same = λ stamp key ten.
       ap (λ list. state_under list key) (filled-append stamp kept more)

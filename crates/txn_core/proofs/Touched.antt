@@ -24,29 +24,40 @@ stands_at-empty database q = ap (λ o. unwrap_or o (finite.get database q)) (fin
 
 -- ---- one key more
 
-get-touch : (touched : Touched) (key : List ℕ) (value : Option (List ℕ)) (q : List ℕ) → finite.get (finite.insert touched key value) q ≡ cond (bytes_eq q key) (Some value) (finite.get touched q)
-get-touch touched key value q = finite.get-insert nat_list_cmp_total touched key value q ∙ ap (λ b. cond b (Some value) (finite.get touched q)) (sym (texts_ties q key))
+get-touch : (touched : Touched) (key : List ℕ) (value : Option (List ℕ)) (q : List ℕ)
+    → finite.get (finite.insert touched key value) q ≡ cond (bytes_eq q key) (Some value) (finite.get touched q)
+get-touch touched key value q =
+    finite.get-insert nat_list_cmp_total touched key value q ∙ ap (λ b. cond b (Some value) (finite.get touched q)) (sym (texts_ties q key))
 
-pub stands_at-touch : (touched : Touched) (database : Database) (key : List ℕ) (value : Option (List ℕ)) (q : List ℕ) → stands_at (finite.insert touched key value) database q ≡ cond (bytes_eq q key) value (stands_at touched database q)
+pub stands_at-touch : (touched : Touched) (database : Database) (key : List ℕ) (value : Option (List ℕ)) (q : List ℕ)
+    → stands_at (finite.insert touched key value) database q ≡ cond (bytes_eq q key) value (stands_at touched database q)
 stands_at-touch touched database key value q =
     ap (λ o. unwrap_or o (finite.get database q)) (get-touch touched key value q)
-    ∙ elim (bytes_eq q key) as (λ b. unwrap_or (cond b (Some value) (finite.get touched q)) (finite.get database q) ≡ cond b value (stands_at touched database q)) [ true ↦ refl | false ↦ refl ]
+    ∙ elim (bytes_eq q key) as
+    (λ b. unwrap_or (cond b (Some value) (finite.get touched q)) (finite.get database q) ≡ cond b value (stands_at touched database q))
+    [ true ↦ refl | false ↦ refl ]
 
 -- other keys are touched as before
-pub get-others : (touched : Touched) (key : List ℕ) (value : Option (List ℕ)) (q : List ℕ) → bytes_eq q key ≡ false → finite.get (finite.insert touched key value) q ≡ finite.get touched q
+pub get-others : (touched : Touched) (key : List ℕ) (value : Option (List ℕ)) (q : List ℕ) → bytes_eq q key ≡ false
+    → finite.get (finite.insert touched key value) q ≡ finite.get touched q
 get-others touched key value q other = get-touch touched key value q ∙ ap (λ b. cond b (Some value) (finite.get touched q)) other
 
 -- an atomic operation is done on what stands at its key
-pub stands_at-atomic : (op : AtomicOp) (touched : Touched) (database : Database) (key operand : List ℕ) (value : Option (List ℕ)) → value ≡ atom op (stands_at touched database key) operand
-    → (q : List ℕ) → cond (bytes_eq q key) value (stands_at touched database q) ≡ at_key (Atomic op key operand) q (stands_at touched database q)
+pub stands_at-atomic : (op : AtomicOp) (touched : Touched) (database : Database) (key operand : List ℕ) (value : Option (List ℕ))
+    → value ≡ atom op (stands_at touched database key) operand
+    → (q : List ℕ) → cond (bytes_eq q key) value (stands_at touched database q) ≡ at_key (Atomic op key operand) q
+    (stands_at touched database q)
 stands_at-atomic op touched database key operand value is q =
-    elim (bytes_eq q key) as (λ b. bytes_eq q key ≡ b → cond b value (stands_at touched database q) ≡ cond b (atom op (stands_at touched database q) operand) (stands_at touched database q)) [
+    elim (bytes_eq q key)
+    as (λ b. bytes_eq q key ≡ b → cond b value (stands_at touched database q) ≡ cond b (atom op (stands_at touched database q) operand)
+    (stands_at touched database q)) [
       | true ↦ λ same. is ∙ ap (λ k. atom op (stands_at touched database k) operand) (sym (same_text q key (sym same)))
       | false ↦ λ other. refl
     ] refl
 
 -- one with a versionstamp changes nothing
-pub at_key-versionstamped : (op : AtomicOp) (key operand : List ℕ) → is_versionstamped op ≡ true → (q : List ℕ) (old : Option (List ℕ)) → old ≡ at_key (Atomic op key operand) q old
+pub at_key-versionstamped : (op : AtomicOp) (key operand : List ℕ) → is_versionstamped op ≡ true → (q : List ℕ) (old : Option (List ℕ))
+    → old ≡ at_key (Atomic op key operand) q old
 at_key-versionstamped op key operand is q old =
     elim (bytes_eq q key) as (λ b. old ≡ cond b (atom op old operand) old) [ true ↦ sym (versionstamped_same op old operand is) | false ↦ refl ]
 
@@ -61,20 +72,21 @@ pub record IsCleared (database : Database) (before touched : Touched) (begin end
   pub others : (q : List ℕ) → within begin end q ≡ false → finite.get touched q ≡ finite.get before q
 
 low_of : (begin end q : List ℕ) → within begin end q ≡ true → key_lt q begin ≡ false
-low_of begin end q h = by (key_lt q begin) h
+low_of begin end q h = by_below (key_lt q begin) h
   where
-    by : (b : Bool) → (not b && key_lt q end) ≡ true → b ≡ false
-    by true h = absurd (false≢true h)
-    by false h = refl
+    by_below : (b : Bool) → (not b && key_lt q end) ≡ true → b ≡ false
+    by_below true h = absurd (false≢true h)
+    by_below false h = refl
 
 high_of : (begin end q : List ℕ) → within begin end q ≡ true → key_lt q end ≡ true
-high_of begin end q h = by (key_lt q begin) h
+high_of begin end q h = by_below (key_lt q begin) h
   where
-    by : (b : Bool) → (not b && key_lt q end) ≡ true → key_lt q end ≡ true
-    by true h = absurd (false≢true h)
-    by false h = h
+    by_below : (b : Bool) → (not b && key_lt q end) ≡ true → key_lt q end ≡ true
+    by_below true h = absurd (false≢true h)
+    by_below false h = h
 
-pub cleared_first : (database : Database) (touched : Touched) (begin end : List ℕ) → IsCleared database touched (finite.retain_keys touched (λ k. not (within begin end k))) begin end begin
+pub cleared_first : (database : Database) (touched : Touched) (begin end : List ℕ)
+    → IsCleared database touched (finite.retain_keys touched (λ k. not (within begin end k))) begin end begin
 cleared_first database touched begin end = record {
   begins = irreflexive begin;
   outside = λ q out. ap (λ o. unwrap_or o (finite.get database q)) (kept q ∙ ap (λ b. cond (not b) (finite.get touched q) None) out);
@@ -83,51 +95,60 @@ cleared_first database touched begin end = record {
   others = λ q out. kept q ∙ ap (λ b. cond (not b) (finite.get touched q) None) out;
 }
   where
-    kept : (q : List ℕ) → finite.get (finite.retain_keys touched (λ k. not (within begin end k))) q ≡ cond (not (within begin end q)) (finite.get touched q) None
-    kept q = finite.get-retain_keys touched (λ k. not (within begin end k)) q (λ k same. ap (λ k. not (within begin end k)) (sym (exact_bytes q k same)))
+    kept : (q : List ℕ)
+        → finite.get (finite.retain_keys touched (λ k. not (within begin end k))) q
+        ≡ cond (not (within begin end q)) (finite.get touched q) None
+    kept q =
+        finite.get-retain_keys touched (λ k. not (within begin end k)) q
+        (λ k same. ap (λ k. not (within begin end k)) (sym (exact_bytes q k same)))
 
-module _ (database : Database) (before touched : Touched) (begin end from key : List ℕ) (cleared : IsCleared database before touched begin end from) (next : IsNextInside database from end key) where
+module _ (database : Database) (before touched : Touched) (begin end from key : List ℕ)
+    (cleared : IsCleared database before touched begin end from) (next : IsNextInside database from end key) where
   -- the key is not below the begin of the range
   key_begins : key_lt key begin ≡ false
-  key_begins = by (key_lt key begin) refl
+  key_begins = by_below (key_lt key begin) refl
     where
-      by : (b : Bool) → key_lt key begin ≡ b → b ≡ false
-      by true below = absurd (true≢false (sym (le_lt from key begin next.low below) ∙ cleared.begins))
-      by false below = refl
+      by_below : (b : Bool) → key_lt key begin ≡ b → b ≡ false
+      by_below true below = absurd (true≢false (sym (le_lt from key begin next.low below) ∙ cleared.begins))
+      by_below false below = refl
 
   key_inside : within begin end key ≡ true
   key_inside = λ i. (not (key_begins i) && next.high i)
 
   -- what is neither the key nor above it is below it
   below_key : (q : List ℕ) → bytes_eq q key ≡ false → key_lt key q ≡ false → key_lt q key ≡ true
-  below_key q other not_above = by (key_cmp q key) refl
+  below_key q other not_above = by_order (key_cmp q key) refl
     where
-      by : (o : Ordering) → key_cmp q key ≡ o → key_lt q key ≡ true
-      by Less is = ap is_lt is
-      by Equal is = absurd (true≢false (sym (texts_ties q key ∙ ap is_eq is) ∙ other))
-      by Greater is = absurd (true≢false (sym (ap is_lt (nat_list_cmp_total.antisymm key q ∙ ap ordering_reverse is)) ∙ not_above))
+      by_order : (o : Ordering) → key_cmp q key ≡ o → key_lt q key ≡ true
+      by_order Less is = ap is_lt is
+      by_order Equal is = absurd (true≢false (sym (texts_ties q key ∙ ap is_eq is) ∙ other))
+      by_order Greater is = absurd (true≢false (sym (ap is_lt (nat_list_cmp_total.antisymm key q ∙ ap ordering_reverse is)) ∙ not_above))
 
   abbrev after_key : Touched
   after_key = finite.insert touched key None
 
   outside_more : (q : List ℕ) → within begin end q ≡ false → stands_at after_key database q ≡ stands_at before database q
-  outside_more q out = stands_at-touch touched database key None q ∙ elim (bytes_eq q key) as (λ b. bytes_eq q key ≡ b → cond b None (stands_at touched database q) ≡ stands_at before database q) [
-    | true ↦ λ same. absurd (true≢false (sym key_inside ∙ ap (within begin end) (sym (same_text q key (sym same))) ∙ out))
-    | false ↦ λ other. cleared.outside q out
-  ] refl
+  outside_more q out =
+      stands_at-touch touched database key None q
+      ∙ elim (bytes_eq q key) as (λ b. bytes_eq q key ≡ b → cond b None (stands_at touched database q) ≡ stands_at before database q) [
+        | true ↦ λ same. absurd (true≢false (sym key_inside ∙ ap (within begin end) (sym (same_text q key (sym same))) ∙ out))
+        | false ↦ λ other. cleared.outside q out
+      ] refl
 
   others_more : (q : List ℕ) → within begin end q ≡ false → finite.get after_key q ≡ finite.get before q
-  others_more q out = get-touch touched key None q ∙ elim (bytes_eq q key) as (λ b. bytes_eq q key ≡ b → cond b (Some None) (finite.get touched q) ≡ finite.get before q) [
-    | true ↦ λ same. absurd (true≢false (sym key_inside ∙ ap (within begin end) (sym (same_text q key (sym same))) ∙ out))
-    | false ↦ λ other. cleared.others q out
-  ] refl
+  others_more q out =
+      get-touch touched key None q
+      ∙ elim (bytes_eq q key) as (λ b. bytes_eq q key ≡ b → cond b (Some None) (finite.get touched q) ≡ finite.get before q) [
+        | true ↦ λ same. absurd (true≢false (sym key_inside ∙ ap (within begin end) (sym (same_text q key (sym same))) ∙ out))
+        | false ↦ λ other. cleared.others q out
+      ] refl
 
   passed : (q : List ℕ) → within begin end q ≡ true → bytes_eq q key ≡ false → key_lt key q ≡ false → stands_at touched database q ≡ None
-  passed q inside other not_above = by (key_lt q from) refl
+  passed q inside other not_above = by_below (key_lt q from) refl
     where
-      by : (b : Bool) → key_lt q from ≡ b → stands_at touched database q ≡ None
-      by true below = cleared.done q inside below
-      by false above =
+      by_below : (b : Bool) → key_lt q from ≡ b → stands_at touched database q ≡ None
+      by_below true below = cleared.done q inside below
+      by_below false above =
           ap (λ o. unwrap_or o (finite.get database q)) (cleared.left q inside above)
           ∙ next.gap q above (below_key q other not_above)
 
@@ -140,10 +161,12 @@ module _ (database : Database) (before touched : Touched) (begin end from key : 
   not_of_false b false is h = absurd (false≢true (sym h ∙ is))
 
   done_more : (q : List ℕ) → within begin end q ≡ true → key_lt q (after key) ≡ true → stands_at after_key database q ≡ None
-  done_more q inside below = stands_at-touch touched database key None q ∙ elim (bytes_eq q key) as (λ b. bytes_eq q key ≡ b → cond b None (stands_at touched database q) ≡ None) [
-    | true ↦ λ same. refl
-    | false ↦ λ other. passed q inside other (not_of _ _ (lt_after q key) below)
-  ] refl
+  done_more q inside below =
+      stands_at-touch touched database key None q
+      ∙ elim (bytes_eq q key) as (λ b. bytes_eq q key ≡ b → cond b None (stands_at touched database q) ≡ None) [
+        | true ↦ λ same. refl
+        | false ↦ λ other. passed q inside other (not_of _ _ (lt_after q key) below)
+      ] refl
 
   left_more : (q : List ℕ) → within begin end q ≡ true → key_lt q (after key) ≡ false → finite.get after_key q ≡ None
   left_more q inside above =
@@ -155,27 +178,28 @@ module _ (database : Database) (before touched : Touched) (begin end from key : 
       ] refl
 
   after_begins : key_lt (after key) begin ≡ false
-  after_begins = by (key_lt (after key) begin) refl
+  after_begins = by_below (key_lt (after key) begin) refl
     where
-      by : (b : Bool) → key_lt (after key) begin ≡ b → b ≡ false
-      by true below = absurd (true≢false (sym (lt_trans key (after key) begin (below_after key) below) ∙ key_begins))
-      by false below = refl
+      by_below : (b : Bool) → key_lt (after key) begin ≡ b → b ≡ false
+      by_below true below = absurd (true≢false (sym (lt_trans key (after key) begin (below_after key) below) ∙ key_begins))
+      by_below false below = refl
 
   -- the key is touched, and has no value
   pub cleared_more : IsCleared database before after_key begin end (after key)
   cleared_more = record { begins = after_begins; outside = outside_more; done = done_more; left = left_more; others = others_more }
 
 -- the whole range is cleared, once no key of it is left in the map
-pub cleared_all : (database : Database) (before touched : Touched) (begin end from : List ℕ) → IsCleared database before touched begin end from → HasNoneInside database from end
+pub cleared_all : (database : Database) (before touched : Touched) (begin end from : List ℕ)
+    → IsCleared database before touched begin end from → HasNoneInside database from end
     → (q : List ℕ) → stands_at touched database q ≡ cond (within begin end q) None (stands_at before database q)
 cleared_all database before touched begin end from cleared none q =
     elim (within begin end q) as (λ b. within begin end q ≡ b → stands_at touched database q ≡ cond b None (stands_at before database q)) [
-      | true ↦ λ inside. by (key_lt q from) refl inside
+      | true ↦ λ inside. by_below (key_lt q from) refl inside
       | false ↦ λ out. cleared.outside q out
     ] refl
   where
-    by : (b : Bool) → key_lt q from ≡ b → within begin end q ≡ true → stands_at touched database q ≡ None
-    by true below inside = cleared.done q inside below
-    by false above inside =
+    by_below : (b : Bool) → key_lt q from ≡ b → within begin end q ≡ true → stands_at touched database q ≡ None
+    by_below true below inside = cleared.done q inside below
+    by_below false above inside =
         ap (λ o. unwrap_or o (finite.get database q)) (cleared.left q inside above)
         ∙ none q above (high_of begin end q inside)

@@ -16,8 +16,10 @@ use Rattle.txn_core.specs.Stands.{StandsFor}
 -- The code is that of the first check that fails; else the transaction is read-only, or it commits and has its version
 -- taken. After want of memory it stands for the transaction before.
 abbrev pub Judged : Result Verdict TrFault → (Transaction → Type 0) → History → Transaction → Type 0
-Judged (Ok verdict.ReadOnly) stands history transaction = (commit_code transaction ≡ None) × (is_read_only transaction ≡ true) × stands transaction
-Judged (Ok verdict.Commits) stands history transaction = (commit_code transaction ≡ None) × (is_read_only transaction ≡ false) × stands (with_version history transaction)
+Judged (Ok verdict.ReadOnly) stands history transaction =
+    (commit_code transaction ≡ None) × (is_read_only transaction ≡ true) × stands transaction
+Judged (Ok verdict.Commits) stands history transaction =
+    (commit_code transaction ≡ None) × (is_read_only transaction ≡ false) × stands (with_version history transaction)
 Judged (Err (fault.Code code)) stands history transaction = (commit_code transaction ≡ Some code.0) × stands transaction
 Judged (Err fault.NoMemory) stands history transaction = stands transaction
 

@@ -1,6 +1,5 @@
 -- What a transaction of the code, and a store, stand for.
 use Rattle.std.specs.Prelude.{◌≡◌, ℕ, ◌≤◌, ◌⊎◌, List, ◌++◌, length, if◌then◌else◌}
-use Rattle.database_rules.specs.declared.Code.{Code}
 use Rattle.database_rules.specs.Databases.{Mutation, History, at, last}
 use Rattle.database_rules.specs.States.{covers, state_under, all_filled, unreadable}
 use Rattle.database_rules.specs.Transactions.{Transaction, is_read_only, with_version}
@@ -14,7 +13,8 @@ use Rattle.txn_core.specs.declared.answer.Answer.{Answer}
 pub record SameMutations (kept mutations : List Mutation) : Type 0 where
   pub unreadable_same : (key : List ℕ) → covers (unreadable kept) key ≡ covers (unreadable mutations) key
   pub state_same : (key : List ℕ) → state_under kept key ≡ state_under mutations key
-  pub filled_same : (stamp key : List ℕ) → length stamp ≡ 10 → state_under (all_filled stamp kept) key ≡ state_under (all_filled stamp mutations) key
+  pub filled_same : (stamp key : List ℕ) → length stamp ≡ 10
+      → state_under (all_filled stamp kept) key ≡ state_under (all_filled stamp mutations) key
 
 -- A transaction of the code stands for each one that its mutations and its fields agree with: the mutations agree, it had a
 -- mutation in this life exactly where the other had one, and its other fields are the same; ranges are read by which

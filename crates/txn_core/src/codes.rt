@@ -40,7 +40,7 @@ fn key_code(key: &[u8], value: &[u8]) -> Option<Code>
 }
 
 impl Txn {
-    /// The code of the first check of a read or a clear of `key` that fails. It takes no memory.
+    // The code of the first check of a read or a clear of `key` that fails. It takes no memory.
     #[tactic(auto, unfolding(database_rules::specs::Transactions::one_key_code))]
     pub(crate) fn one_key_code(&self, key: &[u8]) -> Option<Code>
         ensures { option_map number_of result ≡ rules.one_key_code self.now key.now }
@@ -54,7 +54,7 @@ impl Txn {
         }
     }
 
-    /// The code of the first check of a set that fails. It takes no memory.
+    // The code of the first check of a set that fails. It takes no memory.
     #[tactic(auto, unfolding(database_rules::specs::Transactions::set_code))]
     pub(crate) fn set_code(&self, key: &[u8], value: &[u8]) -> Option<Code>
         ensures { option_map number_of result ≡ rules.set_code self.now key.now value.now }
@@ -66,7 +66,7 @@ impl Txn {
         }
     }
 
-    /// The code of the first check of a clear of a range that fails. It takes no memory.
+    // The code of the first check of a clear of a range that fails. It takes no memory.
     #[tactic(auto, unfolding(database_rules::specs::Transactions::clear_range_code))]
     pub(crate) fn clear_range_code(&self, range: &KeyRange) -> Option<Code>
         ensures { option_map number_of result ≡ rules.clear_range_code self.now range.now.begin range.now.end }
@@ -84,7 +84,7 @@ impl Txn {
         }
     }
 
-    /// The mutation of this name, or the code of the first check of an atomic operation that fails. It takes no memory.
+    // The mutation of this name, or the code of the first check of an atomic operation that fails. It takes no memory.
     #[tactic(auto, unfolding(database_rules::specs::Transactions::atomic_code))]
     pub(crate) fn atomic_op(
         &self,
@@ -106,7 +106,7 @@ impl Txn {
         }
     }
 
-    /// The code of the first check of a commit that fails. It takes no memory.
+    // The code of the first check of a commit that fails. It takes no memory.
     #[tactic(auto, unfolding(database_rules::specs::Transactions::commit_code))]
     pub(crate) fn commit_code(&self) -> Option<Code>
         ensures { option_map number_of result ≡ rules.commit_code self.now }

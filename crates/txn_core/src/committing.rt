@@ -19,8 +19,8 @@ use std::alloc::AllocError;
 use version_store::Store;
 
 impl Txn {
-    /// The checks of a commit, and whether there is anything to write. A transaction that commits takes its version. It
-    /// takes no memory.
+    // The checks of a commit, and whether there is anything to write. A transaction that commits takes its version. It
+    // takes no memory.
     pub(crate) fn judge(&mut self, store: &Store) -> Result<Verdict, TrFault>
         ensures verdict { (history : History) → Keeps store.now history → Judged result (λ t. self.new ≡ t) history self.old }
         ensures active { OnOk result (self.new.phase ≡ phase.Active) }
@@ -35,7 +35,7 @@ impl Txn {
         Ok(Verdict::Commits)
     }
 
-    /// Notes what became of a commit. It takes no memory.
+    // Notes what became of a commit. It takes no memory.
     pub(crate) fn tried(&mut self, tried: Tried)
         ensures { self.new ≡ rules.with_phase self.old (phase.Tried tried) }
     {
@@ -56,7 +56,8 @@ impl Txn {
     fn make_version(&mut self, store: &mut Store) -> Result<(), AllocError>
         requires { last_of store.old < 2 ^ 63 }
         ensures ok { OnOk result ((history : History) → Keeps store.old history
-            → (self.new ≡ rules.with_phase self.old (phase.Tried (tried.Version (last history + 1)))) × Keeps store.new (history ++ commit_of self.old ∷ [])) }
+            → (self.new ≡ rules.with_phase self.old (phase.Tried (tried.Version (last history + 1))))
+            × Keeps store.new (history ++ commit_of self.old ∷ [])) }
         ensures err { OnErr result ((history : History) → Keeps store.old history → (self.new ≡ self.old) × Keeps store.new history) }
     {
         let changes = self.changes(store)?;
@@ -66,8 +67,8 @@ impl Txn {
         Ok(())
     }
 
-    /// A commit: what the transaction wrote makes the next version, where it wrote anything. After want of memory it
-    /// is unchanged but that its version may be taken, and the store reads as before.
+    // A commit: what the transaction wrote makes the next version, where it wrote anything. After want of memory it
+    // is unchanged but that its version may be taken, and the store reads as before.
     pub(crate) fn commit(&mut self, store: &mut Store) -> Result<Answer, AllocError>
         requires { last_of store.old < 2 ^ 63 }
         ensures ok { IfOk result (λ answer. (history : History) → Keeps store.old history

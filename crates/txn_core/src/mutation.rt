@@ -29,7 +29,7 @@ pub enum Mutation {
 }
 
 impl Mutation {
-    /// How many bytes it counts. It takes no memory.
+    // How many bytes it counts. It takes no memory.
     pub(crate) fn bytes(&self) -> u64
         ensures { result ≡ rules.mutation_size (mutation_of self.now) }
     {
@@ -44,7 +44,7 @@ impl Mutation {
         }
     }
 
-    /// Whether it may change the value of `key`. It takes no memory.
+    // Whether it may change the value of `key`. It takes no memory.
     pub(crate) fn touches(&self, key: &Key) -> bool
         ensures { result ≡ touches (mutation_of self.now) key.now }
     {

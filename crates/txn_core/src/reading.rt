@@ -126,8 +126,8 @@ impl Txn {
         seen.into_value(alloc)
     }
 
-    /// The value of a key that the transaction sees. A refused read changes nothing, and another takes the version; after
-    /// want of memory the transaction is unchanged.
+    // The value of a key that the transaction sees. A refused read changes nothing, and another takes the version; after
+    // want of memory the transaction is unchanged.
     pub(crate) fn get(&mut self, store: &Store, key: &Key) -> Result<Option<Bytes>, TrFault>
         ensures { (history : History) → Keeps store.now history
             → Answered reply.Value result (λ t. self.new ≡ t) self.old (get_called history self.old key.now) }

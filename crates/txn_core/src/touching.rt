@@ -164,7 +164,7 @@ impl Txn {
         Ok(touched)
     }
 
-    /// What leads from the map at the last version to that map after the writes. It names only keys that a write touches.
+    // What leads from the map at the last version to that map after the writes. It names only keys that a write touches.
     pub(crate) fn changes(&self, store: &Store) -> Result<Changes, AllocError>
         ensures only { IfOk result (λ changes. All (λ change. is_modified_by self.now.mutations change.0 ≡ true) changes) }
         ensures leads { IfOk result (λ changes. changed changes (at store.now (last_of store.now))

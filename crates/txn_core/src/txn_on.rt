@@ -46,7 +46,8 @@ impl TxnOn<'_> {
     /// keys that a mutation touches. No mutation takes the commit's versionstamp yet.
     pub fn changes(&self, _stamp: &[u8; 10]) -> Result<Changes, AllocError>
         ensures leads { IfOk result (λ changes. (t : Transaction) → StandsFor self.now.txn.now t
-            → changed changes (at self.now.store.now (last_of self.now.store.now)) ≡ do_all t.mutations (at self.now.store.now (last_of self.now.store.now))) }
+            → changed changes (at self.now.store.now (last_of self.now.store.now))
+            ≡ do_all t.mutations (at self.now.store.now (last_of self.now.store.now))) }
         ensures only { IfOk result (λ changes. (t : Transaction) → StandsFor self.now.txn.now t
             → All (λ change. is_unmodified (state_under t.mutations change.0) ≡ false) changes) }
     {

@@ -46,7 +46,7 @@ impl Txn {
         self.add(Mutation::Atomic { op, key, operand })
     }
 
-    /// A set.
+    // A set.
     pub(crate) fn set(&mut self, key: &[u8], value: &[u8]) -> Result<(), TrFault>
         ensures { Answered (λ _. reply.Done) result (λ t. self.new ≡ t) self.old (set_called self.old key.now value.now) }
     {
@@ -60,7 +60,7 @@ impl Txn {
         Ok(())
     }
 
-    /// A clear of one key.
+    // A clear of one key.
     pub(crate) fn clear(&mut self, key: &[u8]) -> Result<(), TrFault>
         ensures { Answered (λ _. reply.Done) result (λ t. self.new ≡ t) self.old (clear_called self.old key.now) }
     {
@@ -72,7 +72,7 @@ impl Txn {
         Ok(())
     }
 
-    /// A clear of a range.
+    // A clear of a range.
     pub(crate) fn clear_range(&mut self, range: &KeyRange) -> Result<(), TrFault>
         ensures { Answered (λ _. reply.Done) result (λ t. self.new ≡ t) self.old
             (clear_range_called self.old range.now.begin range.now.end) }
@@ -88,7 +88,7 @@ impl Txn {
         Ok(())
     }
 
-    /// An atomic operation.
+    // An atomic operation.
     pub(crate) fn atomic(&mut self, op: AtomicOp, key: &[u8], operand: &[u8]) -> Result<(), TrFault>
         ensures { Answered (λ _. reply.Done) result (λ t. self.new ≡ t) self.old (atomic_called self.old op key.now operand.now) }
     {
@@ -99,7 +99,7 @@ impl Txn {
         Ok(())
     }
 
-    /// An atomic operation by its name.
+    // An atomic operation by its name.
     pub(crate) fn named_atomic(
         &mut self,
         name: &[u8],

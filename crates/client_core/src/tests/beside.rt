@@ -3,7 +3,7 @@
 use super::plain::Plain;
 use super::*;
 
-/// How many requests are drawn.
+// How many requests are drawn.
 const ROUNDS: usize = 600;
 
 // Numbers drawn one after another (xorshift).

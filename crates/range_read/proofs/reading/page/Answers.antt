@@ -9,7 +9,8 @@ pub returns-clause-pairs : goal.returns-clause-pairs
 returns-clause-pairs g c =
     let all = span (g.V.OrderedView.map c.args.view.now) c.args.range.now.begin c.args.range.now.end c.args.reverse in
     (c.in_ok-taken.ensures {u = tt}).pairs ∙ ap (λ n. cut n all) c.size_of_page-size.ensures
-    ∙ take_cut c.args.limit (page_size c.args.mode c.args.limit c.args.turn) all (IsSize-page c.args.mode c.args.limit c.args.turn (c.in_ok-check.ensures {u = tt}).ok)
+    ∙ take_cut c.args.limit (page_size c.args.mode c.args.limit c.args.turn) all
+    (IsSize-page c.args.mode c.args.limit c.args.turn (c.in_ok-check.ensures {u = tt}).ok)
 
 pub returns-clause-more : goal.returns-clause-more
 returns-clause-more g c =
@@ -18,7 +19,8 @@ returns-clause-more g c =
     let all = span m c.args.range.now.begin c.args.range.now.end c.args.reverse in
     let left = span m c.in_ok-taken.taken.left.begin c.in_ok-taken.taken.left.end c.args.reverse in
     (c.in_ok-more.ensures {u = tt}) ∙ ap (λ n. has_more c.args.limit n left) c.size_of_page-size.ensures
-    ∙ more_is c.args.limit n c.in_ok-taken.taken.pairs left all (IsSize-page c.args.mode c.args.limit c.args.turn (c.in_ok-check.ensures {u = tt}).ok)
+    ∙ more_is c.args.limit n c.in_ok-taken.taken.pairs left all
+    (IsSize-page c.args.mode c.args.limit c.args.turn (c.in_ok-check.ensures {u = tt}).ok)
     (c.in_ok-taken.ensures {u = tt}).whole ((c.in_ok-taken.ensures {u = tt}).pairs ∙ ap (λ n. cut n all) c.size_of_page-size.ensures)
 
 pub returns-clause-rest : goal.returns-clause-rest

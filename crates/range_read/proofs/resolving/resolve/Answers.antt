@@ -9,19 +9,21 @@ use Rattle.range_read.proofs.Selectors.{law_up, law_down}
 use Rattle.range_read.proofs.resolving.resolve.Goals as goal
 
 -- an offset that is read is the offset
-read : (z y : ℤ) → SFits w32 z → to_z w32 (of_z w32 z) ≡ y → z ≡ y
-read z y fits is = sym (to_z-of_z w32 z fits) ∙ is
+read_exact : (z y : ℤ) → SFits w32 z → to_z w32 (of_z w32 z) ≡ y → z ≡ y
+read_exact z y fits is = sym (to_z-of_z w32 z fits) ∙ is
 
 pub returns-in-Up : goal.returns-in-Up
 returns-in-Up g c =
     let m = g.V.OrderedView.map c.args.view.now in
     IfOk-weaker c.key_or.result _ _ (λ _ is.
     is ∙ ap (λ k. get_or (keys_of (onward m k false)) c.in-Up.place top) (c.in_ok-start.ensures {u = tt})
-    ∙ law_up m c.args.selector.now c.in-Up.place (read c.args.selector.now.offset _ (search rules) (c.in-Up.ensures {u = tt}))) c.key_or.ensures
+    ∙ law_up m c.args.selector.now c.in-Up.place
+    (read_exact c.args.selector.now.offset _ (search rules) (c.in-Up.ensures {u = tt}))) c.key_or.ensures
 
 pub returns : goal.returns
 returns g c =
     let m = g.V.OrderedView.map c.args.view.now in
     IfOk-weaker c.key_or-in-Down.result _ _ (λ _ is.
     is ∙ ap (λ k. get_or (keys_of (onward m k true)) c.in-Down.place []) (c.in_ok-start.ensures {u = tt})
-    ∙ law_down m c.args.selector.now c.in-Down.place (read c.args.selector.now.offset _ (search rules) (c.in-Down.ensures {u = tt}))) c.key_or-in-Down.ensures
+    ∙ law_down m c.args.selector.now c.in-Down.place
+    (read_exact c.args.selector.now.offset _ (search rules) (c.in-Down.ensures {u = tt}))) c.key_or-in-Down.ensures

@@ -11,9 +11,11 @@ pages-smaller g c =
     let more = c.if-not-next.false in
     let some = got_some m c.pages.left.begin c.pages.left.end c.pages.rest c.args.reverse c.args.mode c.pages.turn c.in_ok-next.next.pairs c.in_ok-next.next.more
     next.limited next.pairs next.more more in
-    joined_smaller m c.pages.left.begin c.pages.left.end c.pages.rest c.args.reverse c.args.mode c.pages.turn c.in_ok-next.next.pairs c.in_ok-next.next.more
+    joined_smaller m c.pages.left.begin c.pages.left.end c.pages.rest c.args.reverse c.args.mode c.pages.turn c.in_ok-next.next.pairs
+    c.in_ok-next.next.more
     next.limited next.pairs next.more more (next.rest more)
-    c.in_ok-left-2.left.begin c.in_ok-left-2.left.end (left.begin some) (left.end some) c.rest_of-rest.result (c.rest_of-rest.ensures ∙ ap (λ n. c.pages.rest - n) c.len.ensures)
+    c.in_ok-left-2.left.begin c.in_ok-left-2.left.end (left.begin some) (left.end some) c.rest_of-rest.result
+    (c.rest_of-rest.ensures ∙ ap (λ n. c.pages.rest - n) c.len.ensures)
 
 pub pages-preserved : goal.pages-preserved
 pages-preserved g c =
@@ -24,9 +26,13 @@ pages-preserved g c =
     let some = got_some m c.pages.left.begin c.pages.left.end c.pages.rest c.args.reverse c.args.mode c.pages.turn c.in_ok-next.next.pairs c.in_ok-next.next.more
     next.limited next.pairs next.more more in
     record {
-      whole = joined_whole m c.pages.left.begin c.pages.left.end c.pages.rest c.args.reverse c.args.mode c.pages.turn c.in_ok-next.next.pairs c.in_ok-next.next.more
+      whole =
+          joined_whole m c.pages.left.begin c.pages.left.end c.pages.rest c.args.reverse c.args.mode c.pages.turn c.in_ok-next.next.pairs
+          c.in_ok-next.next.more
           next.limited next.pairs next.more more (next.rest more)
-          c.in_ok-left-2.left.begin c.in_ok-left-2.left.end (left.begin some) (left.end some) c.rest_of-rest.result (c.rest_of-rest.ensures ∙ ap (λ n. c.pages.rest - n) c.len.ensures)
-          c.pages.pairs c.append.new.pairs (slice m c.args.range.now.begin c.args.range.now.end c.args.limit c.args.reverse) c.pages.invariant.whole (c.in_ok-append.ensures {u = tt});
+          c.in_ok-left-2.left.begin c.in_ok-left-2.left.end (left.begin some) (left.end some) c.rest_of-rest.result
+          (c.rest_of-rest.ensures ∙ ap (λ n. c.pages.rest - n) c.len.ensures)
+          c.pages.pairs c.append.new.pairs (slice m c.args.range.now.begin c.args.range.now.end c.args.limit c.args.reverse)
+          c.pages.invariant.whole (c.in_ok-append.ensures {u = tt});
       turns = let before = c.pages.invariant.turns in let now = c.saturating_add-turn.ensures in omega (arith, before, now);
     }

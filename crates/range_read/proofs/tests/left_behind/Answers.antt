@@ -9,11 +9,14 @@ use Rattle.range_read.proofs.tests.left_behind.Goals as goal
 pub returns-in_ok-copy-clause-end : goal.returns-in_ok-copy-clause-end
 returns-in_ok-copy-clause-end c some =
     (c.in_ok-copy.ensures {u = tt})
-    ∙ last_at c.args.pairs.now (entry_of c.get-last.result.now) some (ap (λ n. slice_get c.args.pairs.now (n - 1)) (sym c.len.ensures) ∙ c.get-last.ensures)
+    ∙ last_at c.args.pairs.now (entry_of c.get-last.result.now) some
+    (ap (λ n. slice_get c.args.pairs.now (n - 1)) (sym c.len.ensures) ∙ c.get-last.ensures)
     ∙ ap (end_behind c.args.range.end (last_key c.args.pairs.now)) (sym c.if-reverse.true)
 
 pub returns-in_ok-after-clause-begin : goal.returns-in_ok-after-clause-begin
 returns-in_ok-after-clause-begin c some =
     (c.in_ok-after.ensures {u = tt})
-    ∙ ap after (last_at c.args.pairs.now (entry_of c.get-last.result.now) some (ap (λ n. slice_get c.args.pairs.now (n - 1)) (sym c.len.ensures) ∙ c.get-last.ensures))
+    ∙ ap after
+    (last_at c.args.pairs.now (entry_of c.get-last.result.now) some
+    (ap (λ n. slice_get c.args.pairs.now (n - 1)) (sym c.len.ensures) ∙ c.get-last.ensures))
     ∙ ap (begin_behind c.args.range.begin (last_key c.args.pairs.now)) (sym c.if-reverse.false)

@@ -21,7 +21,8 @@ loop-left-preserved g c =
     record {
       whole = step_whole m c.loop-left.left.begin c.loop-left.left.end c.args.down (entry_of c.in-Some.pair) is
           c.in_ok-left.left.begin c.in_ok-left.left.end (c.in_ok-left.ensures {u = tt}).begin (c.in_ok-left.ensures {u = tt}).end
-          c.loop-left.pairs c.push.new.self (span m c.args.range.now.begin c.args.range.now.end c.args.down) c.loop-left.invariant.whole pushed;
+          c.loop-left.pairs c.push.new.self (span m c.args.range.now.begin c.args.range.now.end c.args.down) c.loop-left.invariant.whole
+          pushed;
       short = λ some. let room = c.is_full.ensures.room c.loop-left-test.true some in omega (arith, room, longer, c.len.ensures);
     }
 
@@ -31,5 +32,6 @@ returns-clause-pairs g c =
     let full = c.is_full.ensures.full c.loop-left-test.false in
     let short = c.loop-left.invariant.short full.0 in
     let is : c.args.limit ≡ length c.loop-left.pairs = omega (arith, full.1, short, c.len.ensures) in
-    taken_full c.args.limit c.loop-left.pairs (span m c.loop-left.left.begin c.loop-left.left.end c.args.down) (span m c.args.range.now.begin c.args.range.now.end c.args.down)
+    taken_full c.args.limit c.loop-left.pairs (span m c.loop-left.left.begin c.loop-left.left.end c.args.down)
+    (span m c.args.range.now.begin c.args.range.now.end c.args.down)
     c.loop-left.invariant.whole full.0 is

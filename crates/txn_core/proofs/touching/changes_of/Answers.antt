@@ -8,4 +8,5 @@ use Rattle.txn_core.proofs.touching.changes_of.Goals as goal
 pub push-requires : goal.push-requires
 push-requires c =
     let whole = sym (ap (λ rest. c.loop-key.changes ++ rest) (c.in-Some.ensures {u = tt}).steps) ∙ c.loop-key.invariant.whole in
-    above_earlier c.loop-key.changes c.in-Some.key c.in-Some.value c.next.new.self (subst (λ es. IsStrictlySortedBy key_cmp (keys_of es)) (sym whole) c.loop-key.invariant.rising)
+    above_earlier c.loop-key.changes c.in-Some.key c.in-Some.value c.next.new.self
+    (subst (λ es. IsStrictlySortedBy key_cmp (keys_of es)) (sym whole) c.loop-key.invariant.rising)

@@ -16,7 +16,8 @@ returns-clause-stands c =
     let value = (c.in_ok-value.ensures {u = tt}) ∙ (λ i. atom c.args.op (c.standing.ensures i) (c.as_slice.ensures i)) in
     IfOk-weaker c.put.result _ _ (λ _ stands q.
     stands (at c.args.store.now (last_of c.args.store.now)) q
-    ∙ stands_at-atomic c.args.op c.args.touched.now (at c.args.store.now (last_of c.args.store.now)) c.args.key.now c.args.operand.now c.in_ok-value.value value q) c.put.ensures.stands
+    ∙ stands_at-atomic c.args.op c.args.touched.now (at c.args.store.now (last_of c.args.store.now)) c.args.key.now c.args.operand.now
+    c.in_ok-value.value value q) c.put.ensures.stands
 
 pub returns-clause-others : goal.returns-clause-others
 returns-clause-others c =

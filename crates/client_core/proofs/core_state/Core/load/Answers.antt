@@ -6,8 +6,11 @@ use Rattle.client_core.proofs.Loads.{first_kept, begun_stands}
 use Rattle.client_core.proofs.core_state.Core.load.Goals as goal
 use Rattle.client_core.proofs.core_state.Core.load.Goals.{After-new}
 
-first : (c : After-new) (words : ℕ → ℕ) → StandsFor (model_of record { alloc = c.args.alloc; store = c.in_ok-store.store; transactions = c.new.result; next_life = 0; applied = 0 }) (begun c.args.pairs words)
-first c words =
+stands_at_first : (c : After-new) (words : ℕ → ℕ)
+    → StandsFor
+    (model_of record { alloc = c.args.alloc; store = c.in_ok-store.store; transactions = c.new.result; next_life = 0; applied = 0 })
+    (begun c.args.pairs words)
+stands_at_first c words =
     begun_stands _ c.args.pairs words
     (first_kept c.in_ok-store.store c.args.pairs c.in_ok-store.ensures.last c.in_ok-store.ensures.empty c.in_ok-store.ensures.first)
     c.new.ensures refl
@@ -15,7 +18,7 @@ first c words =
 pub invariant_of-result : goal.invariant_of-result
 invariant_of-result c = λ still. record {
   world = begun c.args.pairs (λ place. 0);
-  stands = first c (λ place. 0);
+  stands = stands_at_first c (λ place. 0);
   few_commits = omega arith;
   few_lives = omega arith;
 }

@@ -13,8 +13,10 @@ use Rattle.txn_core.proofs.txn.Txn.changes.Goals as goal
 pub returns-clause-leads : goal.returns-clause-leads
 returns-clause-leads c = IfOk-weaker c.changes_of.result _ _ (λ changes is.
     ap (λ cs. changed cs (at c.args.store.now (last_of c.args.store.now))) is
-    ∙ changed_is c.in_ok-touched.field-0 (at c.args.store.now (last_of c.args.store.now)) (do_all c.args.self.now.mutations (at c.args.store.now (last_of c.args.store.now)))
-    (λ q. (c.in_ok-touched.ensures {u = tt}).stands q ∙ sym (get-do_all c.args.self.now.mutations (at c.args.store.now (last_of c.args.store.now)) q))) c.changes_of.ensures
+    ∙ changed_is c.in_ok-touched.field-0 (at c.args.store.now (last_of c.args.store.now))
+    (do_all c.args.self.now.mutations (at c.args.store.now (last_of c.args.store.now)))
+    (λ q. (c.in_ok-touched.ensures {u = tt}).stands q
+    ∙ sym (get-do_all c.args.self.now.mutations (at c.args.store.now (last_of c.args.store.now)) q))) c.changes_of.ensures
 
 pub returns-clause-only : goal.returns-clause-only
 returns-clause-only c = IfOk-weaker c.changes_of.result _ _ (λ changes is.

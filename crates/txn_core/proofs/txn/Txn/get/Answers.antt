@@ -10,5 +10,7 @@ returns c history keeps =
     let seen = seen_is_view c.args.store.now history c.args.self.now c.read_version-version.result c.args.key.now c.in_ok-value.value keeps taken (c.in_ok-value.ensures {u = tt}) in
     let called = read_called history c.args.self.now c.args.key.now (c.in_default.ensures ∙ ap (λ k. one_key_code c.args.self.now k) c.as_slice.ensures) in (
       ap reply.Value seen ∙ sym called.0,
-      ap (λ (t : Transaction). record t { version = Some c.read_version-version.result }) c.self.view_is ∙ ap (λ n. record c.args.self.now { version = Some n }) taken ∙ sym called.1,
+      ap (λ (t : Transaction). record t { version = Some c.read_version-version.result }) c.self.view_is
+          ∙ ap (λ n. record c.args.self.now { version = Some n }) taken
+          ∙ sym called.1,
     )

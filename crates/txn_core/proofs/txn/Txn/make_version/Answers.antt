@@ -16,6 +16,8 @@ returns-clause-ok c history keeps =
     let version = c.last.ensures ∙ c.install.ensures.last ∙ ap (λ n. n + 1) kept.last_is in
     let base = reserved.reads (last_of c.reserve.new.self) ∙ ap (at c.args.store.now) reserved.last in (
       c.tried.ensures ∙ ap (λ v. with_phase c.args.self.now (phase.Tried (tried.Version v))) version,
-      keeps_next c.reserve.new.self c.install.new.self history (commit_of c.args.self.now) kept c.install.ensures.last c.install.ensures.before
-          (c.install.ensures.after ∙ ap (changed c.in_ok-changes.changes) base ∙ (c.in_ok-changes.ensures {u = tt}).leads ∙ sym (ap (do_all c.args.self.now.mutations) base)),
+      keeps_next c.reserve.new.self c.install.new.self history (commit_of c.args.self.now) kept c.install.ensures.last
+          c.install.ensures.before
+          (c.install.ensures.after ∙ ap (changed c.in_ok-changes.changes) base ∙ (c.in_ok-changes.ensures {u = tt}).leads ∙ sym
+          (ap (do_all c.args.self.now.mutations) base)),
     )

@@ -12,7 +12,8 @@ pub loop-mutation-init : goal.loop-mutation-init
 loop-mutation-init c = record {
   stands = λ q.
       ap (at_keys (mutations_of c.as_slice-mutation-items.result.now) q)
-      (ap (λ t. stands_at t (at c.args.store.now (last_of c.args.store.now)) q) c.new-touched.ensures ∙ stands_at-empty (at c.args.store.now (last_of c.args.store.now)) q);
+      (ap (λ t. stands_at t (at c.args.store.now (last_of c.args.store.now)) q) c.new-touched.ensures ∙ stands_at-empty
+      (at c.args.store.now (last_of c.args.store.now)) q);
   left = λ q h. h;
   only = λ q h. ap (λ t. finite.get t q) c.new-touched.ensures ∙ finite.get-empty key_cmp q;
 }

@@ -10,8 +10,10 @@ use Rattle.txn_core.proofs.txn.Txn.touched.Given as goal
 -- write touches is not touched
 abbrev pub invariant-loop-mutation : goal.invariant-loop-mutation
 invariant-loop-mutation l = record {
-  stands : (q : List ℕ) → at_keys (mutations_of (drop l.mutation-index l.mutation-items)) q (stands_at l.touched (at l.store (last_of l.store)) q)
+  stands : (q : List ℕ)
+      → at_keys (mutations_of (drop l.mutation-index l.mutation-items)) q (stands_at l.touched (at l.store (last_of l.store)) q)
       ≡ at_keys (mutations_of l.mutation-items) q (finite.get (at l.store (last_of l.store)) q);
-  left : (q : List ℕ) → is_modified_by (mutations_of l.mutation-items) q ≡ false → is_modified_by (mutations_of (drop l.mutation-index l.mutation-items)) q ≡ false;
+  left : (q : List ℕ) → is_modified_by (mutations_of l.mutation-items) q ≡ false
+      → is_modified_by (mutations_of (drop l.mutation-index l.mutation-items)) q ≡ false;
   only : (q : List ℕ) → is_modified_by (mutations_of l.mutation-items) q ≡ false → finite.get l.touched q ≡ None;
 }

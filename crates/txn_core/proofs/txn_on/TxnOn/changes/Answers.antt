@@ -7,7 +7,9 @@ use Rattle.txn_core.proofs.txn_on.TxnOn.changes.Goals as goal
 
 pub returns-clause-leads : goal.returns-clause-leads
 returns-clause-leads c = IfOk-weaker c.changes.result _ _ (λ changes leads t stands.
-    leads ∙ same_maps c.args.self.now.txn.now.mutations t.mutations stands.mutations (at c.args.self.now.store.now (last_of c.args.self.now.store.now))) c.changes.ensures.leads
+    leads
+    ∙ same_maps c.args.self.now.txn.now.mutations t.mutations stands.mutations
+    (at c.args.self.now.store.now (last_of c.args.self.now.store.now))) c.changes.ensures.leads
 
 pub returns-clause-only : goal.returns-clause-only
 returns-clause-only c = IfOk-weaker c.changes.result _ _ (λ changes only t stands.
