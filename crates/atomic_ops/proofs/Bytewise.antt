@@ -27,5 +27,6 @@ joined_more joined old operand i inside =
     let within : i < length all = omega (arith, length-bytewise joined old operand) in
     sym (take_more all i 0 within ∙ ap (λ (byte : ℕ). take i all ++ byte ∷ []) (get_or-bytewise joined old operand i inside))
 
-pub joined_all : (joined : ℕ → ℕ → ℕ) (old operand : List ℕ) (i : ℕ) → length operand ≤ i → take i (bytewise joined (fitted old operand) operand) ≡ bytewise joined (fitted old operand) operand
+pub joined_all : (joined : ℕ → ℕ → ℕ) (old operand : List ℕ) (i : ℕ) → length operand ≤ i
+    → take i (bytewise joined (fitted old operand) operand) ≡ bytewise joined (fitted old operand) operand
 joined_all joined old operand i past = take_all i (bytewise joined (fitted old operand) operand) (omega (arith, length-bytewise joined old operand))

@@ -59,7 +59,8 @@ number_low-take_suc (suc i) (b ∷ bytes) = rw pow-suc (omega (arith, number_low
 unfoldable pub low_sum : List ℕ → List ℕ → ℕ → ℕ
 low_sum kept operand i = number_low (take i kept) + number_low (take i operand)
 
-low_sum-suc : (kept operand : List ℕ) (i : ℕ) → low_sum kept operand (suc i) ≡ low_sum kept operand i + 256 ^ i * (get_or kept i 0 + get_or operand i 0)
+low_sum-suc : (kept operand : List ℕ) (i : ℕ)
+    → low_sum kept operand (suc i) ≡ low_sum kept operand i + 256 ^ i * (get_or kept i 0 + get_or operand i 0)
 unfolding low_sum
 low_sum-suc kept operand i = omega (arith, number_low-take_suc i kept, number_low-take_suc i operand)
 
@@ -73,7 +74,8 @@ pub IsSummed-none : (kept operand : List ℕ) → IsSummed kept operand 0 0 []
 unfolding low_sum number_low little_bytes
 IsSummed-none kept operand = record { bytes = refl; carried = omega arith; small = omega arith }
 
-pub IsSummed-more : (kept operand : List ℕ) (i carry a b : ℕ) (sum : List ℕ) → IsSummed kept operand i carry sum → a ≡ get_or kept i 0 → b ≡ get_or operand i 0 → a < 256 → b < 256
+pub IsSummed-more : (kept operand : List ℕ) (i carry a b : ℕ) (sum : List ℕ) → IsSummed kept operand i carry sum → a ≡ get_or kept i 0
+    → b ≡ get_or operand i 0 → a < 256 → b < 256
     → IsSummed kept operand (i + 1) ((a + b + carry) / 256) (sum ++ (a + b + carry) % 256 ∷ [])
 IsSummed-more kept operand i carry a b sum so_far kept_is operand_is kept_fits operand_fits =
     rw add-one record { bytes = bytes; carried = rw (total, pow-suc) (div-div-eq-div-mul all (256 ^ i) 256); small = omega (arith, so_far.small) }
@@ -93,7 +95,8 @@ IsSummed-more kept operand i carry a b sum so_far kept_is operand_is kept_fits o
     bytes : sum ++ (a + b + carry) % 256 ∷ [] ≡ little_bytes (suc i) all
     bytes = rw total (sym (little_bytes-suc i all ∙ ap (λ (bytes : List ℕ). bytes ++ all / 256 ^ i % 256 ∷ []) low))
 
-pub IsSummed-all : (kept operand : List ℕ) (i carry : ℕ) (sum : List ℕ) → IsSummed kept operand i carry sum → length kept ≡ i → length operand ≡ i → sum ≡ little_sum kept operand
+pub IsSummed-all : (kept operand : List ℕ) (i carry : ℕ) (sum : List ℕ) → IsSummed kept operand i carry sum → length kept ≡ i
+    → length operand ≡ i → sum ≡ little_sum kept operand
 unfolding low_sum little_sum
 IsSummed-all kept operand i carry sum so_far a b =
     let whole : take i kept ≡ kept = take_all i kept (omega arith) in
@@ -103,7 +106,8 @@ IsSummed-all kept operand i carry sum so_far a b =
 -- ---- a comparison from the highest byte down
 
 -- where the bytes above a place are the same, a lesser byte there makes a lesser number
-number_low-lt : (xs ys : List ℕ) (i : ℕ) → IsByteString xs → length xs ≡ length ys → i < length xs → drop (suc i) xs ≡ drop (suc i) ys → get_or xs i 0 < get_or ys i 0
+number_low-lt : (xs ys : List ℕ) (i : ℕ) → IsByteString xs → length xs ≡ length ys → i < length xs → drop (suc i) xs ≡ drop (suc i) ys
+    → get_or xs i 0 < get_or ys i 0
     → number_low xs < number_low ys
 unfolding number_low
 number_low-lt [] ys i bytes long inside above less = absurd (omega arith)
@@ -113,7 +117,8 @@ number_low-lt (x ∷ xs) (y ∷ ys) (suc i) bytes long inside above less =
     omega (arith, All-head (λ b. b < 256) x xs bytes, number_low-lt xs ys i (All-tail (λ b. b < 256) x xs bytes) (omega arith) (omega arith) above less)
 
 -- the highest byte that differs decides
-pub nat_lt-number_low : (xs ys : List ℕ) (i : ℕ) → IsByteString xs → IsByteString ys → length xs ≡ length ys → i < length xs → drop (suc i) xs ≡ drop (suc i) ys
+pub nat_lt-number_low : (xs ys : List ℕ) (i : ℕ) → IsByteString xs → IsByteString ys → length xs ≡ length ys → i < length xs
+    → drop (suc i) xs ≡ drop (suc i) ys
     → (get_or xs i 0 ≡ get_or ys i 0 → ⊥) → nat_lt (get_or xs i 0) (get_or ys i 0) ≡ nat_lt (number_low xs) (number_low ys)
 nat_lt-number_low xs ys i first second long inside above differ =
     elim (cases_order (get_or xs i 0) (get_or ys i 0)) [

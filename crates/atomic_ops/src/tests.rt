@@ -16,6 +16,18 @@ fn applied(
     }
 }
 
+// Whether `apply` makes this of an old value.
+fn makes(
+    alloc: Global,
+    op: AtomicOp,
+    old: Option<&[u8]>,
+    operand: &[u8],
+    wanted: Option<&[u8]>,
+) -> Result<bool, AllocError> {
+    let value = applied(alloc, op, old, operand)?;
+    Ok(value.as_ref().map(|value| value.as_slice()) == wanted)
+}
+
 #[test]
 fn numbers(rt: HostRuntime) -> Result<(), Fail> {
     let rows: [(AtomicOp, &[u8], &[u8], &[u8]); 20] = [
@@ -41,12 +53,8 @@ fn numbers(rt: HostRuntime) -> Result<(), Fail> {
         (AtomicOp::Min, b"\x07", b"", b""),
     ];
     for (op, old, operand, wanted) in rows {
-        let value = applied(rt.alloc(), op, Some(old), operand)?;
-        assert_eq!(rt;
-            value.as_ref().map(|value| value.as_slice()),
-            Some(wanted),
-            "{op:?} {old:?} {operand:?}"
-        );
+        let is_made = makes(rt.alloc(), op, Some(old), operand, Some(wanted))?;
+        assert!(rt; is_made, "{op:?} {old:?} {operand:?}");
     }
     Ok(())
 }
@@ -76,12 +84,8 @@ fn bytes(rt: HostRuntime) -> Result<(), Fail> {
         (AtomicOp::AppendIfFits, b"", b"c", b"c"),
     ];
     for (op, old, operand, wanted) in rows {
-        let value = applied(rt.alloc(), op, Some(old), operand)?;
-        assert_eq!(rt;
-            value.as_ref().map(|value| value.as_slice()),
-            Some(wanted),
-            "{op:?} {old:?} {operand:?}"
-        );
+        let is_made = makes(rt.alloc(), op, Some(old), operand, Some(wanted))?;
+        assert!(rt; is_made, "{op:?} {old:?} {operand:?}");
     }
     Ok(())
 }
@@ -101,12 +105,8 @@ fn no_value(rt: HostRuntime) -> Result<(), Fail> {
     ];
     for op in ops {
         for operand in [b"\x01\x00".as_slice(), b"".as_slice()] {
-            let value = applied(rt.alloc(), op, None, operand)?;
-            assert_eq!(rt;
-                value.as_ref().map(|value| value.as_slice()),
-                Some(operand),
-                "{op:?}"
-            );
+            let is_made = makes(rt.alloc(), op, None, operand, Some(operand))?;
+            assert!(rt; is_made, "{op:?}");
         }
     }
     Ok(())
@@ -123,21 +123,30 @@ fn compare_and_clear(rt: HostRuntime) -> Result<(), Fail> {
         (None, b"ab", None),
     ];
     for (old, operand, wanted) in rows {
-        let value = apply(rt.alloc(), AtomicOp::CompareAndClear, old, operand)?;
-        assert_eq!(rt; value.as_ref().map(|value| value.as_slice()), wanted);
+        let op = AtomicOp::CompareAndClear;
+        assert!(rt;
+            makes(rt.alloc(), op, old, operand, wanted)?,
+            "{old:?} {operand:?}"
+        );
     }
     Ok(())
 }
 
+// The length and the sum of what is made of so many bytes of 7, with a byte of 1 to append.
+fn appended(alloc: Global, stored: usize) -> Result<Option<(usize, u64)>, AllocError> {
+    let old = vec![in alloc; 7u8; stored]?;
+    let value = apply(alloc, AtomicOp::AppendIfFits, Some(old.as_slice()), b"\x01")?;
+    Ok(value.map(|value| (value.len(), sum_of(value.as_slice()))))
+}
+
 #[test]
 fn appends_up_to_the_limit(rt: HostRuntime) -> Result<(), Fail> {
-    let alloc = rt.alloc();
-    for (stored, len) in [(99_998, 99_999), (99_999, 100_000), (100_000, 100_000)] {
-        let old = vec![in alloc; 7u8; stored]?;
-        let value = apply(alloc, AtomicOp::AppendIfFits, Some(old.as_slice()), b"\x01")?;
-        assert_eq!(rt; value.as_ref().map(|value| value.len()), Some(len));
-        let sum = value.as_ref().map(|value| sum_of(value.as_slice()));
-        assert_eq!(rt; sum, Some(7 * stored as u64 + (len - stored) as u64));
+    for (stored, len, sum) in [
+        (99_998, 99_999, 699_987),
+        (99_999, 100_000, 699_994),
+        (100_000, 100_000, 700_000),
+    ] {
+        assert_eq!(rt; appended(rt.alloc(), stored)?, Some((len, sum)), "{stored}");
     }
     Ok(())
 }
@@ -234,6 +243,18 @@ fn slow_sum(alloc: Global, old: &[u8], operand: &[u8]) -> Result<Vec<u8>, AllocE
     Ok(sum)
 }
 
+// Whether ADD makes what the slow program makes.
+fn makes_slow_sum(alloc: Global, old: &[u8], operand: &[u8]) -> Result<bool, AllocError> {
+    let wanted = slow_sum(alloc, old, operand)?;
+    makes(
+        alloc,
+        AtomicOp::Add,
+        Some(old),
+        operand,
+        Some(wanted.as_slice()),
+    )
+}
+
 #[test]
 fn sums_of_numbers(rt: HostRuntime) -> Result<(), Fail> {
     let alloc = rt.alloc();
@@ -241,16 +262,8 @@ fn sums_of_numbers(rt: HostRuntime) -> Result<(), Fail> {
     for round in 0..400u32 {
         let old = mixer.bytes(alloc)?;
         let operand = mixer.bytes(alloc)?;
-        let value = apply(
-            alloc,
-            AtomicOp::Add,
-            Some(old.as_slice()),
-            operand.as_slice(),
-        )?;
-        let wanted = slow_sum(alloc, old.as_slice(), operand.as_slice())?;
-        assert_eq!(rt;
-            value.as_ref().map(|value| value.as_slice()),
-            Some(wanted.as_slice()),
+        assert!(rt;
+            makes_slow_sum(alloc, old.as_slice(), operand.as_slice())?,
             "{round}"
         );
     }

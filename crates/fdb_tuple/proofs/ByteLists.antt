@@ -56,11 +56,13 @@ number_high_push : (bytes : List ℕ) (b : ℕ) → number_high (bytes ++ b ∷ 
 unfolding number_low
 number_high_push bytes b = rw (reverse-append bytes (b ∷ [])) (omega arith)
 
-pub number_more : (negative : Bool) (bytes : List ℕ) (i : ℕ) → i < length bytes → number_high (with_sign negative (take (i + 1) bytes)) ≡ 256 * number_high (with_sign negative (take i bytes)) + signed_byte negative (get_or bytes i 0)
+pub number_more : (negative : Bool) (bytes : List ℕ) (i : ℕ) → i < length bytes
+    → number_high (with_sign negative (take (i + 1) bytes)) ≡ 256 * number_high (with_sign negative (take i bytes)) + signed_byte negative (get_or bytes i 0)
 number_more negative bytes i lt =
     rw (take_more bytes i 0 lt, map-append (signed_byte negative) (take i bytes) (get_or bytes i 0 ∷ [])) (number_high_push (with_sign negative (take i bytes)) (signed_byte negative (get_or bytes i 0)))
 
 -- up to 15 digits there is room for one more
-pub number_fits : (negative : Bool) (bytes : List ℕ) (i : ℕ) → i < length bytes → length bytes ≤ 16 → AreBytes bytes → number_high (with_sign negative (take i bytes)) < 256 ^ 15
+pub number_fits : (negative : Bool) (bytes : List ℕ) (i : ℕ) → i < length bytes → length bytes ≤ 16 → AreBytes bytes
+    → number_high (with_sign negative (take i bytes)) < 256 ^ 15
 number_fits negative bytes i lt le h =
     number_high_below 15 (with_sign negative (take i bytes)) (omega (arith, length-map (take i bytes) (signed_byte negative), length-take i bytes)) (AreBytes-with_sign negative (take i bytes) (AreBytes-take i bytes h))

@@ -18,7 +18,8 @@ end_after (elem.Nested a) xs = refl
 end_after x xs = refl
 
 -- where one of two tuples is at its end, their numbers of elements decide
-pub tuple_cmp-ended : (xs ys : List Elem) (m n : ℕ) → (xs ≡ []) ⊎ (ys ≡ []) → m + length ys ≡ n + length xs → tuple_cmp (tuple_of xs) (tuple_of ys) ≡ nat_cmp m n
+pub tuple_cmp-ended : (xs ys : List Elem) (m n : ℕ) → (xs ≡ []) ⊎ (ys ≡ []) → m + length ys ≡ n + length xs
+    → tuple_cmp (tuple_of xs) (tuple_of ys) ≡ nat_cmp m n
 tuple_cmp-ended [] [] m n ended e = sym (nat_cmp-equal m n (omega arith))
 tuple_cmp-ended [] (y ∷ ys) m n ended e = end_before y (tuple_of ys) ∙ sym (nat_cmp-less m n (omega arith))
 tuple_cmp-ended (x ∷ xs) [] m n ended e = end_after x (tuple_of xs) ∙ sym (nat_cmp-greater m n (omega arith))

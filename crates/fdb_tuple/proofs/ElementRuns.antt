@@ -37,21 +37,26 @@ IsElement-leaf (elem.Bool value) leaf = tt
 IsElement-leaf (elem.Uuid bytes) leaf = tt
 IsElement-leaf (elem.Stamp stamp) leaf = tt
 
-leaf_within : (around : ℕ) (bytes others : List ℕ) (element : Elem) (read : TupleRead) → length others < length bytes → IsLeaf element → IfOk read (IsWithin around others) → IfOk (before_others element read) (IsWithin around bytes)
+leaf_within : (around : ℕ) (bytes others : List ℕ) (element : Elem) (read : TupleRead) → length others < length bytes → IsLeaf element
+    → IfOk read (IsWithin around others) → IfOk (before_others element read) (IsWithin around bytes)
 leaf_within around bytes others element (Ok x) lt leaf h = (omega (arith, h.0), λ le. rw (depth_of-leaf element x.0 leaf) (h.1 le))
 leaf_within around bytes others element (Err f) lt leaf h = tt
 
-nested_within : (around : ℕ) (bytes others : List ℕ) (inner : Elements) (read : TupleRead) → length others < length bytes → (around ≤ 100 → around + suc (depth_of inner) ≤ 100) → IfOk read (IsWithin around others)
+nested_within : (around : ℕ) (bytes others : List ℕ) (inner : Elements) (read : TupleRead) → length others < length bytes
+    → (around ≤ 100 → around + suc (depth_of inner) ≤ 100) → IfOk read (IsWithin around others)
     → IfOk (before_others (elem.Nested inner) read) (IsWithin around bytes)
 nested_within around bytes others inner (Ok x) lt room h = (omega (arith, h.0), λ le. omega (arith, room le, h.1 le))
 nested_within around bytes others inner (Err f) lt room h = tt
 
-inner_within : (around : ℕ) (bytes others : List ℕ) (onward : List ℕ → TupleRead) (read : TupleRead) → length others < length bytes → around ≢ 100 → IfOk read (IsWithin (suc around) others) → ((rest : List ℕ) → IfOk (onward rest) (IsWithin around rest))
+inner_within : (around : ℕ) (bytes others : List ℕ) (onward : List ℕ → TupleRead) (read : TupleRead) → length others < length bytes
+    → around ≢ 100 → IfOk read (IsWithin (suc around) others) → ((rest : List ℕ) → IfOk (onward rest) (IsWithin around rest))
     → IfOk (read >>= (λ inner. before_others (elem.Nested inner.0) (onward inner.1))) (IsWithin around bytes)
 inner_within around bytes others onward (Ok x) lt ne h k = nested_within around bytes x.1 x.0 (onward x.1) (omega (arith, h.0)) (λ le. omega (arith, h.1 (omega (arith, ne)))) (k x.1)
 inner_within around bytes others onward (Err f) lt ne h k = tt
 
-going_within : (around : ℕ) (bytes : List ℕ) (inside onward : List ℕ → TupleRead) (read : Result (Piece × List ℕ) UnpackFault) → IfOk read (IsPiece around bytes) → ((rest : List ℕ) → IfOk (inside rest) (IsWithin (suc around) rest)) → ((rest : List ℕ) → IfOk (onward rest) (IsWithin around rest))
+going_within : (around : ℕ) (bytes : List ℕ) (inside onward : List ℕ → TupleRead) (read : Result (Piece × List ℕ) UnpackFault)
+    → IfOk read (IsPiece around bytes) → ((rest : List ℕ) → IfOk (inside rest) (IsWithin (suc around) rest))
+    → ((rest : List ℕ) → IfOk (onward rest) (IsWithin around rest))
     → IfOk (read >>= going_on inside onward) (IsWithin around bytes)
 going_within around bytes inside onward (Ok (piece.Ends, rest)) h i k = (h, λ le. omega arith)
 going_within around bytes inside onward (Ok (piece.Opens, rest)) h i k = inner_within around bytes rest onward (inside rest) h.0 h.1 (i rest) k
@@ -75,12 +80,14 @@ elements_in whole around bytes = elements_at (suc (length bytes)) whole around b
 abbrev Agree : List ℕ → (List ℕ → TupleRead) → (List ℕ → TupleRead) → Type 0
 Agree bytes f g = (rest : List ℕ) → length rest < length bytes → f rest ≡ g rest
 
-inner_same : (around : ℕ) (bytes others : List ℕ) (onward onward' : List ℕ → TupleRead) (read : TupleRead) → length others < length bytes → IfOk read (IsWithin around others) → Agree bytes onward onward'
+inner_same : (around : ℕ) (bytes others : List ℕ) (onward onward' : List ℕ → TupleRead) (read : TupleRead) → length others < length bytes
+    → IfOk read (IsWithin around others) → Agree bytes onward onward'
     → (read >>= (λ inner. before_others (elem.Nested inner.0) (onward inner.1))) ≡ (read >>= (λ inner. before_others (elem.Nested inner.0) (onward' inner.1)))
 inner_same around bytes others onward onward' (Ok x) lt h k = ap (before_others (elem.Nested x.0)) (k x.1 (omega (arith, h.0)))
 inner_same around bytes others onward onward' (Err f) lt h k = refl
 
-going_same : (around : ℕ) (bytes : List ℕ) (inside inside' onward onward' : List ℕ → TupleRead) (read : Result (Piece × List ℕ) UnpackFault) → IfOk read (IsPiece around bytes) → ((rest : List ℕ) → IfOk (inside rest) (IsWithin (suc around) rest))
+going_same : (around : ℕ) (bytes : List ℕ) (inside inside' onward onward' : List ℕ → TupleRead) (read : Result (Piece × List ℕ) UnpackFault)
+    → IfOk read (IsPiece around bytes) → ((rest : List ℕ) → IfOk (inside rest) (IsWithin (suc around) rest))
     → Agree bytes inside inside' → Agree bytes onward onward' → (read >>= going_on inside onward) ≡ (read >>= going_on inside' onward')
 going_same around bytes inside inside' onward onward' (Ok (piece.Ends, rest)) h w i k = refl
 going_same around bytes inside inside' onward onward' (Ok (piece.Opens, rest)) h w i k =
@@ -89,7 +96,8 @@ going_same around bytes inside inside' onward onward' (Ok (piece.Opens, rest)) h
 going_same around bytes inside inside' onward onward' (Ok (piece.Holds element, rest)) h w i k = ap (before_others element) (k rest h.0)
 going_same around bytes inside inside' onward onward' (Err f) h w i k = refl
 
-elements_at-fuel : (most more whole around : ℕ) (bytes : List ℕ) → length bytes < most → length bytes < more → elements_at most whole around bytes ≡ elements_at more whole around bytes
+elements_at-fuel : (most more whole around : ℕ) (bytes : List ℕ) → length bytes < most → length bytes < more
+    → elements_at most whole around bytes ≡ elements_at more whole around bytes
 unfolding elements_at
 elements_at-fuel zero more whole around bytes lt lt' = absurd (omega arith)
 elements_at-fuel (suc most) zero whole around bytes lt lt' = absurd (omega arith)
@@ -98,7 +106,8 @@ elements_at-fuel (suc most) (suc more) whole around bytes lt lt' =
     (elements_within most whole (suc around))
     (λ rest less. elements_at-fuel most more whole (suc around) rest (omega arith) (omega arith)) (λ rest less. elements_at-fuel most more whole around rest (omega arith) (omega arith))
 
-pub elements_in-step : (whole around : ℕ) (bytes : List ℕ) → elements_in whole around bytes ≡ (piece_at whole around bytes >>= going_on (elements_in whole (suc around)) (elements_in whole around))
+pub elements_in-step : (whole around : ℕ) (bytes : List ℕ)
+    → elements_in whole around bytes ≡ (piece_at whole around bytes >>= going_on (elements_in whole (suc around)) (elements_in whole around))
 unfolding elements_at
 elements_in-step whole around bytes =
     let most = length bytes in
@@ -113,7 +122,8 @@ abbrev followed : List Elem → TupleRead → TupleRead
 followed [] read = read
 followed (element ∷ others) read = before_others element (followed others read)
 
-followed-push : (elements : List Elem) (element : Elem) (read : TupleRead) → followed (elements ++ element ∷ []) read ≡ followed elements (before_others element read)
+followed-push : (elements : List Elem) (element : Elem) (read : TupleRead)
+    → followed (elements ++ element ∷ []) read ≡ followed elements (before_others element read)
 followed-push [] element read = refl
 followed-push (first ∷ others) element read = ap (before_others first) (followed-push others element read)
 
@@ -129,7 +139,8 @@ pub record IsReading (whole around : ℕ) (bytes : List ℕ) (tuple : Elements) 
   pub within : length rest ≤ length bytes
   pub total : followed (elements_of tuple) (elements_in whole around rest) ≡ elements_in whole around bytes
 
-Fails-along : {X Y : Type 0} (f : UnpackFault) (r : Result X UnpackFault) (s : Result Y UnpackFault) → (r ≡ Err f → s ≡ Err f) → Fails f r → Fails f s
+Fails-along : {X Y : Type 0} (f : UnpackFault) (r : Result X UnpackFault) (s : Result Y UnpackFault) → (r ≡ Err f → s ≡ Err f) → Fails f r
+    → Fails f s
 Fails-along fault.NoMemory r s h e = tt
 Fails-along (fault.Truncated place) r s h e = h e
 Fails-along (fault.BadCode place) r s h e = h e
@@ -152,7 +163,8 @@ module _ (whole around : ℕ) (bytes rest : List ℕ) (tuple : Elements) (readin
       let shorter = IfOk-at_ok (IsPiece around rest) e (piece_is whole around rest) in (
         record {
           within = omega (arith, shorter.0, reading.within);
-          total = ap (λ (es : List Elem). followed es (elements_in whole around after)) pushed ∙ followed-push (elements_of tuple) element (elements_in whole around after) ∙ step (Ok (piece.Holds element, after)) e;
+          total = ap (λ (es : List Elem). followed es (elements_in whole around after)) pushed
+              ∙ followed-push (elements_of tuple) element (elements_in whole around after) ∙ step (Ok (piece.Holds element, after)) e;
         },
         shorter.0,
       )
@@ -165,7 +177,9 @@ module _ (whole around : ℕ) (bytes rest : List ℕ) (tuple : Elements) (readin
       let opened : (elements_in whole (suc around) others >>= (λ read. before_others (elem.Nested read.0) (elements_in whole around read.1))) ≡ before_others (elem.Nested inner) (elements_in whole around after) = ap (λ (r : TupleRead). r >>= (λ read. before_others (elem.Nested read.0) (elements_in whole around read.1))) i in (
         record {
           within = omega (arith, shorter.0, within.0, reading.within);
-          total = ap (λ (es : List Elem). followed es (elements_in whole around after)) pushed ∙ followed-push (elements_of tuple) (elem.Nested inner) (elements_in whole around after) ∙ ap (followed (elements_of tuple)) (sym opened) ∙ step (Ok (piece.Opens, others)) e;
+          total = ap (λ (es : List Elem). followed es (elements_in whole around after)) pushed
+              ∙ followed-push (elements_of tuple) (elem.Nested inner) (elements_in whole around after)
+              ∙ ap (followed (elements_of tuple)) (sym opened) ∙ step (Ok (piece.Opens, others)) e;
         },
         omega (arith, shorter.0, within.0),
       )
@@ -183,10 +197,12 @@ module _ (whole around : ℕ) (bytes rest : List ℕ) (tuple : Elements) (readin
   reading_stops_inside others f e = Fails-along f (elements_in whole (suc around) others) (elements_in whole around bytes)
       (λ i. sym (step (Ok (piece.Opens, others)) e) ∙ ap (λ (r : TupleRead). followed (elements_of tuple) (r >>= (λ read. before_others (elem.Nested read.0) (elements_in whole around read.1)))) i ∙ followed-err (elements_of tuple) f)
 
-pub held_is_element : (whole around : ℕ) (rest after : List ℕ) (element : Elem) → piece_at whole around rest ≡ Ok (piece.Holds element, after) → IsElement element
+pub held_is_element : (whole around : ℕ) (rest after : List ℕ) (element : Elem)
+    → piece_at whole around rest ≡ Ok (piece.Holds element, after) → IsElement element
 held_is_element whole around rest after element e = IsElement-leaf element (IfOk-at_ok (IsPiece around rest) e (piece_is whole around rest)).1
 
-pub inner_is_element : (whole around : ℕ) (others after : List ℕ) (inner : Elements) → around < 100 → elements_in whole (suc around) others ≡ Ok (inner, after) → depth_of inner ≤ 99
+pub inner_is_element : (whole around : ℕ) (others after : List ℕ) (inner : Elements) → around < 100
+    → elements_in whole (suc around) others ≡ Ok (inner, after) → depth_of inner ≤ 99
 inner_is_element whole around others after inner lt i =
     let within = IfOk-at_ok (IsWithin (suc around) others) i (elements_within (suc (length others)) whole (suc around) others) in
     omega (arith, within.1 lt)

@@ -34,7 +34,8 @@ unfolding elements_at
 reads_fault whole around bytes f is zero lt = absurd (omega arith)
 reads_fault whole around bytes f is (suc most) lt = rw (piece_refused whole around bytes f is) refl
 
-reads_scalar : (whole around : ℕ) (scalar : Scalar) (rest : List ℕ) (read : TupleRead) → IsScalar scalar → (IsString scalar → IsNoEscape rest) → ReadsTo whole around rest read
+reads_scalar : (whole around : ℕ) (scalar : Scalar) (rest : List ℕ) (read : TupleRead) → IsScalar scalar
+    → (IsString scalar → IsNoEscape rest) → ReadsTo whole around rest read
     → ReadsTo whole around (scalar_spelled (is_inside around) scalar ++ rest) (before_others (element_of scalar) read)
 unfolding elements_at
 reads_scalar whole around scalar rest read is end reads zero lt = absurd (omega arith)
@@ -43,21 +44,23 @@ reads_scalar whole around scalar rest read is end reads (suc most) lt =
     rw (scalar_again whole around scalar rest is end) (ap (before_others (element_of scalar)) (reads most (omega (arith, length-append spelled rest, some_byte (is_inside around) scalar))))
 
 -- what an opened tuple begins with
-opens : (whole around : ℕ) (rest : List ℕ) → (around ≡ 100 → ⊥) → piece_at whole around (5 ∷ rest) ≡ Ok (piece.Opens, rest)
+piece_at-opens : (whole around : ℕ) (rest : List ℕ) → (around ≡ 100 → ⊥) → piece_at whole around (5 ∷ rest) ≡ Ok (piece.Opens, rest)
 unfolding piece_at coded_at kind_of
-opens whole around rest ne = rw (ne_eqb around 100 ne) refl
+piece_at-opens whole around rest ne = rw (ne_eqb around 100 ne) refl
 
-reads_nested : (whole around : ℕ) (bytes : List ℕ) (inner : Elements) (rest : List ℕ) (read : TupleRead) → (around ≡ 100 → ⊥) → length rest ≤ length bytes → ReadsTo whole (suc around) bytes (Ok (inner, rest)) → ReadsTo whole around rest read
+reads_nested : (whole around : ℕ) (bytes : List ℕ) (inner : Elements) (rest : List ℕ) (read : TupleRead) → (around ≡ 100 → ⊥)
+    → length rest ≤ length bytes → ReadsTo whole (suc around) bytes (Ok (inner, rest)) → ReadsTo whole around rest read
     → ReadsTo whole around (5 ∷ bytes) (before_others (elem.Nested inner) read)
 unfolding elements_at
 reads_nested whole around bytes inner rest read ne less inside reads zero lt = absurd (omega arith)
 reads_nested whole around bytes inner rest read ne less inside reads (suc most) lt =
-    rw (opens whole around bytes ne, inside most (omega arith)) (ap (before_others (elem.Nested inner)) (reads most (omega arith)))
+    rw (piece_at-opens whole around bytes ne, inside most (omega arith)) (ap (before_others (elem.Nested inner)) (reads most (omega arith)))
 
-reads_opened : (whole around : ℕ) (bytes : List ℕ) (f : UnpackFault) → (around ≡ 100 → ⊥) → ReadsTo whole (suc around) bytes (Err f) → ReadsTo whole around (5 ∷ bytes) (Err f)
+reads_opened : (whole around : ℕ) (bytes : List ℕ) (f : UnpackFault) → (around ≡ 100 → ⊥) → ReadsTo whole (suc around) bytes (Err f)
+    → ReadsTo whole around (5 ∷ bytes) (Err f)
 unfolding elements_at
 reads_opened whole around bytes f ne inside zero lt = absurd (omega arith)
-reads_opened whole around bytes f ne inside (suc most) lt = rw (opens whole around bytes ne, inside most (omega arith)) refl
+reads_opened whole around bytes f ne inside (suc most) lt = rw (piece_at-opens whole around bytes ne, inside most (omega arith)) refl
 
 -- ---- elements before what is read
 
@@ -77,7 +80,8 @@ after_front-fault Empty f = refl
 after_front-fault (Single scalar rest) f = ap (before_others (element_of scalar)) (after_front-fault rest f)
 after_front-fault (Nested inner rest) f = ap (before_others (elem.Nested inner)) (after_front-fault rest f)
 
-pub reads_front : (whole around : ℕ) (elements : Elements) (more : List ℕ) (read : TupleRead) → AreElements elements → around + depth_of elements ≤ 100 → (EndsByZero elements → IsNoEscape more) → ReadsTo whole around more read
+pub reads_front : (whole around : ℕ) (elements : Elements) (more : List ℕ) (read : TupleRead) → AreElements elements
+    → around + depth_of elements ≤ 100 → (EndsByZero elements → IsNoEscape more) → ReadsTo whole around more read
     → ReadsTo whole around (spelled_in (is_inside around) elements ++ more) (after_front elements read)
 reads_front whole around Empty more read are le ends reads = reads
 reads_front whole around (Single scalar rest) more read are le ends reads =
@@ -101,13 +105,15 @@ reads_front whole around (Nested inner rest) more read are le ends reads =
 -- ---- the faulty element behind whole ones
 
 -- whole elements, and then a fault
-reads_before : (whole around : ℕ) (elements : Elements) (more : List ℕ) (f : UnpackFault) → AreElements elements → around + depth_of elements ≤ 100 → (EndsByZero elements → IsNoEscape more) → ReadsTo whole around more (Err f)
+reads_before : (whole around : ℕ) (elements : Elements) (more : List ℕ) (f : UnpackFault) → AreElements elements
+    → around + depth_of elements ≤ 100 → (EndsByZero elements → IsNoEscape more) → ReadsTo whole around more (Err f)
     → ReadsTo whole around (spelled_in (is_inside around) elements ++ more) (Err f)
 reads_before whole around elements more f are le ends reads =
     subst (ReadsTo whole around (spelled_in (is_inside around) elements ++ more)) (after_front-fault elements f) (reads_front whole around elements more (Err f) are le ends reads)
 
 -- the fault of what follows the whole elements of the tuples that are open
-pub reads_stop : (whole around : ℕ) (elements : Elements) (inner : List Elements) (rest : List ℕ) (f : UnpackFault) → AreElements elements → around + depth_of elements ≤ 100 → AreOpen around inner
+pub reads_stop : (whole around : ℕ) (elements : Elements) (inner : List Elements) (rest : List ℕ) (f : UnpackFault) → AreElements elements
+    → around + depth_of elements ≤ 100 → AreOpen around inner
     → (EndsByZero (innermost elements inner) → IsNoEscape rest) → IsFaulty whole (around + length inner) rest f → ReadsTo whole around (spelled_in (is_inside around) elements ++ (opened inner ++ rest)) (Err f)
 reads_stop whole around elements [] rest f are le open_rest ends is =
     let none : around + 0 ≡ around = omega arith in

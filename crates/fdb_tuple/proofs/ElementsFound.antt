@@ -54,7 +54,8 @@ ends_after-scalar nested scalar Empty [] rest string ends = string
 ends_after-scalar nested scalar (Single second others) [] rest string ends = ends
 ends_after-scalar nested scalar (Nested second others) [] rest string ends = ends
 
-after_scalar : (whole around : ℕ) (bytes : List ℕ) (element : Elem) (after : List ℕ) (read : TupleRead) → Taken (is_inside around) bytes element after → ElementsAre whole around after read
+after_scalar : (whole around : ℕ) (bytes : List ℕ) (element : Elem) (after : List ℕ) (read : TupleRead)
+    → Taken (is_inside around) bytes element after → ElementsAre whole around after read
     → ElementsAre whole around bytes (before_others element read)
 after_scalar whole around bytes element after (Ok x) taken is =
     let same : Single taken.scalar x.0 ≡ before element x.0 = sym (ap (λ (e : Elem). before e x.0) taken.element_is ∙ before-element_of taken.scalar x.0) in
@@ -62,7 +63,8 @@ after_scalar whole around bytes element after (Ok x) taken is =
       are_elements = (taken.is_scalar, is.are_elements);
       shallow = is.shallow;
       left = is.left;
-      parts = taken.parts ∙ ap (λ (t : List ℕ). scalar_spelled (is_inside around) taken.scalar ++ t) is.parts ∙ sym (append_assoc (scalar_spelled (is_inside around) taken.scalar) (spelled_in (is_inside around) x.0) is.left);
+      parts = taken.parts ∙ ap (λ (t : List ℕ). scalar_spelled (is_inside around) taken.scalar ++ t) is.parts
+          ∙ sym (append_assoc (scalar_spelled (is_inside around) taken.scalar) (spelled_in (is_inside around) x.0) is.left);
       end = is.end;
     })
 after_scalar whole around bytes element after (Err f) taken is = record {
@@ -86,16 +88,18 @@ ends_after-nested nested first Empty [] rest end ends = λ _. end
 ends_after-nested nested first (Single second others) [] rest end ends = ends
 ends_after-nested nested first (Nested second others) [] rest end ends = ends
 
-nested_parts : (first left after others rest : List ℕ) → after ≡ first ++ left → left ≡ 0 ∷ others → others ≡ rest → 5 ∷ after ≡ 5 ∷ first ++ 0 ∷ rest
-nested_parts first left after others rest e d c = ap (λ (t : List ℕ). 5 ∷ t) (e ∙ ap (λ (t : List ℕ). first ++ t) (d ∙ ap (λ (t : List ℕ). 0 ∷ t) c))
+nested_rebuilt : (first left after others rest : List ℕ) → after ≡ first ++ left → left ≡ 0 ∷ others → others ≡ rest
+    → 5 ∷ after ≡ 5 ∷ first ++ 0 ∷ rest
+nested_rebuilt first left after others rest e d c = ap (λ (t : List ℕ). 5 ∷ t) (e ∙ ap (λ (t : List ℕ). first ++ t) (d ∙ ap (λ (t : List ℕ). 0 ∷ t) c))
 
-after_nested : (whole around : ℕ) (after : List ℕ) (first : Elements) (others : List ℕ) (read : TupleRead) → ReadIn (suc around) after first others → ElementsAre whole around others read
+after_nested : (whole around : ℕ) (after : List ℕ) (first : Elements) (others : List ℕ) (read : TupleRead)
+    → ReadIn (suc around) after first others → ElementsAre whole around others read
     → ElementsAre whole around (5 ∷ after) (before_others (elem.Nested first) read)
 after_nested whole around after first others (Ok x) inside is = record {
   are_elements = (inside.are_elements, is.are_elements);
   shallow = omega (arith, inside.shallow, is.shallow);
   left = is.left;
-  parts = nested_parts (spelled_in true first) inside.left after others (spelled_in (is_inside around) x.0 ++ is.left) inside.parts inside.end.0 is.parts ∙ simp append_assoc;
+  parts = nested_rebuilt (spelled_in true first) inside.left after others (spelled_in (is_inside around) x.0 ++ is.left) inside.parts inside.end.0 is.parts ∙ simp append_assoc;
   end = is.end;
 }
 after_nested whole around after first others (Err f) inside is = record {
@@ -105,14 +109,15 @@ after_nested whole around after first others (Err f) inside is = record {
   inner = is.inner;
   are_open = is.are_open;
   rest = is.rest;
-  begins = nested_parts (spelled_in true first) inside.left after others (spelled_in (is_inside around) is.elements ++ opened is.inner ++ is.rest) inside.parts inside.end.0 is.begins ∙ simp append_assoc;
+  begins = nested_rebuilt (spelled_in true first) inside.left after others (spelled_in (is_inside around) is.elements ++ opened is.inner ++ is.rest) inside.parts inside.end.0 is.begins ∙ simp append_assoc;
   ends = ends_after-nested (is_inside around) first is.elements is.inner is.rest (subst IsNoEscape is.begins inside.end.1) is.ends;
   is_faulty = is.is_faulty;
 }
 
 -- ---- the fault is in a nested tuple that comes first
 
-in_nested : (whole around : ℕ) (after : List ℕ) (f : UnpackFault) → around ≤ 100 → StopsIn whole (suc around) after f → StopsIn whole around (5 ∷ after) f
+in_nested : (whole around : ℕ) (after : List ℕ) (f : UnpackFault) → around ≤ 100 → StopsIn whole (suc around) after f
+    → StopsIn whole around (5 ∷ after) f
 in_nested whole around after f le is =
     let one : around + 1 ≡ suc around = omega arith in
     let deep : around + suc (length is.inner) ≡ suc around + length is.inner = omega arith in
@@ -134,7 +139,8 @@ in_nested whole around after f le is =
 abbrev Reads : ℕ → ℕ → List ℕ → (List ℕ → TupleRead) → Type 0
 Reads whole around bytes reader = (rest : List ℕ) → length rest < length bytes → AreBytes rest → ElementsAre whole around rest (reader rest)
 
-opened_found : (whole around : ℕ) (after : List ℕ) (onward : List ℕ → TupleRead) (read : TupleRead) → around ≤ 100 → AreBytes after → Reads whole around (5 ∷ after) onward → ElementsAre whole (suc around) after read
+opened_found : (whole around : ℕ) (after : List ℕ) (onward : List ℕ → TupleRead) (read : TupleRead) → around ≤ 100 → AreBytes after
+    → Reads whole around (5 ∷ after) onward → ElementsAre whole (suc around) after read
     → ElementsAre whole around (5 ∷ after) (read >>= (λ inner. before_others (elem.Nested inner.0) (onward inner.1)))
 opened_found whole around after onward (Ok x) le are on is =
     let parts : after ≡ spelled_in true x.0 ++ 0 ∷ x.1 = is.parts ∙ ap (λ (t : List ℕ). spelled_in true x.0 ++ t) is.end.0 in
@@ -143,7 +149,8 @@ opened_found whole around after onward (Ok x) le are on is =
     after_nested whole around after x.0 x.1 (onward x.1) is (on x.1 less rest_are.1)
 opened_found whole around after onward (Err f) le are on is = in_nested whole around after f le is
 
-found_on : (whole around : ℕ) (bytes : List ℕ) (inside onward : List ℕ → TupleRead) (read : Result (Piece × List ℕ) UnpackFault) → around ≤ 100 → AreBytes bytes
+found_on : (whole around : ℕ) (bytes : List ℕ) (inside onward : List ℕ → TupleRead) (read : Result (Piece × List ℕ) UnpackFault)
+    → around ≤ 100 → AreBytes bytes
     → (suc around ≤ 100 → Reads whole (suc around) bytes inside) → Reads whole around bytes onward → PieceIs (IsFaulty whole around bytes) around bytes read
     → ElementsAre whole around bytes (read >>= going_on inside onward)
 found_on whole around bytes inside onward (Ok (piece.Ends, after)) le are deeper on is =
@@ -161,7 +168,8 @@ found_on whole around bytes inside onward (Err f) le are deeper on is =
     let none : around + 0 ≡ around = omega arith in
     record { elements = Empty; are_elements = tt; shallow = omega arith; inner = []; are_open = le; rest = bytes; begins = refl; ends = λ none. absurd none; is_faulty = rw none is }
 
-pub elements_found : (most whole around : ℕ) (bytes : List ℕ) → length bytes < most → around ≤ 100 → AreBytes bytes → ElementsAre whole around bytes (elements_at most whole around bytes)
+pub elements_found : (most whole around : ℕ) (bytes : List ℕ) → length bytes < most → around ≤ 100 → AreBytes bytes
+    → ElementsAre whole around bytes (elements_at most whole around bytes)
 unfolding elements_at
 elements_found zero whole around bytes lt le are = absurd (omega arith)
 elements_found (suc most) whole around bytes lt le are =

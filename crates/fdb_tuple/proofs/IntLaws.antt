@@ -38,10 +38,12 @@ IsLeast-reverse (b ∷ bytes) are leads =
     let high : 0 < b = above_zero b (eqb-false b 0 leads) in
     subst IsLeast (sym (reverse-append (b ∷ []) bytes)) (IsLeast-push (reverse bytes) b (AreBytes-reverse bytes are.1) high are.0)
 
-least_again : (bytes : List ℕ) → length bytes ≤ 16 → AreBytes bytes → leads_with_zero bytes ≡ false → least_bytes (number_high bytes) ≡ bytes
+least_again : (bytes : List ℕ) → length bytes ≤ 16 → AreBytes bytes → leads_with_zero bytes ≡ false
+    → least_bytes (number_high bytes) ≡ bytes
 unfolding least_bytes
 least_again bytes le are leads =
-    ap reverse (low_first-number_low 16 (reverse bytes) (omega (arith, length-reverse bytes)) (IsLeast-reverse bytes are leads)) ∙ reverse-reverse bytes
+    ap reverse (low_first-number_low 16 (reverse bytes) (omega (arith, length-reverse bytes)) (IsLeast-reverse bytes are leads))
+    ∙ reverse-reverse bytes
 
 number_low_ge : (k : ℕ) (bytes : List ℕ) → IsLeast bytes → length bytes ≡ suc k → 256 ^ k ≤ number_low bytes
 unfolding number_low
@@ -52,7 +54,8 @@ number_low_ge (suc k) (b ∷ []) least e = absurd (omega arith)
 number_low_ge (suc k) (b ∷ c ∷ bytes) least e = omega (arith, number_low_ge k (c ∷ bytes) least.1 (omega arith), pow-suc 256 k)
 
 -- no more bytes than those of the greatest number
-few_digits : (most size : ℕ) (bytes : List ℕ) → length bytes ≡ size → AreBytes bytes → leads_with_zero bytes ≡ false → number_high bytes < 256 ^ most → size ≤ most
+few_digits : (most size : ℕ) (bytes : List ℕ) → length bytes ≡ size → AreBytes bytes → leads_with_zero bytes ≡ false
+    → number_high bytes < 256 ^ most → size ≤ most
 few_digits most zero bytes e are leads lt = omega arith
 few_digits most (suc k) bytes e are leads lt =
     let least : 256 ^ k ≤ number_high bytes = number_low_ge k (reverse bytes) (IsLeast-reverse bytes are leads) (omega (arith, length-reverse bytes)) in
@@ -63,7 +66,8 @@ few_digits most (suc k) bytes e are leads lt =
 
 -- ---- the least bytes of a number
 
-front_push : (bytes : List ℕ) (b : ℕ) (whole : List ℕ) → 0 < length bytes → leads_with_zero bytes ≡ false → whole ≡ bytes ++ b ∷ [] → leads_with_zero whole ≡ false
+front_push : (bytes : List ℕ) (b : ℕ) (whole : List ℕ) → 0 < length bytes → leads_with_zero bytes ≡ false → whole ≡ bytes ++ b ∷ []
+    → leads_with_zero whole ≡ false
 front_push [] b whole some leads e = absurd (omega arith)
 front_push (c ∷ bytes) b whole some leads e = rw e leads
 
@@ -118,7 +122,8 @@ of_number : (z : ℤ) → int_of (is_negative z) (unsigned_abs z) ≡ z
 of_number (pos n) = rw (le-ltb n 0 (omega arith)) refl
 of_number (negsuc n) = refl
 
-sign_of : (negative : Bool) (n : ℕ) → (negative ≡ true → 0 < n) → (is_negative (int_of negative n) ≡ negative) × (unsigned_abs (int_of negative n) ≡ n)
+sign_of : (negative : Bool) (n : ℕ) → (negative ≡ true → 0 < n)
+    → (is_negative (int_of negative n) ≡ negative) × (unsigned_abs (int_of negative n) ≡ n)
 sign_of false n h = (le-ltb n 0 (omega arith), refl)
 sign_of true zero h = absurd (omega (arith, h refl))
 sign_of true (suc n) h = (refl, refl)
@@ -155,9 +160,12 @@ int_code-long : (negative : Bool) (size : ℕ) → 8 < size → int_code negativ
 int_code-long false size lt = rw (lt-leb size 8 lt) refl
 int_code-long true size lt = rw (lt-leb size 8 lt) refl
 
-kind_of-short : (negative : Bool) (size : ℕ) → size ≤ 8 → (negative ≡ true → 0 < size) → kind_of (code_of negative size) ≡ Some (kind.ShortInt negative size)
-kind_of-short false size le some = positive_kind (20 + size) (omega arith) (omega arith) ∙ ap (λ (n : ℕ). Some (kind.ShortInt false n)) (omega arith)
-kind_of-short true size le some = negative_kind (20 - size) (omega arith) (omega (arith, some refl)) ∙ ap (λ (n : ℕ). Some (kind.ShortInt true n)) (omega arith)
+kind_of-short : (negative : Bool) (size : ℕ) → size ≤ 8 → (negative ≡ true → 0 < size)
+    → kind_of (code_of negative size) ≡ Some (kind.ShortInt negative size)
+kind_of-short false size le some = positive_kind (20 + size) (omega arith) (omega arith)
+    ∙ ap (λ (n : ℕ). Some (kind.ShortInt false n)) (omega arith)
+kind_of-short true size le some = negative_kind (20 - size) (omega arith) (omega (arith, some refl))
+    ∙ ap (λ (n : ℕ). Some (kind.ShortInt true n)) (omega arith)
 
 kind_of-long : (negative : Bool) → kind_of (long_code negative) ≡ Some (kind.LongInt negative)
 unfolding kind_of
@@ -171,10 +179,11 @@ record Written (negative : Bool) (front : List ℕ) (z : ℤ) : Type 0 where
   is_scalar : IsScalar (Int z)
   spelled : int_spelled z ≡ int_code negative (length front) ++ front
 
-written : (negative : Bool) (front : List ℕ) → AreBytes front → (negative ≡ true → 0 < length front) → leads_with_zero (with_sign negative front) ≡ false
+Written-int_of : (negative : Bool) (front : List ℕ) → AreBytes front → (negative ≡ true → 0 < length front)
+    → leads_with_zero (with_sign negative front) ≡ false
     → number_high (with_sign negative front) ≤ greatest_magnitude negative → Written negative front (int_of negative (number_high (with_sign negative front)))
 unfolding signed_spelled
-written negative front are some leads le =
+Written-int_of negative front are some leads le =
     let digits = with_sign negative front in
     let n = number_high digits in
     let z = int_of negative n in
@@ -188,7 +197,8 @@ written negative front are some leads le =
     record { is_scalar = rw (sign.0, sign.1) le; spelled = one ∙ two }
 
 -- an integer after its code, and after its number of bytes if that follows
-taken_int : (nested negative : Bool) (front after bytes : List ℕ) (z : ℤ) → Written negative front z → bytes ≡ int_code negative (length front) ++ front ++ after → Taken nested bytes (elem.Int z) after
+taken_int : (nested negative : Bool) (front after bytes : List ℕ) (z : ℤ) → Written negative front z
+    → bytes ≡ int_code negative (length front) ++ front ++ after → Taken nested bytes (elem.Int z) after
 taken_int nested negative front after bytes z is parts = record {
   scalar = Int z;
   element_is = refl;
@@ -197,17 +207,19 @@ taken_int nested negative front after bytes z is parts = record {
   ends = λ string. absurd string;
 }
 
-taken_size : (nested negative : Bool) (size : ℕ) (code rest : List ℕ) → AreBytes rest → (negative ≡ true → 0 < size) → size ≤ length rest → leads_with_zero (with_sign negative (take size rest)) ≡ false
+taken_size : (nested negative : Bool) (size : ℕ) (code rest : List ℕ) → AreBytes rest → (negative ≡ true → 0 < size) → size ≤ length rest
+    → leads_with_zero (with_sign negative (take size rest)) ≡ false
     → number_high (with_sign negative (take size rest)) ≤ greatest_magnitude negative → int_code negative size ≡ code
     → Taken nested (code ++ rest) (elem.Int (int_of negative (number_high (with_sign negative (take size rest))))) (drop size rest)
 taken_size nested negative size code rest are some there leads le code_is =
     let front = take size rest in
     let len : length front ≡ size = omega (arith, length-take size rest) in
-    let is = written negative front (AreBytes-take size rest are) (λ e. omega (arith, some e)) leads le in
+    let is = Written-int_of negative front (AreBytes-take size rest are) (λ e. omega (arith, some e)) leads le in
     let whole : code ++ rest ≡ int_code negative (length front) ++ front ++ drop size rest = rw (len, code_is, append_assoc, take-append-drop) refl in
     taken_int nested negative front (drop size rest) (code ++ rest) (int_of negative (number_high (with_sign negative front))) is whole
 
-pub short_found : (whole place around : ℕ) (nested negative : Bool) (size : ℕ) (rest : List ℕ) → size ≤ 8 → (negative ≡ true → 0 < size) → AreBytes rest
+pub short_found : (whole place around : ℕ) (nested negative : Bool) (size : ℕ) (rest : List ℕ) → size ≤ 8 → (negative ≡ true → 0 < size)
+    → AreBytes rest
     → ElementIs (IsFaultyKind whole place around (Some (kind.ShortInt negative size)) rest) nested (code_of negative size ∷ rest) (short_at whole place negative size rest)
 unfolding short_at
 short_found whole place around nested negative size rest le some are =
@@ -223,7 +235,8 @@ short_found whole place around nested negative size rest le some are =
     (λ zero_first. inr ((ltb-false _ _ there, zero_first), refl))
     (λ leads. taken_size nested negative size (code_of negative size ∷ []) rest are some (ltb-false _ _ there) leads (omega (arith, below, least_greatest negative)) (int_code-short negative size le)))
 
-sized_found : (whole place : ℕ) (nested negative : Bool) (size : ℕ) (code rest : List ℕ) → (8 < size → int_code negative size ≡ code) → AreBytes rest
+sized_found : (whole place : ℕ) (nested negative : Bool) (size : ℕ) (code rest : List ℕ) → (8 < size → int_code negative size ≡ code)
+    → AreBytes rest
     → ElementIs (IsFaultyLong whole place negative size rest) nested (code ++ rest) (sized_at whole place negative size rest)
 unfolding sized_at
 sized_found whole place nested negative size code rest code_is are =
@@ -260,7 +273,8 @@ short_again whole place negative digits rest are leads =
     let there : ltb (length (front ++ rest)) (length digits) ≡ false = le-ltb _ _ (omega (arith, length-append front rest, len)) in
     rw (there, take_at front rest (length digits) len, drop_at front rest (length digits) len, with_sign-twice negative digits are, leads) refl
 
-sized_again : (whole place : ℕ) (negative : Bool) (digits rest : List ℕ) → AreBytes digits → leads_with_zero digits ≡ false → 8 < length digits → number_high digits ≤ greatest_magnitude negative
+sized_again : (whole place : ℕ) (negative : Bool) (digits rest : List ℕ) → AreBytes digits → leads_with_zero digits ≡ false
+    → 8 < length digits → number_high digits ≤ greatest_magnitude negative
     → sized_at whole place negative (length digits) (with_sign negative digits ++ rest) ≡ Ok (elem.Int (int_of negative (number_high digits)), rest)
 unfolding sized_at
 sized_again whole place negative digits rest are leads long le =
@@ -310,13 +324,15 @@ int_again whole around z rest is =
 
 -- ---- what is faulty is refused
 
-pub short_refused : (whole place around : ℕ) (negative : Bool) (size : ℕ) (rest : List ℕ) (f : UnpackFault) → IsFaultyKind whole place around (Some (kind.ShortInt negative size)) rest f
+pub short_refused : (whole place around : ℕ) (negative : Bool) (size : ℕ) (rest : List ℕ) (f : UnpackFault)
+    → IsFaultyKind whole place around (Some (kind.ShortInt negative size)) rest f
     → short_at whole place negative size rest ≡ Err f
 unfolding short_at
 short_refused whole place around negative size rest f (inl cut) = rw (lt-ltb (length rest) size cut.0, cut.1) refl
 short_refused whole place around negative size rest f (inr zero_first) = rw (le-ltb (length rest) size zero_first.0.0, zero_first.0.1, zero_first.1) refl
 
-sized_refused : (whole place : ℕ) (negative : Bool) (size : ℕ) (rest : List ℕ) (f : UnpackFault) → IsFaultyLong whole place negative size rest f → sized_at whole place negative size rest ≡ Err f
+sized_refused : (whole place : ℕ) (negative : Bool) (size : ℕ) (rest : List ℕ) (f : UnpackFault)
+    → IsFaultyLong whole place negative size rest f → sized_at whole place negative size rest ≡ Err f
 unfolding sized_at
 sized_refused whole place negative size rest f (inl cut) = rw (lt-ltb (length rest) size cut.0, cut.1) refl
 sized_refused whole place negative size rest f (inr (inl short)) = rw (le-ltb (length rest) size short.0, lt-ltb size 9 short.1, short.2) refl
@@ -326,6 +342,7 @@ sized_refused whole place negative size rest f (inr (inr (inl zero_first))) =
 sized_refused whole place negative size rest f (inr (inr (inr big))) =
     rw (le-ltb (length rest) size big.0, le-ltb size 9 big.1, big.2, lt-ltb (greatest_magnitude negative) (number_high (with_sign negative (take size rest))) big.3, big.4) refl
 
-pub long_refused : (whole place around : ℕ) (negative : Bool) (rest : List ℕ) (f : UnpackFault) → IsFaultyKind whole place around (Some (kind.LongInt negative)) rest f → long_at whole place negative rest ≡ Err f
+pub long_refused : (whole place around : ℕ) (negative : Bool) (rest : List ℕ) (f : UnpackFault)
+    → IsFaultyKind whole place around (Some (kind.LongInt negative)) rest f → long_at whole place negative rest ≡ Err f
 long_refused whole place around negative [] f is = rw is refl
 long_refused whole place around negative (size ∷ rest) f is = sized_refused whole place negative (signed_byte negative size) rest f is

@@ -16,7 +16,8 @@ number_low-push (c ∷ bytes) b = omega (arith, number_low-push bytes b, ap (λ 
 
 number_high-first : (b : ℕ) (bytes : List ℕ) → number_high (b ∷ bytes) ≡ number_high bytes + 256 ^ length bytes * b
 number_high-first b bytes =
-    ap number_low (reverse-append (b ∷ []) bytes) ∙ number_low-push (reverse bytes) b ∙ ap (λ (n : ℕ). number_high bytes + 256 ^ n * b) (length-reverse bytes)
+    ap number_low (reverse-append (b ∷ []) bytes) ∙ number_low-push (reverse bytes) b
+    ∙ ap (λ (n : ℕ). number_high bytes + 256 ^ n * b) (length-reverse bytes)
 
 above_zero : (b : ℕ) → (b ≡ 0 → ⊥) → 0 < b
 above_zero zero h = absurd (h refl)
@@ -36,7 +37,8 @@ greatest_below : (negative : Bool) → greatest_magnitude negative < 256 ^ 16
 greatest_below false = omega arith
 greatest_below true = omega arith
 
-pub too_many_digits : (negative : Bool) (bytes : List ℕ) → leads_with_zero (with_sign negative bytes) ≡ false → 16 < length bytes → greatest_magnitude negative < number_high (with_sign negative bytes)
+pub too_many_digits : (negative : Bool) (bytes : List ℕ) → leads_with_zero (with_sign negative bytes) ≡ false → 16 < length bytes
+    → greatest_magnitude negative < number_high (with_sign negative bytes)
 too_many_digits negative bytes e lt =
     omega (arith, greatest_below negative, many_digits (with_sign negative bytes) e (omega (arith, length-map bytes (signed_byte negative))))
 
@@ -45,7 +47,8 @@ greatest_above false n lt = omega arith
 greatest_above true n lt = omega arith
 
 -- an integer of at most 8 bytes has 128 bits
-pub few_digits : (negative : Bool) (size : ℕ) (bytes : List ℕ) → size ≤ 8 → AreBytes bytes → number_high (with_sign negative (take size bytes)) ≤ greatest_magnitude negative
+pub few_digits : (negative : Bool) (size : ℕ) (bytes : List ℕ) → size ≤ 8 → AreBytes bytes
+    → number_high (with_sign negative (take size bytes)) ≤ greatest_magnitude negative
 few_digits negative size bytes le are =
     greatest_above negative (number_high (with_sign negative (take size bytes)))
     (number_high_below 8 (with_sign negative (take size bytes)) (omega (arith, length-map (take size bytes) (signed_byte negative), length-take size bytes)) (AreBytes-with_sign negative (take size bytes) (AreBytes-take size bytes are)))

@@ -42,11 +42,13 @@ CodeIs (Some (kind.Bool value)) code = code ∷ [] ≡ boolean_spelled value
 CodeIs (Some kind.Uuid) code = code ≡ 0x30
 CodeIs (Some kind.Stamp) code = code ≡ 0x33
 
-equal_or : (code c : ℕ) (there else : Option Kind) → CodeIs there c → ((code ≡ c → ⊥) → CodeIs else code) → CodeIs (cond (code == c) there else) code
+equal_or : (code c : ℕ) (there else : Option Kind) → CodeIs there c → ((code ≡ c → ⊥) → CodeIs else code)
+    → CodeIs (cond (code == c) there else) code
 equal_or code c there else is h =
     cond_both (code == c) there else (λ k. CodeIs k code) (λ e. rw (eqb-true code c e) is) (λ e. h (eqb-false code c e))
 
-below_or : (code c : ℕ) (there else : Option Kind) → (code < c → CodeIs there code) → (c ≤ code → CodeIs else code) → CodeIs (cond (ltb code c) there else) code
+below_or : (code c : ℕ) (there else : Option Kind) → (code < c → CodeIs there code) → (c ≤ code → CodeIs else code)
+    → CodeIs (cond (ltb code c) there else) code
 below_or code c there else low high =
     cond_both (ltb code c) there else (λ k. CodeIs k code) (λ e. low (ltb-true code c e)) (λ e. high (ltb-false code c e))
 
@@ -81,14 +83,16 @@ PieceIs IsFaultOf around bytes (Ok (piece.Opens, after)) = (bytes ≡ 5 ∷ afte
 PieceIs IsFaultOf around bytes (Ok (piece.Holds element, after)) = Taken (is_inside around) bytes element after
 PieceIs IsFaultOf around bytes (Err f) = IsFaultOf f
 
-held_found : (IsFaultOf : UnpackFault → Type 0) (around : ℕ) (bytes : List ℕ) (read : Result (Elem × List ℕ) UnpackFault) → ElementIs IsFaultOf (is_inside around) bytes read → PieceIs IsFaultOf around bytes (held read)
+held_found : (IsFaultOf : UnpackFault → Type 0) (around : ℕ) (bytes : List ℕ) (read : Result (Elem × List ℕ) UnpackFault)
+    → ElementIs IsFaultOf (is_inside around) bytes read → PieceIs IsFaultOf around bytes (held read)
 held_found IsFaultOf around bytes (Ok x) is = is
 held_found IsFaultOf around bytes (Err f) is = is
 
 taken_null : (nested : Bool) (bytes after : List ℕ) → bytes ≡ scalar_spelled nested Null ++ after → Taken nested bytes elem.Null after
 taken_null nested bytes after parts = record { scalar = Null; element_is = refl; is_scalar = tt; parts = parts; ends = λ string. absurd string }
 
-zero_found : (IsFaultOf : UnpackFault → Type 0) (around : ℕ) (rest : List ℕ) → PieceIs IsFaultOf around (0 ∷ rest) (Ok (zero_at around rest))
+zero_found : (IsFaultOf : UnpackFault → Type 0) (around : ℕ) (rest : List ℕ)
+    → PieceIs IsFaultOf around (0 ∷ rest) (Ok (zero_at around rest))
 zero_found IsFaultOf zero rest = taken_null false (0 ∷ rest) rest refl
 zero_found IsFaultOf (suc around) [] = (refl, tt)
 zero_found IsFaultOf (suc around) (b ∷ rest) =
@@ -102,7 +106,8 @@ AreBytes-string [] after are = tt
 AreBytes-string (zero ∷ string) after are = (are.0, AreBytes-string string after are.1.1)
 AreBytes-string (suc b ∷ string) after are = (are.0, AreBytes-string string after are.1)
 
-bytes_read : (IsFaultOf : UnpackFault → Type 0) (whole : ℕ) (nested : Bool) (rest : List ℕ) (read : Result (List ℕ × List ℕ) UnpackFault) → AreBytes rest → StringIs whole rest read
+bytes_read : (IsFaultOf : UnpackFault → Type 0) (whole : ℕ) (nested : Bool) (rest : List ℕ) (read : Result (List ℕ × List ℕ) UnpackFault)
+    → AreBytes rest → StringIs whole rest read
     → ((f : UnpackFault) → StringIs whole rest (Err f) → IsFaultOf f) → ElementIs IsFaultOf nested (1 ∷ rest) (read >>= (λ string. Ok (elem.Bytes string.0, string.1)))
 bytes_read IsFaultOf whole nested rest (Ok x) are is fails = record {
   scalar = Bytes x.0;
@@ -122,7 +127,8 @@ text_read IsFaultOf whole place nested rest (Ok x) is fails bad =
     (λ e. bad x is e)
 text_read IsFaultOf whole place nested rest (Err f) is fails bad = fails f is
 
-uuid_found : (whole place around : ℕ) (nested : Bool) (rest : List ℕ) → AreBytes rest → ElementIs (IsFaultyKind whole place around (Some kind.Uuid) rest) nested (0x30 ∷ rest) (uuid_at whole rest)
+uuid_found : (whole place around : ℕ) (nested : Bool) (rest : List ℕ) → AreBytes rest
+    → ElementIs (IsFaultyKind whole place around (Some kind.Uuid) rest) nested (0x30 ∷ rest) (uuid_at whole rest)
 unfolding uuid_at
 uuid_found whole place around nested rest are =
     cond_both (ltb (length rest) 16) (Err (fault.Truncated whole)) (Ok (elem.Uuid (take 16 rest), drop 16 rest)) (ElementIs (IsFaultyKind whole place around (Some kind.Uuid) rest) nested (0x30 ∷ rest))
@@ -143,14 +149,17 @@ byte_at_place (b ∷ bytes) (suc i) are = byte_at_place bytes i are.1
 user_below : (bytes : List ℕ) → AreBytes bytes → from_be_bytes w16 bytes < 2 ^ 16
 user_below bytes are = omega (arith, byte_at_place bytes 0 are, byte_at_place bytes 1 are)
 
-stamp_parts : (rest : List ℕ) → AreBytes rest → 12 ≤ length rest → rest ≡ take 10 rest ++ to_be_bytes w16 (from_be_bytes w16 (take 2 (drop 10 rest))) ++ drop 12 rest
-stamp_parts rest are le =
+stamp_rebuilt : (rest : List ℕ) → AreBytes rest → 12 ≤ length rest
+    → rest ≡ take 10 rest ++ to_be_bytes w16 (from_be_bytes w16 (take 2 (drop 10 rest))) ++ drop 12 rest
+stamp_rebuilt rest are le =
     let user = take 2 (drop 10 rest) in
     let same : to_be_bytes w16 (from_be_bytes w16 user) ≡ user = be_bytes_2 user (from_be_bytes w16 user) (omega (arith, length-take 2 (drop 10 rest), length-drop 10 rest)) (λ i. byte_at_place user i (AreBytes-take 2 (drop 10 rest) (AreBytes-drop 10 rest are))) refl in
     let after : drop 12 rest ≡ drop 2 (drop 10 rest) = sym (drop-drop 2 10 rest) in
-    sym (take-append-drop 10 rest) ∙ ap (λ (t : List ℕ). take 10 rest ++ t) (sym (take-append-drop 2 (drop 10 rest))) ∙ rw (same, after, append_assoc) refl
+    sym (take-append-drop 10 rest) ∙ ap (λ (t : List ℕ). take 10 rest ++ t) (sym (take-append-drop 2 (drop 10 rest)))
+    ∙ rw (same, after, append_assoc) refl
 
-stamp_found : (whole place around : ℕ) (nested : Bool) (rest : List ℕ) → AreBytes rest → ElementIs (IsFaultyKind whole place around (Some kind.Stamp) rest) nested (0x33 ∷ rest) (stamp_at whole rest)
+stamp_found : (whole place around : ℕ) (nested : Bool) (rest : List ℕ) → AreBytes rest
+    → ElementIs (IsFaultyKind whole place around (Some kind.Stamp) rest) nested (0x33 ∷ rest) (stamp_at whole rest)
 unfolding stamp_at
 stamp_found whole place around nested rest are =
     let user = from_be_bytes w16 (take 2 (drop 10 rest)) in
@@ -160,22 +169,25 @@ stamp_found whole place around nested rest are =
       scalar = Stamp (take 10 rest) user;
       element_is = refl;
       is_scalar = (All-from_recursion (λ b. b < 256) (take 10 rest) (AreBytes-take 10 rest are), omega (arith, ltb-false _ _ there, length-take 10 rest), user_below (take 2 (drop 10 rest)) (AreBytes-take 2 (drop 10 rest) (AreBytes-drop 10 rest are)));
-      parts = ap (λ (t : List ℕ). 0x33 ∷ t) (stamp_parts rest are (ltb-false _ _ there));
+      parts = ap (λ (t : List ℕ). 0x33 ∷ t) (stamp_rebuilt rest are (ltb-false _ _ there));
       ends = λ string. absurd string;
     })
 
-bytes_found : (whole place around : ℕ) (nested : Bool) (rest : List ℕ) → AreBytes rest → ElementIs (IsFaultyKind whole place around (Some kind.Bytes) rest) nested (1 ∷ rest) (bytes_at whole rest)
+bytes_found : (whole place around : ℕ) (nested : Bool) (rest : List ℕ) → AreBytes rest
+    → ElementIs (IsFaultyKind whole place around (Some kind.Bytes) rest) nested (1 ∷ rest) (bytes_at whole rest)
 unfolding bytes_at
 bytes_found whole place around nested rest are =
     bytes_read (IsFaultyKind whole place around (Some kind.Bytes) rest) whole nested rest (string_at whole rest) are (string_found whole rest) (λ f is. is)
 
-text_found : (whole place around : ℕ) (nested : Bool) (rest : List ℕ) → ElementIs (IsFaultyKind whole place around (Some kind.Text) rest) nested (2 ∷ rest) (text_at whole place rest)
+text_found : (whole place around : ℕ) (nested : Bool) (rest : List ℕ)
+    → ElementIs (IsFaultyKind whole place around (Some kind.Text) rest) nested (2 ∷ rest) (text_at whole place rest)
 unfolding text_at
 text_found whole place around nested rest =
     text_read (IsFaultyKind whole place around (Some kind.Text) rest) whole place nested rest (string_at whole rest) (string_found whole rest) (λ f is. inl is)
     (λ x is bad. inr (record { string = x.0; after = x.1; begins = is.0; ends = is.1; is_no_text = bad }, refl))
 
-coded_found : (whole place around code : ℕ) (k : Option Kind) (rest : List ℕ) → CodeIs k code → AreBytes rest → PieceIs (IsFaultyKind whole place around k rest) around (code ∷ rest) (coded_at whole place around k rest)
+coded_found : (whole place around code : ℕ) (k : Option Kind) (rest : List ℕ) → CodeIs k code → AreBytes rest
+    → PieceIs (IsFaultyKind whole place around k rest) around (code ∷ rest) (coded_at whole place around k rest)
 unfolding coded_at
 coded_found whole place around code None rest is are = refl
 coded_found whole place around code (Some kind.Null) rest is are = rw is (zero_found (IsFaultyKind whole place around (Some kind.Null) rest) around rest)
@@ -204,7 +216,8 @@ end_found : (whole around : ℕ) → PieceIs (IsFaulty whole around []) around [
 end_found whole zero = (refl, refl)
 end_found whole (suc around) = (omega arith, refl)
 
-pub piece_found : (whole around : ℕ) (bytes : List ℕ) → AreBytes bytes → PieceIs (IsFaulty whole around bytes) around bytes (piece_at whole around bytes)
+pub piece_found : (whole around : ℕ) (bytes : List ℕ) → AreBytes bytes
+    → PieceIs (IsFaulty whole around bytes) around bytes (piece_at whole around bytes)
 unfolding piece_at
 piece_found whole around [] are = end_found whole around
 piece_found whole around (code ∷ rest) are =
@@ -213,11 +226,13 @@ piece_found whole around (code ∷ rest) are =
 
 -- ---- what is spelled is read again
 
-text_again : (whole place : ℕ) (string rest : List ℕ) → IsUtf8 string → IsNoEscape rest → text_at whole place (string_spelled string ++ rest) ≡ Ok (elem.Text string, rest)
+text_again : (whole place : ℕ) (string rest : List ℕ) → IsUtf8 string → IsNoEscape rest
+    → text_at whole place (string_spelled string ++ rest) ≡ Ok (elem.Text string, rest)
 unfolding text_at
 text_again whole place string rest valid end = rw (string_again whole string rest end, is_utf8-from_IsUtf8 string valid) refl
 
-bytes_again : (whole : ℕ) (string rest : List ℕ) → IsNoEscape rest → bytes_at whole (string_spelled string ++ rest) ≡ Ok (elem.Bytes string, rest)
+bytes_again : (whole : ℕ) (string rest : List ℕ) → IsNoEscape rest
+    → bytes_at whole (string_spelled string ++ rest) ≡ Ok (elem.Bytes string, rest)
 unfolding bytes_at
 bytes_again whole string rest end = rw (string_again whole string rest end) refl
 
@@ -227,7 +242,8 @@ uuid_again whole bytes rest len =
     let there : ltb (length (bytes ++ rest)) 16 ≡ false = le-ltb _ _ (omega (arith, length-append bytes rest)) in
     rw (there, take_at bytes rest 16 len, drop_at bytes rest 16 len) refl
 
-stamp_again : (whole : ℕ) (stamp : List ℕ) (user : ℕ) (rest : List ℕ) → length stamp ≡ 10 → user < 2 ^ 16 → stamp_at whole (stamp ++ to_be_bytes w16 user ++ rest) ≡ Ok (elem.Stamp (record { stamp = stamp; user = user }), rest)
+stamp_again : (whole : ℕ) (stamp : List ℕ) (user : ℕ) (rest : List ℕ) → length stamp ≡ 10 → user < 2 ^ 16
+    → stamp_at whole (stamp ++ to_be_bytes w16 user ++ rest) ≡ Ok (elem.Stamp (record { stamp = stamp; user = user }), rest)
 unfolding stamp_at
 stamp_again whole stamp user rest len below =
     let bytes = to_be_bytes w16 user in
@@ -239,12 +255,14 @@ stamp_again whole stamp user rest len below =
     let number : from_be_bytes w16 (take 2 (drop 10 all)) ≡ user = ap (λ (t : List ℕ). from_be_bytes w16 (take 2 t)) after ∙ from_be_bytes-to_be_bytes_2 user below in
     rw (there, front, number, last) refl
 
-null_again : (around : ℕ) (rest : List ℕ) → (whole : ℕ) → piece_at whole around (scalar_spelled (is_inside around) Null ++ rest) ≡ Ok (piece.Holds elem.Null, rest)
+null_again : (around : ℕ) (rest : List ℕ) → (whole : ℕ)
+    → piece_at whole around (scalar_spelled (is_inside around) Null ++ rest) ≡ Ok (piece.Holds elem.Null, rest)
 unfolding piece_at coded_at kind_of
 null_again zero rest whole = refl
 null_again (suc around) rest whole = refl
 
-boolean_again : (whole around : ℕ) (value : Bool) (rest : List ℕ) → piece_at whole around (boolean_spelled value ++ rest) ≡ Ok (piece.Holds (elem.Bool value), rest)
+boolean_again : (whole around : ℕ) (value : Bool) (rest : List ℕ)
+    → piece_at whole around (boolean_spelled value ++ rest) ≡ Ok (piece.Holds (elem.Bool value), rest)
 unfolding piece_at coded_at kind_of
 boolean_again whole around false rest = refl
 boolean_again whole around true rest = refl
@@ -267,24 +285,29 @@ scalar_again whole around (Stamp stamp user) rest is end = ap held (stamp_again 
 string_refused : (whole : ℕ) (rest : List ℕ) → HasNoEnd rest → string_at whole rest ≡ Err (fault.Truncated whole)
 string_refused whole rest cut = rw cut.1 (string_open whole cut.0)
 
-bytes_refused : (whole place around : ℕ) (rest : List ℕ) (f : UnpackFault) → IsFaultyKind whole place around (Some kind.Bytes) rest f → bytes_at whole rest ≡ Err f
+bytes_refused : (whole place around : ℕ) (rest : List ℕ) (f : UnpackFault) → IsFaultyKind whole place around (Some kind.Bytes) rest f
+    → bytes_at whole rest ≡ Err f
 unfolding bytes_at
 bytes_refused whole place around rest f is = rw (string_refused whole rest is.0, is.1) refl
 
-text_refused : (whole place around : ℕ) (rest : List ℕ) (f : UnpackFault) → IsFaultyKind whole place around (Some kind.Text) rest f → text_at whole place rest ≡ Err f
+text_refused : (whole place around : ℕ) (rest : List ℕ) (f : UnpackFault) → IsFaultyKind whole place around (Some kind.Text) rest f
+    → text_at whole place rest ≡ Err f
 unfolding text_at
 text_refused whole place around rest f (inl is) = rw (string_refused whole rest is.0, is.1) refl
 text_refused whole place around rest f (inr is) = rw (is.0.begins, string_again whole is.0.string is.0.after is.0.ends, is.0.is_no_text, is.1) refl
 
-uuid_refused : (whole place around : ℕ) (rest : List ℕ) (f : UnpackFault) → IsFaultyKind whole place around (Some kind.Uuid) rest f → uuid_at whole rest ≡ Err f
+uuid_refused : (whole place around : ℕ) (rest : List ℕ) (f : UnpackFault) → IsFaultyKind whole place around (Some kind.Uuid) rest f
+    → uuid_at whole rest ≡ Err f
 unfolding uuid_at
 uuid_refused whole place around rest f is = rw (lt-ltb (length rest) 16 is.0, is.1) refl
 
-stamp_refused : (whole place around : ℕ) (rest : List ℕ) (f : UnpackFault) → IsFaultyKind whole place around (Some kind.Stamp) rest f → stamp_at whole rest ≡ Err f
+stamp_refused : (whole place around : ℕ) (rest : List ℕ) (f : UnpackFault) → IsFaultyKind whole place around (Some kind.Stamp) rest f
+    → stamp_at whole rest ≡ Err f
 unfolding stamp_at
 stamp_refused whole place around rest f is = rw (lt-ltb (length rest) 12 is.0, is.1) refl
 
-coded_refused : (whole place around : ℕ) (k : Option Kind) (rest : List ℕ) (f : UnpackFault) → IsFaultyKind whole place around k rest f → coded_at whole place around k rest ≡ Err f
+coded_refused : (whole place around : ℕ) (k : Option Kind) (rest : List ℕ) (f : UnpackFault) → IsFaultyKind whole place around k rest f
+    → coded_at whole place around k rest ≡ Err f
 unfolding coded_at
 coded_refused whole place around None rest f is = rw is refl
 coded_refused whole place around (Some kind.Null) rest f is = absurd is
@@ -297,7 +320,8 @@ coded_refused whole place around (Some (kind.Bool value)) rest f is = absurd is
 coded_refused whole place around (Some kind.Uuid) rest f is = ap held (uuid_refused whole place around rest f is)
 coded_refused whole place around (Some kind.Stamp) rest f is = ap held (stamp_refused whole place around rest f is)
 
-pub piece_refused : (whole around : ℕ) (bytes : List ℕ) (f : UnpackFault) → IsFaulty whole around bytes f → piece_at whole around bytes ≡ Err f
+pub piece_refused : (whole around : ℕ) (bytes : List ℕ) (f : UnpackFault) → IsFaulty whole around bytes f
+    → piece_at whole around bytes ≡ Err f
 unfolding piece_at
 piece_refused whole zero [] f is = absurd (omega (arith, is.0))
 piece_refused whole (suc around) [] f is = rw is.1 refl

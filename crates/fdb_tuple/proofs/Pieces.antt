@@ -41,7 +41,8 @@ either_ok false r s P h k = k
 abbrev IsRest : List ℕ → List ℕ × List ℕ → Type 0
 IsRest bytes x = length x.1 ≤ length bytes
 
-run_is_rest : (run bytes more : List ℕ) (read : Result (List ℕ × List ℕ) UnpackFault) → length bytes ≤ length more → IfOk read (IsRest bytes) → IfOk (after_run run read) (IsRest more)
+run_is_rest : (run bytes more : List ℕ) (read : Result (List ℕ × List ℕ) UnpackFault) → length bytes ≤ length more
+    → IfOk read (IsRest bytes) → IfOk (after_run run read) (IsRest more)
 run_is_rest run bytes more (Ok s) le h = omega (arith, h)
 run_is_rest run bytes more (Err f) le h = tt
 
@@ -54,7 +55,8 @@ string_rest whole (zero ∷ b ∷ rest) =
     either_ok (b == 0xFF) (after_run (0 ∷ []) (string_at whole rest)) (Ok ([], b ∷ rest)) (IsRest (0 ∷ b ∷ rest))
     (run_is_rest (0 ∷ []) rest (0 ∷ b ∷ rest) (string_at whole rest) (omega arith) (string_rest whole rest)) (omega arith)
 
-bind_ok : {A B : Type 0} (r : Result A UnpackFault) (f : A → Result B UnpackFault) (P : A → Type 0) (Q : B → Type 0) → IfOk r P → ((x : A) → P x → IfOk (f x) Q) → IfOk (r >>= f) Q
+bind_ok : {A B : Type 0} (r : Result A UnpackFault) (f : A → Result B UnpackFault) (P : A → Type 0) (Q : B → Type 0) → IfOk r P
+    → ((x : A) → P x → IfOk (f x) Q) → IfOk (r >>= f) Q
 bind_ok (Ok x) f P Q h k = k x h
 bind_ok (Err e) f P Q h k = tt
 
@@ -82,7 +84,8 @@ two_tests : {A : Type 0} (a b : Bool) (e f : UnpackFault) (x : A) (P : A → Typ
 two_tests true b e f x P h = tt
 two_tests false b e f x P h = one_test b f x P h
 
-four_tests : {A : Type 0} (a b c d : Bool) (e f g i : UnpackFault) (x : A) (P : A → Type 0) → P x → IfOk (cond a (Err e) (cond b (Err f) (cond c (Err g) (cond d (Err i) (Ok x))))) P
+four_tests : {A : Type 0} (a b c d : Bool) (e f g i : UnpackFault) (x : A) (P : A → Type 0) → P x
+    → IfOk (cond a (Err e) (cond b (Err f) (cond c (Err g) (cond d (Err i) (Ok x))))) P
 four_tests true b c d e f g i x P h = tt
 four_tests false true c d e f g i x P h = tt
 four_tests false false c d e f g i x P h = two_tests c d g i x P h
@@ -100,7 +103,8 @@ sized_held whole place negative size rest =
     four_tests (nat_lt (length rest) size) (nat_lt size 9) (leads_with_zero digits) (nat_lt (greatest_magnitude negative) (number_high digits))
     (fault.Truncated whole) (fault.NotMinimal place) (fault.NotMinimal place) (fault.TooBig place) (int_by negative digits (drop size rest)) (IsHeld rest) (dropped_held size (elem.Int (int_of negative (number_high digits))) rest tt)
 
-longer_held : (size : ℕ) (rest : List ℕ) (read : Result (Elem × List ℕ) UnpackFault) → IfOk read (IsHeld rest) → IfOk read (IsHeld (size ∷ rest))
+longer_held : (size : ℕ) (rest : List ℕ) (read : Result (Elem × List ℕ) UnpackFault) → IfOk read (IsHeld rest)
+    → IfOk read (IsHeld (size ∷ rest))
 longer_held size rest (Ok x) h = (omega (arith, h.0), h.1)
 longer_held size rest (Err f) h = tt
 
@@ -125,15 +129,18 @@ zero_is_piece code zero rest = (omega arith, tt)
 zero_is_piece code (suc around) [] = omega arith
 zero_is_piece code (suc around) (b ∷ rest) = elim (b == 0xFF) as (λ v. IsPiece (suc around) (code ∷ b ∷ rest) (cond v (piece.Holds elem.Null, rest) (piece.Ends, b ∷ rest))) [ true ↦ (omega arith, tt) | false ↦ omega arith ]
 
-held_is_piece : (around code : ℕ) (rest : List ℕ) (read : Result (Elem × List ℕ) UnpackFault) → IfOk read (IsHeld rest) → IfOk (held read) (IsPiece around (code ∷ rest))
+held_is_piece : (around code : ℕ) (rest : List ℕ) (read : Result (Elem × List ℕ) UnpackFault) → IfOk read (IsHeld rest)
+    → IfOk (held read) (IsPiece around (code ∷ rest))
 held_is_piece around code rest (Ok x) h = (omega (arith, h.0), h.1)
 held_is_piece around code rest (Err f) h = tt
 
-opens_is_piece : (around code place : ℕ) (rest : List ℕ) (full : Bool) → (around == 100) ≡ full → IfOk (cond full (Err (fault.TooDeep place)) (Ok (piece.Opens, rest))) (IsPiece around (code ∷ rest))
+opens_is_piece : (around code place : ℕ) (rest : List ℕ) (full : Bool) → (around == 100) ≡ full
+    → IfOk (cond full (Err (fault.TooDeep place)) (Ok (piece.Opens, rest))) (IsPiece around (code ∷ rest))
 opens_is_piece around code place rest true test = tt
 opens_is_piece around code place rest false test = (omega arith, eqb-false around 100 test)
 
-coded_is_piece : (whole place around code : ℕ) (coded : Option Kind) (rest : List ℕ) → IfOk (coded_at whole place around coded rest) (IsPiece around (code ∷ rest))
+coded_is_piece : (whole place around code : ℕ) (coded : Option Kind) (rest : List ℕ)
+    → IfOk (coded_at whole place around coded rest) (IsPiece around (code ∷ rest))
 unfolding coded_at
 coded_is_piece whole place around code None rest = tt
 coded_is_piece whole place around code (Some kind.Null) rest = zero_is_piece code around rest

@@ -25,7 +25,8 @@ tuple_is : (bytes : List ℕ) → AreBytes bytes → TupleIs bytes (read_tuple b
 unfolding read_tuple
 tuple_is bytes are = all_read bytes (elements_at (suc (length bytes)) (length bytes) 0 bytes) (elements_found (suc (length bytes)) (length bytes) 0 bytes (omega arith) (omega arith) are)
 
-pub read_tuple_found : (bytes : List ℕ) (tuple : Elements) → AreBytes bytes → read_tuple bytes ≡ Ok tuple → IsTuple tuple × (bytes ≡ spelling tuple)
+pub read_tuple_found : (bytes : List ℕ) (tuple : Elements) → AreBytes bytes → read_tuple bytes ≡ Ok tuple
+    → IsTuple tuple × (bytes ≡ spelling tuple)
 read_tuple_found bytes tuple are e = subst (TupleIs bytes) e (tuple_is bytes are)
 
 pub read_tuple_again : (tuple : Elements) → IsTuple tuple → read_tuple (spelling tuple) ≡ Ok tuple
@@ -41,8 +42,9 @@ read_tuple_again tuple is =
 no_spelling : (bytes : List ℕ) (f : UnpackFault) → read_tuple bytes ≡ Err f → (tuple : Elements) → IsTuple tuple → bytes ≢ spelling tuple
 no_spelling bytes f refused tuple is e = absurd (let read = ap read_tuple e ∙ read_tuple_again tuple is in cc)
 
-stops : (bytes : List ℕ) (f : UnpackFault) → StopsIn (length bytes) 0 bytes f → ((tuple : Elements) → IsTuple tuple → bytes ≢ spelling tuple) → Stops bytes f
-stops bytes f is none =
+Stops-found : (bytes : List ℕ) (f : UnpackFault) → StopsIn (length bytes) 0 bytes f
+    → ((tuple : Elements) → IsTuple tuple → bytes ≢ spelling tuple) → Stops bytes f
+Stops-found bytes f is none =
     let inside : 0 + length is.inner ≡ length is.inner = omega arith in
     record {
       elements = is.elements;
@@ -57,7 +59,7 @@ stops bytes f is none =
     }
 
 pub read_tuple_stops : (bytes : List ℕ) (f : UnpackFault) → AreBytes bytes → read_tuple bytes ≡ Err f → Stops bytes f
-read_tuple_stops bytes f are e = stops bytes f (subst (TupleIs bytes) e (tuple_is bytes are)) (no_spelling bytes f e)
+read_tuple_stops bytes f are e = Stops-found bytes f (subst (TupleIs bytes) e (tuple_is bytes are)) (no_spelling bytes f e)
 
 pub read_tuple_refuses : (bytes : List ℕ) (f : UnpackFault) → Stops bytes f → read_tuple bytes ≡ Err f
 unfolding read_tuple

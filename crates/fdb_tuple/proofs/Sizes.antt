@@ -32,24 +32,28 @@ zeros_and_size (suc n) lt =
     let size = size_between top.0 (suc n) (omega (arith, top.1)) top.2 top.3 in
     omega (arith, top.1, size, length-reverse (low_first 16 (suc n)))
 
-dropped_all : (n most skipped size : ℕ) → skipped + length (low_first most n) ≡ size → drop skipped (bytes_high_first size n) ≡ reverse (low_first most n)
-dropped_all n most skipped size e =
+drop-bytes_high_first : (n most skipped size : ℕ) → skipped + length (low_first most n) ≡ size
+    → drop skipped (bytes_high_first size n) ≡ reverse (low_first most n)
+drop-bytes_high_first n most skipped size e =
     ap (λ (k : ℕ). drop skipped (bytes_high_first k n)) (sym e)
     ∙ drop-high_first skipped (length (low_first most n)) n
     ∙ high_first_least most n
 
 -- the bytes that are left when the zeros in front are dropped
-pub dropped : (negative : Bool) (n skipped : ℕ) → skipped + length (least_bytes n) ≡ 16 → drop skipped (with_sign negative (to_be_bytes w128 n)) ≡ with_sign negative (least_bytes n)
+pub drop-signed_bytes : (negative : Bool) (n skipped : ℕ) → skipped + length (least_bytes n) ≡ 16
+    → drop skipped (with_sign negative (to_be_bytes w128 n)) ≡ with_sign negative (least_bytes n)
 unfolding least_bytes
-dropped negative n skipped e =
+drop-signed_bytes negative n skipped e =
     drop-map (signed_byte negative) skipped (to_be_bytes w128 n)
-    ∙ ap (map (signed_byte negative)) (dropped_all n 16 skipped 16 (omega (arith, length-reverse (low_first 16 n))))
+    ∙ ap (map (signed_byte negative)) (drop-bytes_high_first n 16 skipped 16 (omega (arith, length-reverse (low_first 16 n))))
 
 -- the code and the bytes that are left
-pub int_written : (negative : Bool) (n skipped : ℕ) (bytes : List ℕ) → skipped + length (least_bytes n) ≡ 16 → bytes ≡ with_sign negative (to_be_bytes w128 n) → int_code negative (16 - skipped) ++ take (16 - skipped) (drop skipped bytes) ≡ signed_spelled negative (least_bytes n)
+pub int_written : (negative : Bool) (n skipped : ℕ) (bytes : List ℕ) → skipped + length (least_bytes n) ≡ 16
+    → bytes ≡ with_sign negative (to_be_bytes w128 n)
+    → int_code negative (16 - skipped) ++ take (16 - skipped) (drop skipped bytes) ≡ signed_spelled negative (least_bytes n)
 unfolding signed_spelled
 int_written negative n skipped bytes e is =
     let size : 16 - skipped ≡ length (least_bytes n) = omega arith in
-    let rest : drop skipped bytes ≡ with_sign negative (least_bytes n) = ap (drop skipped) is ∙ dropped negative n skipped e in
+    let rest : drop skipped bytes ≡ with_sign negative (least_bytes n) = ap (drop skipped) is ∙ drop-signed_bytes negative n skipped e in
     let whole : take (length (least_bytes n)) (with_sign negative (least_bytes n)) ≡ with_sign negative (least_bytes n) = take_all (length (least_bytes n)) (with_sign negative (least_bytes n)) (omega (arith, length-map (least_bytes n) (signed_byte negative))) in
     rw (size, rest, whole) refl

@@ -13,11 +13,14 @@ use Rattle.fdb_tuple.specs.Spelling.{scalar_spelled, spelled_in}
 use Rattle.fdb_tuple.specs.Stamps.{incomplete, scalar_places, stamp_places, GivesPacked}
 use Rattle.fdb_tuple.proofs.Spellings.{spelled_in-before}
 
-drop_element : (elements : List Elem) (i : ℕ) (element : Elem) → i < length elements → element ≡ get_or elements i element → drop i elements ≡ element ∷ drop (i + 1) elements
+drop_element : (elements : List Elem) (i : ℕ) (element : Elem) → i < length elements → element ≡ get_or elements i element
+    → drop i elements ≡ element ∷ drop (i + 1) elements
 drop_element elements i element lt is = drop_more elements i element lt ∙ ap (λ (first : Elem). first ∷ drop (i + 1) elements) (sym is)
 
 -- the element at a place and those behind it
-pub length-spelled_in_left : (nested : Bool) (elements : List Elem) (i : ℕ) (element : Elem) → i < length elements → element ≡ get_or elements i element → length (spelled_in nested (tuple_of (drop i elements))) ≡ length (spelled_in nested (before element Empty)) + length (spelled_in nested (tuple_of (drop (i + 1) elements)))
+pub length-spelled_in_left : (nested : Bool) (elements : List Elem) (i : ℕ) (element : Elem) → i < length elements
+    → element ≡ get_or elements i element
+    → length (spelled_in nested (tuple_of (drop i elements))) ≡ length (spelled_in nested (before element Empty)) + length (spelled_in nested (tuple_of (drop (i + 1) elements)))
 length-spelled_in_left nested elements i element lt is =
     rw (drop_element elements i element lt is, spelled_in-before nested element (tuple_of (drop (i + 1) elements)), length-append) refl
 
@@ -48,7 +51,8 @@ scalar_below nested at (Uuid bytes) = tt
 scalar_below nested at (Stamp stamp user) =
     stamp_below at (bytes_eq stamp incomplete) (length (scalar_spelled nested (Stamp stamp user))) (omega (arith, length-append stamp (to_be_bytes w16 user)))
 
-stamp_places_below : (nested : Bool) (at : ℕ) (tuple : Elements) → AreBelow (at + length (spelled_in nested tuple)) (stamp_places nested at tuple)
+stamp_places_below : (nested : Bool) (at : ℕ) (tuple : Elements)
+    → AreBelow (at + length (spelled_in nested tuple)) (stamp_places nested at tuple)
 stamp_places_below nested at Empty = tt
 stamp_places_below nested at (Single scalar rest) =
     let first = scalar_spelled nested scalar in
@@ -62,7 +66,8 @@ stamp_places_below nested at (Nested inner rest) =
     AreBelow-append (at + 1 + length first) (at + length (spelled_in nested (Nested inner rest))) (stamp_places true (at + 1) inner) (stamp_places nested next rest) (omega (arith, len)) (stamp_places_below true (at + 1) inner)
     (AreBelow-weaker (next + length (spelled_in nested rest)) (at + length (spelled_in nested (Nested inner rest))) (stamp_places nested next rest) (omega (arith, len)) (stamp_places_below nested next rest))
 
-pub stamp_place_below : (nested : Bool) (at : ℕ) (tuple : Elements) (place : ℕ) → stamp_places nested at tuple ≡ place ∷ [] → place < at + length (spelled_in nested tuple)
+pub stamp_place_below : (nested : Bool) (at : ℕ) (tuple : Elements) (place : ℕ) → stamp_places nested at tuple ≡ place ∷ []
+    → place < at + length (spelled_in nested tuple)
 stamp_place_below nested at tuple place is = (subst (AreBelow (at + length (spelled_in nested tuple))) is (stamp_places_below nested at tuple)).0
 
 -- ---- what a call answers

@@ -14,7 +14,8 @@ abbrev pub StringIs : ℕ → List ℕ → Result (List ℕ × List ℕ) UnpackF
 StringIs whole bytes (Ok x) = (bytes ≡ string_spelled x.0 ++ x.1) × IsNoEscape x.1
 StringIs whole bytes (Err f) = HasNoEnd bytes × (f ≡ fault.Truncated whole)
 
-string_goes_on : (whole b : ℕ) (rest : List ℕ) (read : Result (List ℕ × List ℕ) UnpackFault) → StringIs whole rest read → StringIs whole (escaped_byte b ++ rest) (after_run (b ∷ []) read)
+string_goes_on : (whole b : ℕ) (rest : List ℕ) (read : Result (List ℕ × List ℕ) UnpackFault) → StringIs whole rest read
+    → StringIs whole (escaped_byte b ++ rest) (after_run (b ∷ []) read)
 string_goes_on whole zero rest (Ok x) is = (ap (λ (bytes : List ℕ). 0 ∷ 255 ∷ bytes) is.0, is.1)
 string_goes_on whole zero rest (Err f) is = ((0 ∷ is.0.0, ap (λ (bytes : List ℕ). 0 ∷ 255 ∷ bytes) is.0.1), is.1)
 string_goes_on whole (suc b) rest (Ok x) is = (ap (λ (bytes : List ℕ). suc b ∷ bytes) is.0, is.1)
@@ -30,7 +31,8 @@ string_found whole (zero ∷ b ∷ rest) =
     (λ escape. rw (eqb-true b 255 escape) (string_goes_on whole zero rest (string_at whole rest) (string_found whole rest)))
     (λ end. (refl, eqb-false b 255 end))
 
-pub string_again : (whole : ℕ) (string rest : List ℕ) → IsNoEscape rest → string_at whole (string_spelled string ++ rest) ≡ Ok (string, rest)
+pub string_again : (whole : ℕ) (string rest : List ℕ) → IsNoEscape rest
+    → string_at whole (string_spelled string ++ rest) ≡ Ok (string, rest)
 unfolding string_at
 string_again whole [] rest end = string_end whole rest end
 string_again whole (zero ∷ string) rest end = ap (after_run (0 ∷ [])) (string_again whole string rest end)

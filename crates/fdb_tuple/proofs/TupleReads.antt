@@ -9,7 +9,8 @@ use Rattle.fdb_tuple.specs.Stops.{Stops}
 use Rattle.fdb_tuple.proofs.ByteLists.{AreBytes}
 use Rattle.fdb_tuple.proofs.ReadLaws.{read_tuple_found, read_tuple_stops}
 
-pub found_by : (bytes : List ℕ) (r : Result Elements UnpackFault) → AreBytes bytes → Gives (λ t. t) r (read_tuple bytes) → IfOk r (λ tuple. IsTuple tuple × (bytes ≡ spelling tuple))
+pub found_by : (bytes : List ℕ) (r : Result Elements UnpackFault) → AreBytes bytes → Gives (λ t. t) r (read_tuple bytes)
+    → IfOk r (λ tuple. IsTuple tuple × (bytes ≡ spelling tuple))
 found_by bytes (Ok tuple) are given = read_tuple_found bytes tuple are given
 found_by bytes (Err f) are given = tt
 
@@ -22,6 +23,7 @@ Fails-is (fault.TooBig place) r ne e = e
 Fails-is (fault.BadUtf8 place) r ne e = e
 Fails-is (fault.TooDeep place) r ne e = e
 
-pub stops_by : (bytes : List ℕ) (r : Result Elements UnpackFault) → AreBytes bytes → Gives (λ t. t) r (read_tuple bytes) → IfErr r (λ f. f ≢ fault.NoMemory → Stops bytes f)
+pub stops_by : (bytes : List ℕ) (r : Result Elements UnpackFault) → AreBytes bytes → Gives (λ t. t) r (read_tuple bytes)
+    → IfErr r (λ f. f ≢ fault.NoMemory → Stops bytes f)
 stops_by bytes (Ok tuple) are given = tt
 stops_by bytes (Err f) are given = λ ne. read_tuple_stops bytes f are (Fails-is f (read_tuple bytes) ne given)

@@ -27,7 +27,8 @@ escaped_run (zero ∷ run) rest h = absurd (h.0 refl)
 escaped_run (suc b ∷ run) rest h = ap (λ (bs : List ℕ). suc b ∷ bs) (escaped_run run rest h.1)
 
 -- a run and an escaped 00 are written, and the rest is left
-pub escaped_more : (whole_out out rest run after written : List ℕ) → out ++ flat_map escaped_byte rest ≡ whole_out → HasNoZero run → rest ≡ run ++ 0 ∷ after → written ≡ out ++ run ++ 0 ∷ 0xFF ∷ [] → written ++ flat_map escaped_byte after ≡ whole_out
+pub escaped_more : (whole_out out rest run after written : List ℕ) → out ++ flat_map escaped_byte rest ≡ whole_out → HasNoZero run
+    → rest ≡ run ++ 0 ∷ after → written ≡ out ++ run ++ 0 ∷ 0xFF ∷ [] → written ++ flat_map escaped_byte after ≡ whole_out
 escaped_more whole_out out rest run after written so_far h split e =
     let one : flat_map escaped_byte rest ≡ run ++ 0 ∷ 0xFF ∷ flat_map escaped_byte after = ap (flat_map escaped_byte) split ∙ escaped_run run (0 ∷ after) h in
     let step : written ++ flat_map escaped_byte after ≡ out ++ flat_map escaped_byte rest = rw (e, one) (simp append_assoc) in

@@ -21,7 +21,8 @@ key_cmp-above_escape x [] h = refl
 key_cmp-above_escape x (b ∷ y) h = key_cmp-first_greater 0xFF b x y h
 
 -- a string that begins another stands before it, since its 00 is no 00 FF
-pub key_cmp-escaped : (a b x y : List ℕ) → IsBelowEscape x → IsBelowEscape y → key_cmp (escaped a ++ 0 ∷ x) (escaped b ++ 0 ∷ y) ≡ ordering_then (key_cmp a b) (key_cmp x y)
+pub key_cmp-escaped : (a b x y : List ℕ) → IsBelowEscape x → IsBelowEscape y
+    → key_cmp (escaped a ++ 0 ∷ x) (escaped b ++ 0 ∷ y) ≡ ordering_then (key_cmp a b) (key_cmp x y)
 key_cmp-escaped [] [] x y h k = refl
 key_cmp-escaped [] (zero ∷ b) x y h k = key_cmp-below_escape x (escaped b ++ 0 ∷ y) h
 key_cmp-escaped [] (suc d ∷ b) x y h k = key_cmp-first_less 0 (suc d) x (escaped b ++ 0 ∷ y) (omega arith)
@@ -31,4 +32,5 @@ key_cmp-escaped (zero ∷ a) (zero ∷ b) x y h k = key_cmp-escaped a b x y h k
 key_cmp-escaped (zero ∷ a) (suc d ∷ b) x y h k = rw (nat_cmp-less 0 (suc d) (omega arith)) refl
 key_cmp-escaped (suc c ∷ a) (zero ∷ b) x y h k = rw (nat_cmp-greater (suc c) 0 (omega arith)) refl
 key_cmp-escaped (suc c ∷ a) (suc d ∷ b) x y h k =
-    ap (ordering_then (nat_cmp (suc c) (suc d))) (key_cmp-escaped a b x y h k) ∙ sym (ordering_then-assoc (nat_cmp (suc c) (suc d)) (key_cmp a b) (key_cmp x y))
+    ap (ordering_then (nat_cmp (suc c) (suc d))) (key_cmp-escaped a b x y h k)
+    ∙ sym (ordering_then-assoc (nat_cmp (suc c) (suc d)) (key_cmp a b) (key_cmp x y))

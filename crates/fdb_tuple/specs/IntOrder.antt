@@ -21,7 +21,9 @@ magnitude_cmp true m n = nat_cmp n m
 
 -- ---- by digits
 
-digit_ranks : (m n : ℕ) (o p : Ordering) → MatchOrdering o (m / 256 < n / 256) (m / 256 ≡ n / 256) (n / 256 < m / 256) → MatchOrdering p (m % 256 < n % 256) (m % 256 ≡ n % 256) (n % 256 < m % 256) → MatchOrdering (ordering_then o p) (m < n) (m ≡ n) (n < m)
+digit_ranks : (m n : ℕ) (o p : Ordering) → MatchOrdering o (m / 256 < n / 256) (m / 256 ≡ n / 256) (n / 256 < m / 256)
+    → MatchOrdering p (m % 256 < n % 256) (m % 256 ≡ n % 256) (n % 256 < m % 256)
+    → MatchOrdering (ordering_then o p) (m < n) (m ≡ n) (n < m)
 digit_ranks m n Less p h k = omega arith
 digit_ranks m n Greater p h k = omega arith
 digit_ranks m n Equal Less h k = omega arith
@@ -32,7 +34,8 @@ digit_ranks m n Equal Greater h k = omega arith
 pub nat_cmp-digits : (m n : ℕ) → ordering_then (nat_cmp (m / 256) (n / 256)) (nat_cmp (m % 256) (n % 256)) ≡ nat_cmp m n
 nat_cmp-digits m n = nat_cmp_is m n _ (digit_ranks m n (nat_cmp (m / 256) (n / 256)) (nat_cmp (m % 256) (n % 256)) (ranks (m / 256) (n / 256)) (ranks (m % 256) (n % 256)))
 
-complement_ranks : (c d : ℕ) (o : Ordering) → c < 256 → d < 256 → MatchOrdering o (0xFF - c < 0xFF - d) (0xFF - c ≡ 0xFF - d) (0xFF - d < 0xFF - c) → MatchOrdering o (d < c) (d ≡ c) (c < d)
+complement_ranks : (c d : ℕ) (o : Ordering) → c < 256 → d < 256
+    → MatchOrdering o (0xFF - c < 0xFF - d) (0xFF - c ≡ 0xFF - d) (0xFF - d < 0xFF - c) → MatchOrdering o (d < c) (d ≡ c) (c < d)
 complement_ranks c d Less below_c below_d h = omega arith
 complement_ranks c d Equal below_c below_d h = omega arith
 complement_ranks c d Greater below_c below_d h = omega arith
@@ -40,10 +43,12 @@ complement_ranks c d Greater below_c below_d h = omega arith
 nat_cmp-complement : (c d : ℕ) → c < 256 → d < 256 → nat_cmp (0xFF - c) (0xFF - d) ≡ nat_cmp d c
 nat_cmp-complement c d below_c below_d = nat_cmp_is d c _ (complement_ranks c d (nat_cmp (0xFF - c) (0xFF - d)) below_c below_d (ranks (0xFF - c) (0xFF - d)))
 
-magnitude_cmp-digits : (negative : Bool) (m n : ℕ) → ordering_then (magnitude_cmp negative (m / 256) (n / 256)) (nat_cmp (signed_byte negative (m % 256)) (signed_byte negative (n % 256))) ≡ magnitude_cmp negative m n
+magnitude_cmp-digits : (negative : Bool) (m n : ℕ)
+    → ordering_then (magnitude_cmp negative (m / 256) (n / 256)) (nat_cmp (signed_byte negative (m % 256)) (signed_byte negative (n % 256))) ≡ magnitude_cmp negative m n
 magnitude_cmp-digits false m n = nat_cmp-digits m n
 magnitude_cmp-digits true m n =
-    ap (ordering_then (nat_cmp (n / 256) (m / 256))) (nat_cmp-complement (m % 256) (n % 256) (omega arith) (omega arith)) ∙ nat_cmp-digits n m
+    ap (ordering_then (nat_cmp (n / 256) (m / 256))) (nat_cmp-complement (m % 256) (n % 256) (omega arith) (omega arith))
+    ∙ nat_cmp-digits n m
 
 shorter_below : (most m n : ℕ) → length (low_first most m) < length (low_first most n) → m < n
 unfolding low_first
@@ -63,12 +68,14 @@ magnitude_cmp-same false m = tied_itself nat_cmp_total m
 magnitude_cmp-same true m = tied_itself nat_cmp_total m
 
 -- the lowest digit stands last
-with_sign-reverse : (negative : Bool) (b : ℕ) (bytes x : List ℕ) → with_sign negative (reverse (b ∷ bytes)) ++ x ≡ with_sign negative (reverse bytes) ++ signed_byte negative b ∷ x
+with_sign-reverse : (negative : Bool) (b : ℕ) (bytes x : List ℕ)
+    → with_sign negative (reverse (b ∷ bytes)) ++ x ≡ with_sign negative (reverse bytes) ++ signed_byte negative b ∷ x
 with_sign-reverse negative b bytes x =
     rw (reverse-append (b ∷ []) bytes, map-append (signed_byte negative) (reverse bytes) (b ∷ [])) (append_assoc (with_sign negative (reverse bytes)) (signed_byte negative b ∷ []) x)
 
 -- magnitudes of one number of bytes
-key_cmp-digits : (negative : Bool) (most m n : ℕ) (x y : List ℕ) → m < 256 ^ most → n < 256 ^ most → length (low_first most m) ≡ length (low_first most n) →
+key_cmp-digits : (negative : Bool) (most m n : ℕ) (x y : List ℕ) → m < 256 ^ most → n < 256 ^ most
+    → length (low_first most m) ≡ length (low_first most n) →
     key_cmp (with_sign negative (reverse (low_first most m)) ++ x) (with_sign negative (reverse (low_first most n)) ++ y) ≡ ordering_then (magnitude_cmp negative m n) (key_cmp x y)
 unfolding low_first
 key_cmp-digits negative zero m n x y lm ln e =
@@ -103,7 +110,8 @@ magnitude_cmp-greater : (negative : Bool) (m n : ℕ) → n < m → magnitude_cm
 magnitude_cmp-greater false m n lt = nat_cmp-greater m n lt
 magnitude_cmp-greater true m n lt = nat_cmp-less n m lt
 
-key_cmp-codes : (negative : Bool) (s t : ℕ) (x y : List ℕ) → s < t → t ≤ 16 → key_cmp (int_code negative s ++ x) (int_code negative t ++ y) ≡ lesser_first negative
+key_cmp-codes : (negative : Bool) (s t : ℕ) (x y : List ℕ) → s < t → t ≤ 16
+    → key_cmp (int_code negative s ++ x) (int_code negative t ++ y) ≡ lesser_first negative
 key_cmp-codes false s t x y lt le = elim (cases_lt 8 s) [
   | inl long ↦ rw (lt-leb s 8 long, lt-leb t 8 (omega arith)) (key_cmp-first_less s t x y lt)
   | inr short ↦ elim (cases_lt 8 t) [
@@ -133,20 +141,25 @@ below_by_size m n lt = shorter_below 16 m n (omega (arith, length-reverse (low_f
 abbrev magnitude_spelled : Bool → ℕ → List ℕ
 magnitude_spelled negative n = signed_spelled negative (least_bytes n)
 
-magnitude_spelled-parts : (negative : Bool) (n : ℕ) (x : List ℕ) → magnitude_spelled negative n ++ x ≡ int_code negative (size_of n) ++ (with_sign negative (least_bytes n) ++ x)
+magnitude_spelled-parts : (negative : Bool) (n : ℕ) (x : List ℕ)
+    → magnitude_spelled negative n ++ x ≡ int_code negative (size_of n) ++ (with_sign negative (least_bytes n) ++ x)
 unfolding signed_spelled
 magnitude_spelled-parts negative n x = append_assoc (int_code negative (size_of n)) (with_sign negative (least_bytes n)) x
 
-key_cmp-shorter : (negative : Bool) (m n : ℕ) (x y : List ℕ) → size_of m < size_of n → key_cmp (magnitude_spelled negative m ++ x) (magnitude_spelled negative n ++ y) ≡ lesser_first negative
+key_cmp-shorter : (negative : Bool) (m n : ℕ) (x y : List ℕ) → size_of m < size_of n
+    → key_cmp (magnitude_spelled negative m ++ x) (magnitude_spelled negative n ++ y) ≡ lesser_first negative
 key_cmp-shorter negative m n x y lt =
     rw (magnitude_spelled-parts negative m x, magnitude_spelled-parts negative n y)
     (key_cmp-codes negative (size_of m) (size_of n) (with_sign negative (least_bytes m) ++ x) (with_sign negative (least_bytes n) ++ y) lt (size_of-le n))
 
-key_cmp-longer : (negative : Bool) (m n : ℕ) (x y : List ℕ) → size_of n < size_of m → key_cmp (magnitude_spelled negative m ++ x) (magnitude_spelled negative n ++ y) ≡ ordering_reverse (lesser_first negative)
+key_cmp-longer : (negative : Bool) (m n : ℕ) (x y : List ℕ) → size_of n < size_of m
+    → key_cmp (magnitude_spelled negative m ++ x) (magnitude_spelled negative n ++ y) ≡ ordering_reverse (lesser_first negative)
 key_cmp-longer negative m n x y lt =
-    nat_list_cmp_total.antisymm (magnitude_spelled negative m ++ x) (magnitude_spelled negative n ++ y) ∙ ap ordering_reverse (key_cmp-shorter negative n m y x lt)
+    nat_list_cmp_total.antisymm (magnitude_spelled negative m ++ x) (magnitude_spelled negative n ++ y)
+    ∙ ap ordering_reverse (key_cmp-shorter negative n m y x lt)
 
-key_cmp-as_long : (negative : Bool) (m n : ℕ) (x y : List ℕ) → m < 256 ^ 16 → n < 256 ^ 16 → size_of m ≡ size_of n → key_cmp (magnitude_spelled negative m ++ x) (magnitude_spelled negative n ++ y) ≡ ordering_then (magnitude_cmp negative m n) (key_cmp x y)
+key_cmp-as_long : (negative : Bool) (m n : ℕ) (x y : List ℕ) → m < 256 ^ 16 → n < 256 ^ 16 → size_of m ≡ size_of n
+    → key_cmp (magnitude_spelled negative m ++ x) (magnitude_spelled negative n ++ y) ≡ ordering_then (magnitude_cmp negative m n) (key_cmp x y)
 unfolding least_bytes
 key_cmp-as_long negative m n x y lm ln e =
     rw (
@@ -161,11 +174,13 @@ ordering_then-lesser : (negative : Bool) (o : Ordering) → lesser_first negativ
 ordering_then-lesser false o = refl
 ordering_then-lesser true o = refl
 
-ordering_then-greater : (negative : Bool) (o : Ordering) → ordering_reverse (lesser_first negative) ≡ ordering_then (ordering_reverse (lesser_first negative)) o
+ordering_then-greater : (negative : Bool) (o : Ordering)
+    → ordering_reverse (lesser_first negative) ≡ ordering_then (ordering_reverse (lesser_first negative)) o
 ordering_then-greater false o = refl
 ordering_then-greater true o = refl
 
-key_cmp-signed : (negative : Bool) (m n : ℕ) (x y : List ℕ) → m < 256 ^ 16 → n < 256 ^ 16 → key_cmp (magnitude_spelled negative m ++ x) (magnitude_spelled negative n ++ y) ≡ ordering_then (magnitude_cmp negative m n) (key_cmp x y)
+key_cmp-signed : (negative : Bool) (m n : ℕ) (x y : List ℕ) → m < 256 ^ 16 → n < 256 ^ 16
+    → key_cmp (magnitude_spelled negative m ++ x) (magnitude_spelled negative n ++ y) ≡ ordering_then (magnitude_cmp negative m n) (key_cmp x y)
 key_cmp-signed negative m n x y lm ln = elim (cases_order (size_of m) (size_of n)) [
   | inl same ↦ key_cmp-as_long negative m n x y lm ln same
   | inr (inl lt) ↦ rw (key_cmp-shorter negative m n x y lt, magnitude_cmp-less negative m n (below_by_size m n lt)) (ordering_then-lesser negative (key_cmp x y))
@@ -201,7 +216,8 @@ int_cmp-pos m n = grind (arith, nat_tests)
 int_cmp-negsuc : (m n : ℕ) → int_cmp (negsuc m) (negsuc n) ≡ nat_cmp (suc n) (suc m)
 int_cmp-negsuc m n = grind (arith, nat_tests)
 
-pub key_cmp-int_spelled : (a b : ℤ) (x y : List ℕ) → unsigned_abs a < 256 ^ 16 → unsigned_abs b < 256 ^ 16 → key_cmp (int_spelled a ++ x) (int_spelled b ++ y) ≡ ordering_then (int_cmp a b) (key_cmp x y)
+pub key_cmp-int_spelled : (a b : ℤ) (x y : List ℕ) → unsigned_abs a < 256 ^ 16 → unsigned_abs b < 256 ^ 16
+    → key_cmp (int_spelled a ++ x) (int_spelled b ++ y) ≡ ordering_then (int_cmp a b) (key_cmp x y)
 key_cmp-int_spelled (pos m) (pos n) x y la lb = rw (le-ltb m 0 (omega arith), le-ltb n 0 (omega arith), int_cmp-pos m n) (key_cmp-signed false m n x y la lb)
 key_cmp-int_spelled (pos m) (negsuc n) x y la lb =
     rw (le-ltb m 0 (omega arith)) (nat_list_cmp_total.antisymm (magnitude_spelled false m ++ x) (magnitude_spelled true (suc n) ++ y) ∙ ap ordering_reverse (key_cmp-signs n m y x))

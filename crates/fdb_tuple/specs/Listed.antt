@@ -60,7 +60,8 @@ elements_of-before (elem.Stamp stamp) rest = refl
 
 pub elements_of-tuple_of : (elements : List Elem) → elements_of (tuple_of elements) ≡ elements
 elements_of-tuple_of [] = refl
-elements_of-tuple_of (element ∷ elements) = elements_of-before element (tuple_of elements) ∙ ap (λ (others : List Elem). element ∷ others) (elements_of-tuple_of elements)
+elements_of-tuple_of (element ∷ elements) = elements_of-before element (tuple_of elements)
+    ∙ ap (λ (others : List Elem). element ∷ others) (elements_of-tuple_of elements)
 
 pub before-element_of : (scalar : Scalar) (rest : Elements) → before (element_of scalar) rest ≡ Single scalar rest
 before-element_of Null rest = refl
@@ -73,5 +74,6 @@ before-element_of (Stamp stamp user) rest = refl
 
 pub tuple_of-elements_of : (tuple : Elements) → tuple_of (elements_of tuple) ≡ tuple
 tuple_of-elements_of Empty = refl
-tuple_of-elements_of (Single scalar rest) = before-element_of scalar (tuple_of (elements_of rest)) ∙ ap (λ (others : Elements). Single scalar others) (tuple_of-elements_of rest)
+tuple_of-elements_of (Single scalar rest) = before-element_of scalar (tuple_of (elements_of rest))
+    ∙ ap (λ (others : Elements). Single scalar others) (tuple_of-elements_of rest)
 tuple_of-elements_of (Nested inner rest) = ap (λ (others : Elements). Nested inner others) (tuple_of-elements_of rest)

@@ -45,8 +45,9 @@ record BeginsAs (kind : ℕ) (bytes : List ℕ) : Type 0 where
   low : lowest_code kind ≤ first
   high : first < lowest_code (suc kind)
 
-begins : {kind : ℕ} (first : ℕ) (rest : List ℕ) → (kind < 9) × (lowest_code kind ≤ first) × (first < lowest_code (suc kind)) → BeginsAs kind (first ∷ rest)
-begins first rest h = record { first = first; rest = rest; is = refl; within = h.0; low = h.1; high = h.2 }
+BeginsAs-cons : {kind : ℕ} (first : ℕ) (rest : List ℕ) → (kind < 9) × (lowest_code kind ≤ first) × (first < lowest_code (suc kind))
+    → BeginsAs kind (first ∷ rest)
+BeginsAs-cons first rest h = record { first = first; rest = rest; is = refl; within = h.0; low = h.1; high = h.2 }
 
 key_cmp-kinds : (m n : ℕ) (a b : List ℕ) → BeginsAs m a → BeginsAs n b → m < n → key_cmp a b ≡ Less
 key_cmp-kinds m n a b h k lt =
@@ -61,12 +62,12 @@ key_cmp-ranks m n a b h k differ = elim (cases_order m n) [
 
 int_code_begins : (negative : Bool) (size : ℕ) (x : List ℕ) → BeginsAs 4 (int_code negative size ++ x)
 int_code_begins false size x = elim (cases_lt 8 size) [
-  | inl long ↦ rw (lt-leb size 8 long) (begins 0x1D _ (search rules))
-  | inr short ↦ rw (le-leb size 8 short) (begins (0x14 + size) _ (search rules))
+  | inl long ↦ rw (lt-leb size 8 long) (BeginsAs-cons 0x1D _ (search rules))
+  | inr short ↦ rw (le-leb size 8 short) (BeginsAs-cons (0x14 + size) _ (search rules))
 ]
 int_code_begins true size x = elim (cases_lt 8 size) [
-  | inl long ↦ rw (lt-leb size 8 long) (begins 0x0B _ (search rules))
-  | inr short ↦ rw (le-leb size 8 short) (begins (0x14 - size) _ (search rules))
+  | inl long ↦ rw (lt-leb size 8 long) (BeginsAs-cons 0x0B _ (search rules))
+  | inr short ↦ rw (le-leb size 8 short) (BeginsAs-cons (0x14 - size) _ (search rules))
 ]
 
 signed_begins : (negative : Bool) (bytes x : List ℕ) → BeginsAs 4 (signed_spelled negative bytes ++ x)
@@ -75,15 +76,15 @@ signed_begins negative bytes x =
     rw (append_assoc (int_code negative (length bytes)) (with_sign negative bytes) x) (int_code_begins negative (length bytes) (with_sign negative bytes ++ x))
 
 scalar_begins : (nested : Bool) (s : Scalar) (x : List ℕ) → BeginsAs (rank s) (scalar_spelled nested s ++ x)
-scalar_begins false Null x = begins 0x00 _ (search rules)
-scalar_begins true Null x = begins 0x00 _ (search rules)
-scalar_begins nested (Bytes bytes) x = begins 0x01 _ (search rules)
-scalar_begins nested (Text text) x = begins 0x02 _ (search rules)
+scalar_begins false Null x = BeginsAs-cons 0x00 _ (search rules)
+scalar_begins true Null x = BeginsAs-cons 0x00 _ (search rules)
+scalar_begins nested (Bytes bytes) x = BeginsAs-cons 0x01 _ (search rules)
+scalar_begins nested (Text text) x = BeginsAs-cons 0x02 _ (search rules)
 scalar_begins nested (Int z) x = signed_begins _ _ x
-scalar_begins nested (Boolean false) x = begins 0x26 _ (search rules)
-scalar_begins nested (Boolean true) x = begins 0x27 _ (search rules)
-scalar_begins nested (Uuid bytes) x = begins 0x30 _ (search rules)
-scalar_begins nested (Stamp stamp user) x = begins 0x33 _ (search rules)
+scalar_begins nested (Boolean false) x = BeginsAs-cons 0x26 _ (search rules)
+scalar_begins nested (Boolean true) x = BeginsAs-cons 0x27 _ (search rules)
+scalar_begins nested (Uuid bytes) x = BeginsAs-cons 0x30 _ (search rules)
+scalar_begins nested (Stamp stamp user) x = BeginsAs-cons 0x33 _ (search rules)
 
 -- ---- scalars
 
@@ -91,13 +92,15 @@ boolean_rank : (value : Bool) → (5 ≤ rank (Boolean value)) × (rank (Boolean
 boolean_rank false = search rules
 boolean_rank true = search rules
 
-key_cmp-user : (m n : ℕ) (x y : List ℕ) → m < 2 ^ 16 → n < 2 ^ 16 → key_cmp (to_be_bytes w16 m ++ x) (to_be_bytes w16 n ++ y) ≡ ordering_then (nat_cmp m n) (key_cmp x y)
+key_cmp-user : (m n : ℕ) (x y : List ℕ) → m < 2 ^ 16 → n < 2 ^ 16
+    → key_cmp (to_be_bytes w16 m ++ x) (to_be_bytes w16 n ++ y) ≡ ordering_then (nat_cmp m n) (key_cmp x y)
 key_cmp-user m n x y lm ln =
     let high_m : m / 256 % 256 ≡ m / 256 = omega arith in
     let high_n : n / 256 % 256 ≡ n / 256 = omega arith in
     rw (high_m, high_n, ← nat_cmp-digits m n) (sym (ordering_then-assoc (nat_cmp (m / 256) (n / 256)) (nat_cmp (m % 256) (n % 256)) (key_cmp x y)))
 
-key_cmp-string : (a b x y : List ℕ) → IsBelowEscape x → IsBelowEscape y → key_cmp (string_spelled a ++ x) (string_spelled b ++ y) ≡ ordering_then (key_cmp a b) (key_cmp x y)
+key_cmp-string : (a b x y : List ℕ) → IsBelowEscape x → IsBelowEscape y
+    → key_cmp (string_spelled a ++ x) (string_spelled b ++ y) ≡ ordering_then (key_cmp a b) (key_cmp x y)
 key_cmp-string a b x y h k = rw (append_assoc (escaped a) (0 ∷ []) x, append_assoc (escaped b) (0 ∷ []) y) (key_cmp-escaped a b x y h k)
 
 key_cmp-stamp : (a b : List ℕ) (m n : ℕ) (x y : List ℕ) → length a ≡ length b → m < 2 ^ 16 → n < 2 ^ 16 →
@@ -110,7 +113,8 @@ magnitude_below : (negative : Bool) (n : ℕ) → n ≤ greatest_magnitude negat
 magnitude_below false n le = omega arith
 magnitude_below true n le = omega arith
 
-key_cmp-same_kind : (nested : Bool) (s t : Scalar) (x y : List ℕ) → IsScalar s → IsScalar t → IsBelowEscape x → IsBelowEscape y → rank s ≡ rank t →
+key_cmp-same_kind : (nested : Bool) (s t : Scalar) (x y : List ℕ) → IsScalar s → IsScalar t → IsBelowEscape x → IsBelowEscape y
+    → rank s ≡ rank t →
     key_cmp (scalar_spelled nested s ++ x) (scalar_spelled nested t ++ y) ≡ ordering_then (value_cmp s t) (key_cmp x y)
 key_cmp-same_kind false Null Null x y hs ht hx hy e = refl
 key_cmp-same_kind true Null Null x y hs ht hx hy e = refl
@@ -153,7 +157,7 @@ begins_below kind bytes h =
     rw h.is high
 
 nested_begins : (x : List ℕ) → BeginsAs nested_rank (0x05 ∷ x)
-nested_begins x = begins 0x05 x (search rules)
+nested_begins x = BeginsAs-cons 0x05 x (search rules)
 
 elements_below : (nested : Bool) (a : Elements) (e : List ℕ) → IsBelowEscape e → IsBelowEscape (spelled_in nested a ++ e)
 elements_below nested Empty e h = h
@@ -171,18 +175,22 @@ closed_kind : (nested : Bool) (kind : ℕ) (x bytes : List ℕ) → BeginsAs kin
 closed_kind false kind x bytes h some = rw h.is refl
 closed_kind true kind x bytes h some = rw h.is (key_cmp-first_less 0 h.first x h.rest (omega (arith, lowest_code-le 1 kind (omega arith) (omega arith))))
 
-closed_scalar : (nested : Bool) (s : Scalar) (x y : List ℕ) → IsBelowEscape x → key_cmp (closed nested x) (scalar_spelled nested s ++ y) ≡ Less
+closed_scalar : (nested : Bool) (s : Scalar) (x y : List ℕ) → IsBelowEscape x
+    → key_cmp (closed nested x) (scalar_spelled nested s ++ y) ≡ Less
 closed_scalar false Null x y h = refl
 closed_scalar true Null x y h = key_cmp-below_escape x y h
 closed_scalar nested s x y h = closed_kind nested (rank s) x _ (scalar_begins nested s y) (omega (arith, boolean_rank))
 
-end_before : (nested : Bool) (b : Elements) (x e : List ℕ) → b ≢ Empty → IsBelowEscape x → key_cmp (closed nested x) (spelled_in nested b ++ e) ≡ Less
+end_before : (nested : Bool) (b : Elements) (x e : List ℕ) → b ≢ Empty → IsBelowEscape x
+    → key_cmp (closed nested x) (spelled_in nested b ++ e) ≡ Less
 end_before nested Empty x e some h = absurd (some refl)
 end_before nested (Single s xs) x e some h = rw (append_assoc (scalar_spelled nested s) (spelled_in nested xs) e) (closed_scalar nested s x (spelled_in nested xs ++ e) h)
 end_before nested (Nested inner xs) x e some h = closed_kind nested nested_rank x _ (nested_begins _) (omega arith)
 
-end_after : (nested : Bool) (a : Elements) (y e : List ℕ) → a ≢ Empty → IsBelowEscape y → key_cmp (spelled_in nested a ++ e) (closed nested y) ≡ Greater
-end_after nested a y e some h = nat_list_cmp_total.antisymm (spelled_in nested a ++ e) (closed nested y) ∙ ap ordering_reverse (end_before nested a y e some h)
+end_after : (nested : Bool) (a : Elements) (y e : List ℕ) → a ≢ Empty → IsBelowEscape y
+    → key_cmp (spelled_in nested a ++ e) (closed nested y) ≡ Greater
+end_after nested a y e some h = nat_list_cmp_total.antisymm (spelled_in nested a ++ e) (closed nested y)
+    ∙ ap ordering_reverse (end_before nested a y e some h)
 
 key_cmp-closed : (nested : Bool) (a b : Elements) (x y : List ℕ) → AreElements a → AreElements b → IsBelowEscape x → IsBelowEscape y →
     key_cmp (spelled_in nested a ++ closed nested x) (spelled_in nested b ++ closed nested y) ≡ ordering_then (tuple_cmp a b) (key_cmp (closed nested x) (closed nested y))

@@ -77,13 +77,52 @@ fn nested(alloc: Global, depth: usize) -> Result<Tuple, Fail> {
     Ok(tuple)
 }
 
+// Elements as they are packed: byte strings, Unicode strings, null, nested tuples, booleans, a UUID and a versionstamp.
+const PACKED: [&[u8]; 10] = [
+    b"\x01foo\x00\xFFbar\x00",
+    b"\x02F\xC3\x94O\x00\xFFbar\x00",
+    b"\x01\x00",
+    b"\x02\x00",
+    b"\x00",
+    NESTED,
+    b"\x26",
+    b"\x27",
+    b"\x30\x00\x11\x22\x33\x44\x55\x66\x77\x88\x99\xAA\xBB\xCC\xDD\xEE\xFF",
+    b"\x33\x01\x01\x01\x01\x01\x01\x01\x01\x01\x01\x02\x03",
+];
+
+// The element that is packed at a place of `PACKED`.
+fn element(alloc: Global, place: usize) -> Result<Elem, Fail> {
+    Ok(match place {
+        0 => bytes(alloc, b"foo\0bar")?,
+        1 => text(alloc, "F\u{d4}O\0bar")?,
+        2 => bytes(alloc, b"")?,
+        3 => text(alloc, "")?,
+        4 => Elem::Null,
+        5 => Elem::Nested(example(alloc)?),
+        6 => Elem::Bool(false),
+        7 => Elem::Bool(true),
+        8 => Elem::Uuid(UUID),
+        _ => stamp(1, 0x0203),
+    })
+}
+
+// Whether an element is packed as these bytes.
+fn is_packed(alloc: Global, element: &Elem, bytes: &[u8]) -> Result<bool, Fail> {
+    Ok(pack_element(alloc, element)?.as_slice() == bytes)
+}
+
+// Whether the tuple of an element alone is packed as these bytes.
+fn is_packed_alone(alloc: Global, element: Elem, bytes: &[u8]) -> Result<bool, Fail> {
+    let tuple = tuple_of(alloc, element)?;
+    let packed = pack(alloc, &tuple)?;
+    Ok(packed_len(&tuple) == bytes.len() && packed.as_slice() == bytes)
+}
+
 // That an element alone is packed as these bytes.
-fn expect_packed(rt: &impl Abort, alloc: Global, element: &Elem, bytes: &[u8]) -> Result<(), Fail> {
-    let packed = pack_element(alloc, element)?;
-    assert!(rt; packed.as_slice() == bytes, "{element:?}");
-    let tuple = tuple_of(alloc, element.copy()?)?;
-    assert_eq!(rt; packed_len(&tuple), bytes.len());
-    assert!(rt; pack(alloc, &tuple)?.as_slice() == bytes, "{element:?}");
+fn expect_packed(rt: &impl Abort, alloc: Global, element: Elem, bytes: &[u8]) -> Result<(), Fail> {
+    assert!(rt; is_packed(alloc, &element, bytes)?, "{bytes:?}");
+    assert!(rt; is_packed_alone(alloc, element, bytes)?, "{bytes:?}");
     Ok(())
 }
 
@@ -91,42 +130,53 @@ fn expect_packed(rt: &impl Abort, alloc: Global, element: &Elem, bytes: &[u8]) -
 fn elements(rt: HostRuntime) -> Result<(), Fail> {
     let alloc = rt.alloc();
     for (number, packed) in INTEGERS {
-        expect_packed(&rt, alloc, &Elem::Int(number), packed)?;
+        expect_packed(&rt, alloc, Elem::Int(number), packed)?;
     }
-    let foo_bar = bytes(alloc, b"foo\0bar")?;
-    expect_packed(&rt, alloc, &foo_bar, b"\x01foo\x00\xFFbar\x00")?;
-    let text_foo_bar = text(alloc, "F\u{d4}O\0bar")?;
-    expect_packed(&rt, alloc, &text_foo_bar, b"\x02F\xC3\x94O\x00\xFFbar\x00")?;
-    expect_packed(&rt, alloc, &bytes(alloc, b"")?, b"\x01\x00")?;
-    expect_packed(&rt, alloc, &text(alloc, "")?, b"\x02\x00")?;
-    expect_packed(&rt, alloc, &Elem::Null, b"\x00")?;
-    expect_packed(&rt, alloc, &Elem::Nested(example(alloc)?), NESTED)?;
-    expect_packed(&rt, alloc, &Elem::Bool(false), b"\x26")?;
-    expect_packed(&rt, alloc, &Elem::Bool(true), b"\x27")?;
-    let uuid = b"\x30\x00\x11\x22\x33\x44\x55\x66\x77\x88\x99\xAA\xBB\xCC\xDD\xEE\xFF";
-    expect_packed(&rt, alloc, &Elem::Uuid(UUID), uuid)?;
-    let with_stamp = b"\x33\x01\x01\x01\x01\x01\x01\x01\x01\x01\x01\x02\x03";
-    expect_packed(&rt, alloc, &stamp(1, 0x0203), with_stamp)
+    for (place, packed) in PACKED.iter().enumerate() {
+        expect_packed(&rt, alloc, element(alloc, place)?, packed)?;
+    }
+    Ok(())
+}
+
+// Whether the tuple is that of `example`, by each way of looking at it.
+fn is_example(tuple: Tuple) -> bool {
+    tuple.len() == 3
+        && tuple.depth() == 1
+        && matches!(tuple.get(1), Elem::Null)
+        && tuple.as_slice().len() == 3
+        && tuple.into_vec().len() == 3
+}
+
+// A tuple and then an integer, packed behind `key`.
+fn behind_key(alloc: Global, tuple: &Tuple) -> Result<Vec<u8>, Fail> {
+    let mut packed = Vec::from_slice(alloc, b"key")?;
+    pack_into(&mut packed, tuple)?;
+    pack_element_into(&mut packed, &Elem::Int(-1))?;
+    Ok(packed)
+}
+
+fn has_range(alloc: Global, tuple: &Tuple, begin: &[u8], end: &[u8]) -> Result<bool, Fail> {
+    let range = range(alloc, tuple)?;
+    Ok(range.begin.as_slice() == begin && range.end.as_slice() == end)
+}
+
+fn empty_is_empty(alloc: Global) -> Result<bool, Fail> {
+    let empty = Tuple::new(alloc);
+    Ok(empty.is_empty() && pack(alloc, &empty)?.is_empty())
 }
 
 #[test]
 fn tuples(rt: HostRuntime) -> Result<(), Fail> {
     let alloc = rt.alloc();
-    let tuple = example(alloc)?.copy()?;
-    assert_eq!(rt; tuple.len(), 3);
-    assert_eq!(rt; tuple.depth(), 1);
-    assert!(rt; matches!(tuple.get(1), Elem::Null));
-    assert_eq!(rt; tuple.as_slice().len(), 3);
-    let mut packed = Vec::from_slice(alloc, b"key")?;
-    pack_into(&mut packed, &tuple)?;
-    pack_element_into(&mut packed, &Elem::Int(-1))?;
-    assert!(rt; packed.as_slice() == b"key\x01foo\x00\xFFbar\x00\x00\x05\x00\x13\xFE".as_slice());
-    let range = range(alloc, &tuple)?;
-    assert!(rt; range.begin.as_slice() == b"\x01foo\x00\xFFbar\x00\x00\x05\x00\x00".as_slice());
-    assert!(rt; range.end.as_slice() == b"\x01foo\x00\xFFbar\x00\x00\x05\x00\xFF".as_slice());
-    assert_eq!(rt; tuple.into_vec().len(), 3);
-    assert!(rt; Tuple::new(alloc).is_empty());
-    assert!(rt; pack(alloc, &Tuple::new(alloc))?.is_empty());
+    let tuple = example(alloc)?;
+    let packed = behind_key(alloc, &tuple)?;
+    let wanted = b"key\x01foo\x00\xFFbar\x00\x00\x05\x00\x13\xFE";
+    assert!(rt; packed.as_slice() == wanted.as_slice());
+    let begin = b"\x01foo\x00\xFFbar\x00\x00\x05\x00\x00";
+    let end = b"\x01foo\x00\xFFbar\x00\x00\x05\x00\xFF";
+    assert!(rt; has_range(alloc, &tuple, begin, end)?);
+    assert!(rt; is_example(tuple.copy()?));
+    assert!(rt; empty_is_empty(alloc)?);
     Ok(())
 }
 

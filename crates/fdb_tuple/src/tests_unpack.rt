@@ -192,11 +192,15 @@ fn element(alloc: Global, place: usize) -> Result<Elem, Fail> {
     })
 }
 
-// That the bytes are those of this tuple, and of no other.
-fn expect_tuple(rt: &impl Abort, alloc: Global, bytes: &[u8], tuple: &Tuple) -> Result<(), Fail> {
+// Whether the bytes are those of this tuple, and of no other.
+fn spells(alloc: Global, bytes: &[u8], tuple: &Tuple) -> Result<bool, Fail> {
     let unpacked = unpack(alloc, bytes)?;
-    assert!(rt; cmp(&unpacked, tuple).is_eq(), "{bytes:?}");
-    assert!(rt; pack(alloc, &unpacked)?.as_slice() == bytes, "{bytes:?}");
+    let packed = pack(alloc, &unpacked)?;
+    Ok(cmp(&unpacked, tuple).is_eq() && packed.as_slice() == bytes)
+}
+
+fn expect_tuple(rt: &impl Abort, alloc: Global, bytes: &[u8], tuple: &Tuple) -> Result<(), Fail> {
+    assert!(rt; spells(alloc, bytes, tuple)?, "{bytes:?}");
     Ok(())
 }
 

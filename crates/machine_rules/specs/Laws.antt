@@ -21,25 +21,29 @@ pub record Finishes (before : Machine) (progress : Progress) : Type 0 where
 not_running : {A : Type 0} → false ≡ true → A
 not_running e = absurd cc
 
-act_running : (machine : Machine) (act : Act) → machine.next < length machine.instructions → is_running (acted machine act).machine.state ≡ true → Finishes machine (acted machine act)
+act_running : (machine : Machine) (act : Act) → machine.next < length machine.instructions
+    → is_running (acted machine act).machine.state ≡ true → Finishes machine (acted machine act)
 act_running machine (Does stack) inside e = record { silent_is = refl; instructions = refl; next = refl; inside = inside }
 act_running machine (Uses name stack) inside e = record { silent_is = refl; instructions = refl; next = refl; inside = inside }
 act_running machine (Stops stack end) inside e = not_running e
 act_running machine (Asks stack request awaits) inside e = not_running e
 
-next_running : (machine : Machine) (value : Option (List ℕ)) → slice_get machine.instructions machine.next ≡ value → is_running (acted machine (next_act machine value)).machine.state ≡ true
+next_running : (machine : Machine) (value : Option (List ℕ)) → slice_get machine.instructions machine.next ≡ value
+    → is_running (acted machine (next_act machine value)).machine.state ≡ true
     → Finishes machine (acted machine (next_act machine value))
 next_running machine None is e = not_running e
 next_running machine (Some value) is e =
     act_running machine (next_act machine (Some value)) (slice_get_within machine.instructions machine.next value is) e
 
-state_running : (state : State) (machine : Machine) → is_running state ≡ true → is_running (advance_by state machine).machine.state ≡ true → Finishes machine (advance_by state machine)
+state_running : (state : State) (machine : Machine) → is_running state ≡ true → is_running (advance_by state machine).machine.state ≡ true
+    → Finishes machine (advance_by state machine)
 state_running state.Running machine was e = next_running machine (slice_get machine.instructions machine.next) refl e
 state_running (state.Awaiting awaits) machine was e = not_running was
 state_running (state.Stopped end) machine was e = not_running was
 
 -- a running machine that still runs after a step has finished an instruction
-pub advance_finishes : (machine : Machine) → is_running machine.state ≡ true → is_running (advance machine).machine.state ≡ true → Finishes machine (advance machine)
+pub advance_finishes : (machine : Machine) → is_running machine.state ≡ true → is_running (advance machine).machine.state ≡ true
+    → Finishes machine (advance machine)
 unfolding advance
 advance_finishes machine was e = state_running machine.state machine was e
 
@@ -66,7 +70,8 @@ state_asks state.Running machine request e = act_asks machine (next_act machine 
 state_asks (state.Awaiting awaits) machine request e = absurd cc
 state_asks (state.Stopped end) machine request e = absurd cc
 
-pub advance_asks : (machine : Machine) (request : Request) → (advance machine).asks ≡ Some request → is_awaiting (advance machine).machine.state ≡ true
+pub advance_asks : (machine : Machine) (request : Request) → (advance machine).asks ≡ Some request
+    → is_awaiting (advance machine).machine.state ≡ true
 unfolding advance
 advance_asks machine request e = state_asks machine.state machine request e
 
@@ -85,7 +90,8 @@ state_quiet state.Running machine was e = act_quiet machine (next_act machine (s
 state_quiet (state.Awaiting awaits) machine was e = not_running was
 state_quiet (state.Stopped end) machine was e = not_running was
 
-pub advance_quiet : (machine : Machine) → is_running machine.state ≡ true → (advance machine).asks ≡ None → is_awaiting (advance machine).machine.state ≡ false
+pub advance_quiet : (machine : Machine) → is_running machine.state ≡ true → (advance machine).asks ≡ None
+    → is_awaiting (advance machine).machine.state ≡ false
 unfolding advance
 advance_quiet machine was e = state_quiet machine.state machine was e
 
@@ -110,7 +116,8 @@ used_goes machine Goes = record { instructions = refl; next = refl; state = refl
 used_goes machine (Pushes element) = record { instructions = refl; next = refl; state = refl }
 used_goes machine (Faults code) = record { instructions = refl; next = refl; state = refl }
 
-resumed_goes_by : (state : State) (machine : Machine) (given : Reply) → is_awaiting state ≡ true → GoneOn machine (resumed_by state machine given)
+resumed_goes_by : (state : State) (machine : Machine) (given : Reply) → is_awaiting state ≡ true
+    → GoneOn machine (resumed_by state machine given)
 resumed_goes_by state.Running machine given e = not_running e
 resumed_goes_by (state.Awaiting awaits) machine given e = used_goes machine (use_of awaits given)
 resumed_goes_by (state.Stopped end) machine given e = not_running e
@@ -134,7 +141,8 @@ act_at machine (Uses name stack) inside request e = absurd cc
 act_at machine (Stops stack end) inside request e = absurd cc
 act_at machine (Asks stack asked awaits) inside request e = record { instructions = refl; next = refl; inside = inside }
 
-next_at : (machine : Machine) (value : Option (List ℕ)) → slice_get machine.instructions machine.next ≡ value → AsksAt machine (acted machine (next_act machine value))
+next_at : (machine : Machine) (value : Option (List ℕ)) → slice_get machine.instructions machine.next ≡ value
+    → AsksAt machine (acted machine (next_act machine value))
 next_at machine None is request e = absurd cc
 next_at machine (Some value) is request e = act_at machine (next_act machine (Some value)) (slice_get_within machine.instructions machine.next value is) request e
 
@@ -143,7 +151,8 @@ state_at state.Running machine request e = next_at machine (slice_get machine.in
 state_at (state.Awaiting awaits) machine request e = absurd cc
 state_at (state.Stopped end) machine request e = absurd cc
 
-pub advance_asks_inside : (machine : Machine) (request : Request) → (advance machine).asks ≡ Some request → AsksInside machine (advance machine)
+pub advance_asks_inside : (machine : Machine) (request : Request) → (advance machine).asks ≡ Some request
+    → AsksInside machine (advance machine)
 unfolding advance
 advance_asks_inside machine request e = state_at machine.state machine request e
 
@@ -159,7 +168,8 @@ unfolding rested
 rested_still zero progress e = refl
 rested_still (suc n) progress e = ap (λ b. cond b (rested n (advance progress.machine)) progress) e
 
-rested_once : (n : ℕ) (progress : Progress) → is_running progress.machine.state ≡ true → rested (suc n) progress ≡ rested n (advance progress.machine)
+rested_once : (n : ℕ) (progress : Progress) → is_running progress.machine.state ≡ true
+    → rested (suc n) progress ≡ rested n (advance progress.machine)
 unfolding rested
 rested_once n progress e = ap (λ b. cond b (rested n (advance progress.machine)) progress) e
 
@@ -168,36 +178,41 @@ pub at_rest_still : (machine : Machine) → is_running machine.state ≡ false �
 unfolding at_rest
 at_rest_still machine e = rested_still (length machine.instructions - machine.next + 1) (silent machine) e
 
-at_rest_once : (machine : Machine) → is_running machine.state ≡ true → at_rest machine ≡ rested (length machine.instructions - machine.next) (advance machine)
+at_rest_once : (machine : Machine) → is_running machine.state ≡ true
+    → at_rest machine ≡ rested (length machine.instructions - machine.next) (advance machine)
 unfolding at_rest
 at_rest_once machine e =
-    ap (λ n. rested n (silent machine)) (add-one (length machine.instructions - machine.next)) ∙ rested_once (length machine.instructions - machine.next) (silent machine) e
+    ap (λ n. rested n (silent machine)) (add-one (length machine.instructions - machine.next))
+    ∙ rested_once (length machine.instructions - machine.next) (silent machine) e
 
 -- a step that leaves the machine not running leaves it at rest
-pub at_rest_after : (machine : Machine) → is_running machine.state ≡ true → is_running (advance machine).machine.state ≡ false → at_rest machine ≡ advance machine
+pub at_rest_after : (machine : Machine) → is_running machine.state ≡ true → is_running (advance machine).machine.state ≡ false
+    → at_rest machine ≡ advance machine
 at_rest_after machine was e = at_rest_once machine was ∙ rested_still (length machine.instructions - machine.next) (advance machine) e
 
-silent_of : (progress : Progress) → progress.asks ≡ None → progress ≡ silent progress.machine
-silent_of progress e = ap (λ (asks : Option Request). record { machine = progress.machine; asks = asks }) e
+silent-machine : (progress : Progress) → progress.asks ≡ None → progress ≡ silent progress.machine
+silent-machine progress e = ap (λ (asks : Option Request). record { machine = progress.machine; asks = asks }) e
 
-fewer : (i j n m : ℕ) → j ≡ i + 1 → m ≡ n → i < n → n - i ≡ m - j + 1
-fewer i j n m next same inside = omega arith
+left_after_one : (i j n m : ℕ) → j ≡ i + 1 → m ≡ n → i < n → n - i ≡ m - j + 1
+left_after_one i j n m next same inside = omega arith
 
 -- a step after which the machine still runs leads to the same rest
-pub at_rest_again : (machine : Machine) → is_running machine.state ≡ true → is_running (advance machine).machine.state ≡ true → at_rest machine ≡ at_rest (advance machine).machine
+pub at_rest_again : (machine : Machine) → is_running machine.state ≡ true → is_running (advance machine).machine.state ≡ true
+    → at_rest machine ≡ at_rest (advance machine).machine
 unfolding at_rest
 at_rest_again machine was e =
     let finishes = advance_finishes machine was e in
     let progress = advance machine in
     at_rest_once machine was
-    ∙ ap (λ n. rested n progress) (fewer machine.next progress.machine.next (length machine.instructions) (length progress.machine.instructions) finishes.next (ap length finishes.instructions) finishes.inside)
-    ∙ ap (rested (length progress.machine.instructions - progress.machine.next + 1)) (silent_of progress finishes.silent_is)
+    ∙ ap (λ n. rested n progress) (left_after_one machine.next progress.machine.next (length machine.instructions) (length progress.machine.instructions) finishes.next (ap length finishes.instructions) finishes.inside)
+    ∙ ap (rested (length progress.machine.instructions - progress.machine.next + 1)) (silent-machine progress finishes.silent_is)
 
 -- one that stops in a step is at rest as it is then
-pub at_rest_stops : (machine : Machine) → is_running machine.state ≡ true → is_running (advance machine).machine.state ≡ false → (advance machine).asks ≡ None
+pub at_rest_stops : (machine : Machine) → is_running machine.state ≡ true → is_running (advance machine).machine.state ≡ false
+    → (advance machine).asks ≡ None
     → at_rest machine ≡ at_rest (advance machine).machine
 at_rest_stops machine was e quiet =
-    at_rest_after machine was e ∙ silent_of (advance machine) quiet ∙ sym (at_rest_still (advance machine).machine e)
+    at_rest_after machine was e ∙ silent-machine (advance machine) quiet ∙ sym (at_rest_still (advance machine).machine e)
 
 -- one that asks is at rest at its request
 pub at_rest_asks : (machine : Machine) (request : Request) → is_running machine.state ≡ true → (advance machine).asks ≡ Some request
@@ -209,7 +224,8 @@ at_rest_asks machine request was asks =
 -- ---- orders
 
 -- a run goes on from the run of the order's front
-pub run_from-append : (front rest : List ℕ) (run : Run) → run_from (front ++ rest) run ≡ option_and_then (run_from rest) (run_from front run)
+pub run_from-append : (front rest : List ℕ) (run : Run)
+    → run_from (front ++ rest) run ≡ option_and_then (run_from rest) (run_from front run)
 unfolding run_from
 run_from-append [] rest run = refl
 run_from-append (place ∷ front) rest run = run_append (take_place place run) (run_from-append front rest)

@@ -34,7 +34,8 @@ drop_next (suc i) [] top below e = absurd cc
 drop_next (suc i) (item ∷ items) top below e = let next : suc i + 1 ≡ suc (i + 1) = omega arith in rw next (drop_next i items top below e)
 
 -- and joins those that were taken
-pub take_next : (i : ℕ) (items : List Item) (top : Item) (below : List Item) → drop i items ≡ top ∷ below → take (i + 1) items ≡ take i items ++ top ∷ []
+pub take_next : (i : ℕ) (items : List Item) (top : Item) (below : List Item) → drop i items ≡ top ∷ below
+    → take (i + 1) items ≡ take i items ++ top ∷ []
 take_next zero [] top below e = absurd cc
 take_next zero (item ∷ items) top below e = cc
 take_next (suc i) [] top below e = absurd cc
@@ -46,7 +47,8 @@ abbrev pub element : Item → Elem
 element item = item.element
 
 -- where there are so many
-pub elements_within : (count : ℕ) (items : List Item) → count ≤ length items → operands_by element_operand count items ≡ Ok (map element (take count items), drop count items)
+pub elements_within : (count : ℕ) (items : List Item) → count ≤ length items
+    → operands_by element_operand count items ≡ Ok (map element (take count items), drop count items)
 unfolding operands_by
 elements_within zero items le = refl
 elements_within (suc count) [] le = absurd (omega arith)
@@ -72,5 +74,6 @@ pub tuple_within : (stack left : List Item) (count : ℕ) → count_operand stac
     → tuple_operand stack ≡ Ok (tuple_of (map element (take count left)), drop count left)
 tuple_within stack left count e le = ap counted_tuple e ∙ ap as_tuple (elements_within count left le)
 
-pub tuple_past : (stack left : List Item) (count : ℕ) → count_operand stack ≡ Ok (count, left) → length left < count → tuple_operand stack ≡ Err (Missing [])
+pub tuple_past : (stack left : List Item) (count : ℕ) → count_operand stack ≡ Ok (count, left) → length left < count
+    → tuple_operand stack ≡ Err (Missing [])
 tuple_past stack left count e lt = ap counted_tuple e ∙ ap as_tuple (elements_past count left lt)

@@ -7,7 +7,8 @@ use Rattle.machine_rules.specs.StackOperations.{pushed}
 use Rattle.stack_items.specs.Items.{EndsIn}
 use Rattle.stack_items.proofs.Popping.{EndsIn-refl, EndsIn-below, EndsIn-trans}
 
-pub pushed-append : (number : ℕ) (xs ys : List Elem) (stack : List Item) → pushed number (xs ++ ys) stack ≡ pushed number ys (pushed number xs stack)
+pub pushed-append : (number : ℕ) (xs ys : List Elem) (stack : List Item)
+    → pushed number (xs ++ ys) stack ≡ pushed number ys (pushed number xs stack)
 pushed-append number [] ys stack = refl
 pushed-append number (x ∷ xs) ys stack = pushed-append number xs ys (record { element = x; instruction = number } ∷ stack)
 
@@ -20,7 +21,9 @@ pushed-EndsIn number (element ∷ elements) stack =
     (pushed-EndsIn number elements (record { element = element; instruction = number } ∷ stack))
 
 -- a loop's step: one more is pushed
-pub pushed_more : {A : Type 0} (number : ℕ) (f : A → Elem) (xs : List A) (x : A) (stack now : List Item) → now ≡ pushed number (map f xs) stack
+pub pushed_more : {A : Type 0} (number : ℕ) (f : A → Elem) (xs : List A) (x : A) (stack now : List Item)
+    → now ≡ pushed number (map f xs) stack
     → pushed number (f x ∷ []) now ≡ pushed number (map f (xs ++ x ∷ [])) stack
 pushed_more number f xs x stack now e =
-    ap (λ (below : List Item). pushed number (f x ∷ []) below) e ∙ sym (pushed-append number (map f xs) (f x ∷ []) stack) ∙ ap (λ (elements : List Elem). pushed number elements stack) (sym (map_push f xs x))
+    ap (λ (below : List Item). pushed number (f x ∷ []) below) e ∙ sym (pushed-append number (map f xs) (f x ∷ []) stack)
+    ∙ ap (λ (elements : List Elem). pushed number elements stack) (sym (map_push f xs x))

@@ -11,7 +11,8 @@ use Rattle.std.proofs.lemmas.List.Sorted.{IsPermutation-swap, All-permutation}
 abbrev from_end : {X : Type 0} → List X → ℕ → ℕ
 from_end xs i = length xs - 1 - i
 
-set_at : {X : Type 0} (xs : List X) (i k : ℕ) (x d : X) → i < length xs → k < length xs → get_or (set xs (from_end xs i) x) (from_end xs k) d ≡ get_or (set (reverse xs) i x) k d
+set_at : {X : Type 0} (xs : List X) (i k : ℕ) (x d : X) → i < length xs → k < length xs
+    → get_or (set xs (from_end xs i) x) (from_end xs k) d ≡ get_or (set (reverse xs) i x) k d
 set_at xs i k x d lt lt' = ⊎_elim
     (λ (e : k ≡ i). rw e (get_or-set_same xs (from_end xs i) x d (omega arith) ∙ sym (get_or-set_same (reverse xs) i x d (omega (arith, length-reverse xs)))))
     (λ (ne : k ≢ i). get_or-set_other xs (from_end xs i) (from_end xs k) x d (λ e. ne (omega arith)) ∙ sym (get_or-set_other (reverse xs) i k x d ne ∙ get_or-reverse xs k d lt'))
@@ -26,7 +27,8 @@ reverse-set xs i x lt =
     ∙ ap (λ n. get_or (set xs (from_end xs i) x) (n - 1 - k) d) same
     ∙ set_at xs i k x d lt (omega arith))
 
-reverse-swap_by : {X : Type 0} (xs : List X) (i j : ℕ) (d : X) → i < length xs → j < length xs → reverse (swap xs (from_end xs i) (from_end xs j)) ≡ swap (reverse xs) i j
+reverse-swap_by : {X : Type 0} (xs : List X) (i j : ℕ) (d : X) → i < length xs → j < length xs
+    → reverse (swap xs (from_end xs i) (from_end xs j)) ≡ swap (reverse xs) i j
 reverse-swap_by xs i j d lt lt' =
     let first = get_or xs (from_end xs i) d in
     let second = get_or xs (from_end xs j) d in
@@ -38,15 +40,18 @@ reverse-swap_by xs i j d lt lt' =
     ∙ ap (λ ys. set ys j first) (reverse-set xs i second lt)
     ∙ rw (sym (get_or-reverse xs i d lt), sym (get_or-reverse xs j d lt')) (swap_is (reverse xs) i j d (omega (arith, length-reverse xs)) (omega (arith, length-reverse xs)))
 
-reverse-swap : {X : Type 0} (xs : List X) (i j : ℕ) → i < length xs → j < length xs → reverse (swap xs (from_end xs i) (from_end xs j)) ≡ swap (reverse xs) i j
+reverse-swap : {X : Type 0} (xs : List X) (i j : ℕ) → i < length xs → j < length xs
+    → reverse (swap xs (from_end xs i) (from_end xs j)) ≡ swap (reverse xs) i j
 reverse-swap [] i j lt lt' = refl
 reverse-swap (x ∷ xs) i j lt lt' = reverse-swap_by (x ∷ xs) i j x lt lt'
 
 -- the last element, and the one so many places before it
-pub reverse-swap_last : {X : Type 0} (xs : List X) (depth : ℕ) → depth < length xs → reverse (swap xs (length xs - 1) (length xs - 1 - depth)) ≡ swap (reverse xs) 0 depth
+pub reverse-swap_last : {X : Type 0} (xs : List X) (depth : ℕ) → depth < length xs
+    → reverse (swap xs (length xs - 1) (length xs - 1 - depth)) ≡ swap (reverse xs) 0 depth
 reverse-swap_last xs depth lt =
     ap (λ (last : ℕ). reverse (swap xs last (length xs - 1 - depth))) (omega arith) ∙ reverse-swap xs 0 depth (omega arith) lt
 
-pub all-swap : {X : Type 0} (P : X → Type 0) (xs : List X) (i j : ℕ) → i < length xs → j < length xs → AllByRecursion P xs → AllByRecursion P (swap xs i j)
+pub all-swap : {X : Type 0} (P : X → Type 0) (xs : List X) (i j : ℕ) → i < length xs → j < length xs → AllByRecursion P xs
+    → AllByRecursion P (swap xs i j)
 all-swap P xs i j lt lt' all =
     recursion_from_All P (swap xs i j) (All-permutation P xs (swap xs i j) (IsPermutation-swap xs (swap xs i j) i j lt lt' refl) (All-from_recursion P xs all))

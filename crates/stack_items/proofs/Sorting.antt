@@ -33,7 +33,8 @@ all-weaker : {X : Type 0} (P Q : X → Type 0) → ((x : X) → P x → Q x) →
 all-weaker P Q weaker [] all = tt
 all-weaker P Q weaker (x ∷ xs) all = (weaker x all.0, all-weaker P Q weaker xs all.1)
 
-all-inserted_by : {X : Type 0} (cmp : X → X → Ordering) (P : X → Type 0) (x : X) (xs : List X) → P x → AllByRecursion P xs → AllByRecursion P (inserted_by cmp x xs)
+all-inserted_by : {X : Type 0} (cmp : X → X → Ordering) (P : X → Type 0) (x : X) (xs : List X) → P x → AllByRecursion P xs
+    → AllByRecursion P (inserted_by cmp x xs)
 all-inserted_by cmp P x [] here all = (here, tt)
 all-inserted_by cmp P x (y ∷ ys) here all = by (is_gt (cmp x y)) (all-inserted_by cmp P x ys here all.1)
   where
@@ -73,7 +74,8 @@ tied cmp x y = one_if_equal (cmp x y)
 abbrev count_of : {X : Type 0} → (X → X → Ordering) → X → List X → ℕ
 count_of cmp x xs = sum_by (tied cmp x) xs
 
-sum_by-inserted_by : {X : Type 0} (cmp : X → X → Ordering) (f : X → ℕ) (x : X) (xs : List X) → sum_by f (inserted_by cmp x xs) ≡ f x + sum_by f xs
+sum_by-inserted_by : {X : Type 0} (cmp : X → X → Ordering) (f : X → ℕ) (x : X) (xs : List X)
+    → sum_by f (inserted_by cmp x xs) ≡ f x + sum_by f xs
 sum_by-inserted_by cmp f x [] = sum_by-cons f x []
 sum_by-inserted_by cmp f x (y ∷ ys) = by (is_gt (cmp x y)) (sum_by-inserted_by cmp f x ys)
   where

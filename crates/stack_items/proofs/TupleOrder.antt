@@ -29,7 +29,8 @@ use Rattle.stack_items.proofs.Sorting.{inserted_by, in_order_by, sorted-in_order
 
 -- ---- the order of tuples is that of their bytes
 
-all-inserted : (tuple : Elements) (tuples : List Elements) → IsTuple tuple → AllByRecursion IsTuple tuples → AllByRecursion IsTuple (inserted tuple tuples)
+all-inserted : (tuple : Elements) (tuples : List Elements) → IsTuple tuple → AllByRecursion IsTuple tuples
+    → AllByRecursion IsTuple (inserted tuple tuples)
 all-inserted tuple [] here all = (here, tt)
 all-inserted tuple (first ∷ others) here all = by (is_gt (tuple_cmp tuple first)) (all-inserted tuple others here all.1)
   where
@@ -41,7 +42,8 @@ all-in_order : (tuples : List Elements) → AllByRecursion IsTuple tuples → Al
 all-in_order [] all = tt
 all-in_order (tuple ∷ others) all = all-inserted tuple (in_order others) all.0 (all-in_order others all.1)
 
-map-inserted : (tuple : Elements) (tuples : List Elements) → IsTuple tuple → AllByRecursion IsTuple tuples → map spelling (inserted tuple tuples) ≡ inserted_by key_cmp (spelling tuple) (map spelling tuples)
+map-inserted : (tuple : Elements) (tuples : List Elements) → IsTuple tuple → AllByRecursion IsTuple tuples
+    → map spelling (inserted tuple tuples) ≡ inserted_by key_cmp (spelling tuple) (map spelling tuples)
 map-inserted tuple [] here all = refl
 map-inserted tuple (first ∷ others) here all =
     by (is_gt (tuple_cmp tuple first)) (is_gt (key_cmp (spelling tuple) (spelling first))) (ap is_gt (sym (key_cmp-spelling tuple first here all.0))) (map-inserted tuple others here all.1)
@@ -54,15 +56,18 @@ map-inserted tuple (first ∷ others) here all =
     by true false e later = absurd cc
     by false true e later = absurd cc
 
-pub map-in_order : (tuples : List Elements) → AllByRecursion IsTuple tuples → map spelling (in_order tuples) ≡ in_order_by key_cmp (map spelling tuples)
+pub map-in_order : (tuples : List Elements) → AllByRecursion IsTuple tuples
+    → map spelling (in_order tuples) ≡ in_order_by key_cmp (map spelling tuples)
 map-in_order [] all = refl
-map-in_order (tuple ∷ others) all = map-inserted tuple (in_order others) all.0 (all-in_order others all.1) ∙ ap (inserted_by key_cmp (spelling tuple)) (map-in_order others all.1)
+map-in_order (tuple ∷ others) all = map-inserted tuple (in_order others) all.0 (all-in_order others all.1)
+    ∙ ap (inserted_by key_cmp (spelling tuple)) (map-in_order others all.1)
 
 key_cmp-ties : (a b : List ℕ) → key_cmp a b ≡ Equal → a ≡ b
 key_cmp-ties a b e = (bytes_eq-Decides a b).0 (sym (is_eq-slice_cmp a b) ∙ ap is_eq e)
 
 -- sorted byte strings that pack tuples are the tuples in their order, packed
-pub sorted-map : (tuples : List Elements) (sorted : List (List ℕ)) → AllByRecursion IsTuple tuples → IsPermutation (map spelling tuples) sorted → IsSorted key_cmp sorted → sorted ≡ map spelling (in_order tuples)
+pub sorted-map : (tuples : List Elements) (sorted : List (List ℕ)) → AllByRecursion IsTuple tuples
+    → IsPermutation (map spelling tuples) sorted → IsSorted key_cmp sorted → sorted ≡ map spelling (in_order tuples)
 sorted-map tuples sorted all moved rises = sorted-in_order_by key_cmp nat_list_cmp_total key_cmp-ties (map spelling tuples) sorted moved rises ∙ sym (map-in_order tuples all)
 
 -- ---- what the byte strings pack
@@ -80,7 +85,8 @@ read_each (packed ∷ others) all =
     let rest = read_each others all.1 in
     record {
       tuples = first.0 ∷ rest.tuples;
-      read = ap (λ (tuple : Result Elements UnpackFault). read_with tuple (read_tuples others)) first.1.read ∙ ap (read_with (Ok first.0)) rest.read;
+      read = ap (λ (tuple : Result Elements UnpackFault). read_with tuple (read_tuples others)) first.1.read
+      ∙ ap (read_with (Ok first.0)) rest.read;
       are_tuples = (first.1.is_tuple, rest.are_tuples);
       spelled = cc (first.1.spelled, rest.spelled);
     }
@@ -92,7 +98,8 @@ read_with-none : (tuple : Result Elements UnpackFault) → read_with tuple None 
 read_with-none (Ok tuple) = refl
 read_with-none (Err why) = refl
 
-none_read : (strings : List (List ℕ)) (k : ℕ) (packed : List ℕ) → k < length strings → get_or strings k packed ≡ packed → PacksNone packed → read_tuples strings ≡ None
+none_read : (strings : List (List ℕ)) (k : ℕ) (packed : List ℕ) → k < length strings → get_or strings k packed ≡ packed → PacksNone packed
+    → read_tuples strings ≡ None
 none_read [] k packed lt here none = absurd (omega arith)
 none_read (first ∷ others) zero packed lt here none = ap (λ (tuple : Result Elements UnpackFault). read_with tuple (read_tuples others)) (ap read_tuple here ∙ none.1)
 none_read (first ∷ others) (suc k) packed lt here none = ap (read_with (read_tuple first)) (none_read others k packed (omega arith) here none) ∙ read_with-none (read_tuple first)
@@ -110,7 +117,8 @@ map-packed_tuple : (tuples : List Elements) → map packed_tuple tuples ≡ map 
 map-packed_tuple [] = refl
 map-packed_tuple (tuple ∷ others) = ap (λ (elements : List Elem). packed_tuple tuple ∷ elements) (map-packed_tuple others)
 
-pub tuple_sort-done : (number : ℕ) (stack left : List Item) (strings sorted : List (List ℕ)) → byte_strings_operand stack ≡ Ok (strings, left) → All PacksSome strings → IsPermutation strings sorted
+pub tuple_sort-done : (number : ℕ) (stack left : List Item) (strings sorted : List (List ℕ))
+    → byte_strings_operand stack ≡ Ok (strings, left) → All PacksSome strings → IsPermutation strings sorted
     → IsSorted key_cmp sorted → tuple_sort number stack ≡ Ok (pushed number (map (λ (bytes : List ℕ). elem.Bytes bytes) sorted) left)
 tuple_sort-done number stack left strings sorted e all moved rises =
     let packed = read_all strings all in
@@ -119,7 +127,8 @@ tuple_sort-done number stack left strings sorted e all moved rises =
     ∙ ap (λ (tuples : Option (List Elements)). pushed_in_order number tuples left) packed.read
     ∙ ap (λ (elements : List Elem). Ok (pushed number elements left)) (map-packed_tuple (in_order packed.tuples) ∙ ap (map (λ (bytes : List ℕ). elem.Bytes bytes)) (sym in_their_order))
 
-pub tuple_sort-refused : (number : ℕ) (stack left : List Item) (strings : List (List ℕ)) (why : StackFault) → byte_strings_operand stack ≡ Ok (strings, left)
+pub tuple_sort-refused : (number : ℕ) (stack left : List Item) (strings : List (List ℕ)) (why : StackFault)
+    → byte_strings_operand stack ≡ Ok (strings, left)
     → UnpacksEach {E = Unit {0}} (Err why) strings → Does {E = Unit {0}} (Err why) (tuple_sort number stack) left
 tuple_sort-refused number stack left strings fault.Underflow e each = absurd each
 tuple_sort-refused number stack left strings fault.Operand e each =

@@ -19,7 +19,8 @@ act_again machine (Uses name stack) e = refl
 act_again machine (Stops stack end) e = absurd cc
 act_again machine (Asks stack request awaits) e = absurd cc
 
-advance_again : (state : State) (machine : Machine) → machine.state ≡ state → IsDue state None → FinishesAtAgain machine (advance_by state machine)
+advance_again : (state : State) (machine : Machine) → machine.state ≡ state → IsDue state None
+    → FinishesAtAgain machine (advance_by state machine)
 advance_again state.Running machine is due e = act_again machine (next_act machine (slice_get machine.instructions machine.next)) e
 advance_again (state.Awaiting awaits) machine is due e = absurd due
 advance_again (state.Stopped end) machine is due e = absurd (let stopped : answer_of (silent machine) ≡ step.Stopped end = ap (λ s. answer_of (silent (record machine { state = s }))) is in cc (sym e ∙ stopped))
@@ -29,7 +30,8 @@ used_again machine Goes e = refl
 used_again machine (Pushes element) e = refl
 used_again machine (Faults code) e = refl
 
-resumed_again : (state : State) (machine : Machine) (given : Reply) → IsDue state (Some given) → FinishesAtAgain machine (silent (resumed_by state machine given))
+resumed_again : (state : State) (machine : Machine) (given : Reply) → IsDue state (Some given)
+    → FinishesAtAgain machine (silent (resumed_by state machine given))
 resumed_again state.Running machine given due e = absurd due
 resumed_again (state.Awaiting awaits) machine given due e = used_again machine (use_of awaits given) e
 resumed_again (state.Stopped end) machine given due e = absurd due
@@ -44,7 +46,8 @@ due_of true state given e may = absurd cc
 due_of false state given e may = may
 
 -- from what a step ensures where it is Ok
-pub step_again : {E : Type 0} (old new : MachineModel) (given : Option Reply) (result : Result Step E) → MayStep old.is_out_of_memory old.machine.state given
+pub step_again : {E : Type 0} (old new : MachineModel) (given : Option Reply) (result : Result Step E)
+    → MayStep old.is_out_of_memory old.machine.state given
     → IfOk result (λ answer. Moves old (moved old.machine given) answer new) → result ≡ Ok step.Again → new.machine.next ≡ old.machine.next + 1
 step_again old new given (Ok answer) may moves e =
     let again : answer ≡ step.Again = cc in

@@ -8,7 +8,8 @@ use Rattle.atomic_ops.proofs.Little.{nat_lt-number_low}
 use Rattle.atomic_ops.proofs.numbers.is_less.Goals as goal
 
 -- one byte more is the same
-same_from : (kept operand : List ℕ) (i : ℕ) → length kept ≡ length operand → i < length operand → get_or kept i 0 ≡ get_or operand i 0 → drop (suc i) kept ≡ drop (suc i) operand
+same_from : (kept operand : List ℕ) (i : ℕ) → length kept ≡ length operand → i < length operand → get_or kept i 0 ≡ get_or operand i 0
+    → drop (suc i) kept ≡ drop (suc i) operand
     → drop i kept ≡ drop i operand
 same_from kept operand i long inside same above =
     let next : i + 1 ≡ suc i = omega arith in
@@ -18,7 +19,8 @@ pub loop-place-init : goal.loop-place-init
 loop-place-init c =
     let old = c.args.old.now in
     let operand = c.args.operand.now in
-    drop_all (length operand) (fitted old operand) (omega (arith, length-fitted old operand)) ∙ sym (drop_all (length operand) operand (omega arith))
+    drop_all (length operand) (fitted old operand) (omega (arith, length-fitted old operand))
+    ∙ sym (drop_all (length operand) operand (omega arith))
 
 -- each element of a slice of bytes fits a byte
 is_byte_string : (bytes : List ℕ) → ((i : ℕ) → Fits w8 (get_or bytes i 0)) → IsByteString bytes

@@ -6,7 +6,8 @@ use Rattle.fdb_tuple.specs.Listed.{tuple_of, elements_of, tuple_of-elements_of}
 use Rattle.stack_machine.proofs.errors.error_tuple.Goals as goal
 
 -- a tuple of two byte strings, by the elements that were added to the empty one
-of_two : (start one two : Elements) (first said second : List ℕ) → start ≡ Empty → first ≡ said → elements_of one ≡ elements_of start ++ elem.Bytes first ∷ []
+of_two : (start one two : Elements) (first said second : List ℕ) → start ≡ Empty → first ≡ said
+    → elements_of one ≡ elements_of start ++ elem.Bytes first ∷ []
     → elements_of two ≡ elements_of one ++ elem.Bytes second ∷ [] → two ≡ Single (Bytes said) (Single (Bytes second) Empty)
 of_two start one two first said second none is added more =
     sym (tuple_of-elements_of two)

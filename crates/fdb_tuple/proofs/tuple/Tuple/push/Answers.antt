@@ -12,4 +12,5 @@ invariant_of-self-2 c =
 pub returns-clause-ok : goal.returns-clause-ok
 returns-clause-ok c =
     let old = c.self.inside.items.items in
-    elements_of-tuple_of c.push.new.self.items ∙ c.in_ok-push.ensures.items ∙ ap (λ items. items ++ c.args.element ∷ []) (sym (elements_of-tuple_of old) ∙ ap elements_of c.self.view_is)
+    elements_of-tuple_of c.push.new.self.items ∙ c.in_ok-push.ensures.items
+    ∙ ap (λ items. items ++ c.args.element ∷ []) (sym (elements_of-tuple_of old) ∙ ap elements_of c.self.view_is)

@@ -16,7 +16,8 @@ returns-in_err-string-clause-popped c =
     (strings_refused (λ (strings : Vec Bytes Global). strings.items) c.in_err-string.field-0.0 c.loop-popped.strings.items c.in_ok-count.count c.loop-popped._popped c.loop-popped.self c.pop_bytes.new.self (omega arith) c.in_err-string.ensures)
 
 -- what is to be popped is what was popped, with this iteration's, and the rest
-popped_one : (c : In_ok-string) → byte_strings_operand c.args.self.now ≡ strings_after (c.loop-popped.strings.items ++ c.in_ok-string.string ∷ []) (c.in_ok-count.count - (c.loop-popped._popped + 1)) c.pop_bytes.new.self
+popped_one : (c : In_ok-string)
+    → byte_strings_operand c.args.self.now ≡ strings_after (c.loop-popped.strings.items ++ c.in_ok-string.string ∷ []) (c.in_ok-count.count - (c.loop-popped._popped + 1)) c.pop_bytes.new.self
 popped_one c =
     c.loop-popped.invariant
     ∙ strings_after-more c.loop-popped.strings.items c.in_ok-count.count c.loop-popped._popped c.loop-popped.self c.pop_bytes.new.self c.in_ok-string.string (omega arith) c.in_ok-string.ensures
@@ -30,4 +31,5 @@ pub loop-popped-preserved : goal.loop-popped-preserved
 loop-popped-preserved c = rw c.in_ok-push.ensures.items (popped_one (goal.at.loop-popped-preserved c).In_ok-string)
 
 pub returns-clause-popped : goal.returns-clause-popped
-returns-clause-popped c = c.loop-popped.invariant ∙ strings_after-all c.loop-popped.strings.items c.in_ok-count.count c.loop-popped._popped c.loop-popped.self (omega arith)
+returns-clause-popped c = c.loop-popped.invariant
+    ∙ strings_after-all c.loop-popped.strings.items c.in_ok-count.count c.loop-popped._popped c.loop-popped.self (omega arith)

@@ -6,7 +6,8 @@ use Rattle.stack_items.proofs.stack.Stack.push_strings.Goals as goal
 
 pub loop-string-preserved : goal.loop-string-preserved
 loop-string-preserved c =
-    c.in_ok-push.ensures.ok ∙ pushed_more c.args.instruction (λ bytes. elem.Bytes bytes) c.loop-string.yielded c.in-Some.string c.args.self.now c.loop-string.self c.loop-string.invariant
+    c.in_ok-push.ensures.ok
+    ∙ pushed_more c.args.instruction (λ bytes. elem.Bytes bytes) c.loop-string.yielded c.in-Some.string c.args.self.now c.loop-string.self c.loop-string.invariant
 
 pub returns-in_err-push-clause-err : goal.returns-in_err-push-clause-err
 returns-in_err-push-clause-err c =
