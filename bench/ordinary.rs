@@ -566,6 +566,8 @@ enum Instruction {
     Clear,
     Commit,
     Reset,
+    NewTransaction,
+    UseTransaction,
     TuplePack,
     TupleUnpack,
 }
@@ -594,6 +596,8 @@ fn instruction_of(value: &[u8]) -> Result<Instruction, End> {
         (b"CLEAR", None) => Ok(Instruction::Clear),
         (b"COMMIT", None) => Ok(Instruction::Commit),
         (b"RESET", None) => Ok(Instruction::Reset),
+        (b"NEW_TRANSACTION", None) => Ok(Instruction::NewTransaction),
+        (b"USE_TRANSACTION", None) => Ok(Instruction::UseTransaction),
         (b"TUPLE_PACK", None) => Ok(Instruction::TuplePack),
         (b"TUPLE_UNPACK", None) => Ok(Instruction::TupleUnpack),
         (other, None) => Err(End::NoSuchOperation(String::from_utf8_lossy(other).into_owned())),
@@ -605,10 +609,11 @@ struct Item {
     instruction: usize,
 }
 
-/// Machine 0, with the database and the one transaction that these operations have.
+/// Machine 0, with the database, the transactions by their names, and the name that is in use.
 struct Machine {
     database: Database,
-    transaction: Transaction,
+    transactions: BTreeMap<Bytes, Transaction>,
+    name: Bytes,
     instructions: Vec<Bytes>,
     next: usize,
     stack: Vec<Item>,
@@ -619,7 +624,8 @@ struct Machine {
 impl Machine {
     fn new(database: Database, prefix: &[u8]) -> Machine {
         Machine {
-            transaction: Transaction::default(),
+            transactions: BTreeMap::new(),
+            name: prefix.into(),
             instructions: database.instructions(prefix),
             next: 0,
             stack: Vec::new(),
@@ -644,31 +650,43 @@ impl Machine {
             Instruction::Push(element) => self.push(element),
             Instruction::Set => {
                 let (key, value) = (self.pop_bytes()?, self.pop_bytes()?);
-                let reply = self.transaction.set(key, value);
+                let reply = self.transaction().set(key, value);
                 self.answer(reply.map(|()| None));
             }
             Instruction::Get => {
                 let key = self.pop_bytes()?;
-                let reply = self.transaction.get(&self.database, &key);
+                let transaction = self.transactions.entry(self.name.clone()).or_default();
+                let reply = transaction.get(&self.database, &key);
                 self.answer(reply.map(|value| Some(value.unwrap_or_else(|| NOT_PRESENT.into()))));
             }
             Instruction::Clear => {
                 let key = self.pop_bytes()?;
-                let reply = self.transaction.clear(key);
+                let reply = self.transaction().clear(key);
                 self.answer(reply.map(|()| None));
             }
             Instruction::Commit => {
-                let reply = self.transaction.commit(&mut self.database);
+                let transaction = self.transactions.entry(self.name.clone()).or_default();
+                let reply = transaction.commit(&mut self.database);
                 self.answer(reply.map(|()| Some(NOT_PRESENT.into())));
             }
             Instruction::Reset => {
-                self.transaction = Transaction::default();
+                *self.transaction() = Transaction::default();
                 self.answer(Ok(None));
             }
+            Instruction::NewTransaction => {
+                self.transactions.insert(self.name.clone(), Transaction::default());
+                self.answer(Ok(None));
+            }
+            Instruction::UseTransaction => self.name = self.pop_bytes()?,
             Instruction::TuplePack => self.tuple_pack()?,
             Instruction::TupleUnpack => self.tuple_unpack()?,
         }
         Ok(())
+    }
+
+    /// The transaction of the name that is in use; it is made where there is none.
+    fn transaction(&mut self) -> &mut Transaction {
+        self.transactions.entry(self.name.clone()).or_default()
     }
 
     fn push(&mut self, element: Element) {
