@@ -86,7 +86,7 @@ read_each (packed ∷ others) all =
     record {
       tuples = first.0 ∷ rest.tuples;
       read = ap (λ (tuple : Result Elements UnpackFault). read_with tuple (read_tuples others)) first.1.read
-      ∙ ap (read_with (Ok first.0)) rest.read;
+          ∙ ap (read_with (Ok first.0)) rest.read;
       are_tuples = (first.1.is_tuple, rest.are_tuples);
       spelled = cc (first.1.spelled, rest.spelled);
     }
