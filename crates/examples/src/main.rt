@@ -49,7 +49,7 @@ fn main(rt: HostRuntime) -> io::Result<ExitCode> {
 }
 
 // Reads a script and its dump from this folder, and runs it.
-fn examine<R: Files + Threads + Wait + AllocGlobal>(
+fn examine<R: Files + Threads + Wait + Sync + AllocGlobal>(
     rt: &R,
     script: &Script,
 ) -> Result<Finding, AllocError> {
@@ -63,7 +63,7 @@ fn examine<R: Files + Threads + Wait + AllocGlobal>(
 }
 
 // Runs a script over these bytes.
-fn try_script<R: Threads + Wait>(
+fn try_script<R: Threads + Wait + Sync>(
     rt: &R,
     alloc: Global,
     script: &Script,
