@@ -2,12 +2,11 @@
 
 ghost use Rattle.std.specs.Prelude.{◌<◌};
 
+use super::tests::{bytes, inside, longer, text, tuple_of};
 use super::*;
 use key_bytes::Bytes;
 use std::alloc::Global;
 use std::cmp::Ordering;
-use std::process::Abort;
-use std::test::Fail;
 
 const BYTES: [&[u8]; 6] = [b"", b"\0", b"\0\0", b"\0\x01", b"a", b"\xFF"];
 
@@ -31,16 +30,13 @@ const INTEGERS: [i128; 12] = [
 const STAMPS: [(u8, u16); 4] = [(0, 0), (0, 256), (1, 0), (255, 1)];
 
 // The tuples (), (null), (null, null) and (()), by their places.
-fn nested(alloc: Global, place: usize) -> Result<Tuple, Fail> {
-    let mut tuple = Tuple::new(alloc);
-    if place == 3 {
-        tuple.push(Elem::Nested(Tuple::new(alloc)))?;
-        return Ok(tuple);
+fn nested(alloc: Global, place: usize) -> Option<Tuple> {
+    match place {
+        0 => Some(Tuple::new(alloc)),
+        1 => tuple_of(alloc, Some(Elem::Null)),
+        2 => longer(tuple_of(alloc, Some(Elem::Null)), Some(Elem::Null)),
+        _ => tuple_of(alloc, Some(Elem::Nested(Tuple::new(alloc)))),
     }
-    for _ in 0..place {
-        tuple.push(Elem::Null)?;
-    }
-    Ok(tuple)
 }
 
 fn stamp(place: usize) -> Elem
@@ -52,53 +48,74 @@ fn stamp(place: usize) -> Elem
 }
 
 // The element at a place of 35, in rising order.
-fn element(alloc: Global, place: usize) -> Result<Elem, Fail>
+fn element(alloc: Global, place: usize) -> Option<Elem>
     requires { place < 35 }
 {
-    Ok(match place {
-        0 => Elem::Null,
-        1..=6 => Elem::Bytes(Bytes::from_slice(alloc, BYTES[place - 1])?),
-        7..=10 => Elem::Text(Text::from_str(alloc, TEXTS[place - 7])?),
-        11..=14 => Elem::Nested(nested(alloc, place - 11)?),
-        15..=26 => Elem::Int(INTEGERS[place - 15]),
-        27 => Elem::Bool(false),
-        28 => Elem::Bool(true),
-        29 => Elem::Uuid([0; 16]),
-        30 => Elem::Uuid([1; 16]),
-        _ => stamp(place - 31),
-    })
+    match place {
+        0 => Some(Elem::Null),
+        1..=6 => bytes(alloc, BYTES[place - 1]),
+        7..=10 => text(alloc, TEXTS[place - 7]),
+        11..=14 => inside(nested(alloc, place - 11)),
+        15..=26 => Some(Elem::Int(INTEGERS[place - 15])),
+        27 => Some(Elem::Bool(false)),
+        28 => Some(Elem::Bool(true)),
+        29 => Some(Elem::Uuid([0; 16])),
+        30 => Some(Elem::Uuid([1; 16])),
+        _ => Some(stamp(place - 31)),
+    }
 }
 
-// Each element alone, and then with null behind it.
-fn rising(alloc: Global) -> Result<Vec<Tuple>, Fail> {
+fn alone(alloc: Global, place: usize) -> Option<Tuple>
+    requires { place < 35 }
+{
+    tuple_of(alloc, element(alloc, place))
+}
+
+fn before_null(alloc: Global, place: usize) -> Option<Tuple>
+    requires { place < 35 }
+{
+    longer(alone(alloc, place), Some(Elem::Null))
+}
+
+// The empty tuple, and then each element alone and with null behind it.
+fn rising(alloc: Global) -> Option<Vec<Tuple>> {
     let mut rows = Vec::new(alloc);
-    rows.push(Tuple::new(alloc))?;
+    rows.push(Tuple::new(alloc)).ok()?;
     for place in 0..35 {
-        let mut one = Tuple::new(alloc);
-        one.push(element(alloc, place)?)?;
-        rows.push(one)?;
-        let mut two = Tuple::new(alloc);
-        two.push(element(alloc, place)?)?;
-        two.push(Elem::Null)?;
-        rows.push(two)?;
+        rows.push(alone(alloc, place)?).ok()?;
+        rows.push(before_null(alloc, place)?).ok()?;
     }
-    Ok(rows)
+    Some(rows)
 }
 
-fn expect_places(rt: &impl Abort, rows: &[Tuple], place: usize, row: &Tuple) {
+// The first of the rows that is ordered otherwise than by its place beside the row at this place.
+fn first_other(rows: &[Tuple], place: usize, row: &Tuple) -> Option<usize> {
     for (other_place, other) in rows.iter().enumerate() {
-        let order = place.cmp(&other_place);
-        assert_eq!(rt; cmp(row, other), order, "{place} and {other_place}");
+        if cmp(row, other) != place.cmp(&other_place) {
+            return Some(other_place);
+        }
     }
+    None
+}
+
+// The first two places whose rows are ordered otherwise than by their places.
+fn first_other_places(rows: &[Tuple]) -> Option<(usize, usize)> {
+    for (place, row) in rows.iter().enumerate() {
+        if let Some(other_place) = first_other(rows, place, row) {
+            return Some((place, other_place));
+        }
+    }
+    None
+}
+
+// The first two places whose rows are ordered otherwise, over all rows; nothing where memory ran out.
+fn others_of_rising(alloc: Global) -> Option<Option<(usize, usize)>> {
+    Some(first_other_places(rising(alloc)?.as_slice()))
 }
 
 #[test]
-fn tuples_in_rising_order(rt: HostRuntime) -> Result<(), Fail> {
-    let rows = rising(rt.alloc())?;
-    for (place, row) in rows.as_slice().iter().enumerate() {
-        expect_places(&rt, rows.as_slice(), place, row);
-    }
-    Ok(())
+fn tuples_in_rising_order(rt: HostRuntime) {
+    assert_eq!(rt; others_of_rising(rt.alloc()), Some(None));
 }
 
 // The kinds of elements, the least first.
@@ -181,30 +198,40 @@ fn plain_order(a: &[Elem], b: &[Elem]) -> Ordering {
     }
 }
 
-fn packed_rows(alloc: Global, rows: &[Tuple]) -> Result<Vec<Bytes>, Fail> {
+fn packed_rows(alloc: Global, rows: &[Tuple]) -> Option<Vec<Bytes>> {
     let mut packed = Vec::new(alloc);
     for row in rows {
-        packed.push(pack(alloc, row)?)?;
+        packed.push(pack(alloc, row).ok()?).ok()?;
     }
-    Ok(packed)
+    Some(packed)
 }
 
-// That the plain order, that of the packed bytes and `cmp` are one.
-fn expect_one_order(rt: &impl Abort, a: (&Tuple, &Bytes), b: (&Tuple, &Bytes)) {
+// Whether the plain order, that of the packed bytes and `cmp` are one.
+fn is_one_order(a: (&Tuple, &Bytes), b: (&Tuple, &Bytes)) -> bool {
     let order = plain_order(a.0.as_slice(), b.0.as_slice());
-    let bytes_order = a.1.as_slice().cmp(&b.1.as_slice());
-    assert_eq!(rt; cmp(a.0, b.0), order, "{:?} and {:?}", a.0, b.0);
-    assert_eq!(rt; bytes_order, order, "{:?} and {:?}", a.0, b.0);
+    cmp(a.0, b.0) == order && a.1.as_slice().cmp(&b.1.as_slice()) == order
+}
+
+// The first two places at which the three orders are not one.
+fn first_unlike(rows: &[Tuple], packed: &[Bytes]) -> Option<(usize, usize)> {
+    for (place, a) in rows.iter().zip(packed).enumerate() {
+        for (other_place, b) in rows.iter().zip(packed).enumerate() {
+            if !is_one_order(a, b) {
+                return Some((place, other_place));
+            }
+        }
+    }
+    None
+}
+
+// The same over all rows; nothing where memory ran out.
+fn unlike_of_rising(alloc: Global) -> Option<Option<(usize, usize)>> {
+    let rows = rising(alloc)?;
+    let packed = packed_rows(alloc, rows.as_slice())?;
+    Some(first_unlike(rows.as_slice(), packed.as_slice()))
 }
 
 #[test]
-fn plain_order_and_packed_bytes(rt: HostRuntime) -> Result<(), Fail> {
-    let rows = rising(rt.alloc())?;
-    let packed = packed_rows(rt.alloc(), rows.as_slice())?;
-    for a in rows.as_slice().iter().zip(packed.as_slice()) {
-        for b in rows.as_slice().iter().zip(packed.as_slice()) {
-            expect_one_order(&rt, a, b);
-        }
-    }
-    Ok(())
+fn plain_order_and_packed_bytes(rt: HostRuntime) {
+    assert_eq!(rt; unlike_of_rising(rt.alloc()), Some(None));
 }

@@ -2,11 +2,9 @@
 //! table of the tuple layer (tuple.md).
 
 use super::UnpackFault::{BadCode, BadUtf8, NoMemory, NotMinimal, TooBig, TooDeep, Truncated};
+use super::tests::{bytes, inside, longer, text, tuple_of};
 use super::*;
-use key_bytes::Bytes;
 use std::alloc::Global;
-use std::process::Abort;
-use std::test::Fail;
 
 // Bytes with a fault in their first faulty element, and the fault.
 const FAULTY: &[(&[u8], UnpackFault)] = &[
@@ -97,6 +95,11 @@ const FAULTY_INSIDE: &[(&[u8], UnpackFault)] = &[
     (b"\x05\x05\x05\x02\xFF\x00\x00\x00\x00", BadUtf8(3)),
 ];
 
+// A hundred and one tuples that are opened, and that are closed.
+const OPENED: &[u8] = &[0x05; 101];
+
+const CLOSED: &[u8] = &[0x00; 101];
+
 // The least magnitude of each number of bytes.
 const MAGNITUDES: &[i128] = &[
     1,
@@ -140,80 +143,70 @@ const PACKED: &[&[u8]] = &[
     b"\x330123456789\x00\xFF",
 ];
 
-fn tuple_of(alloc: Global, element: Elem) -> Result<Tuple, Fail> {
-    let mut tuple = Tuple::new(alloc);
-    tuple.push(element)?;
-    Ok(tuple)
-}
-
-fn bytes(alloc: Global, bytes: &[u8]) -> Result<Elem, Fail> {
-    Ok(Elem::Bytes(Bytes::from_slice(alloc, bytes)?))
-}
-
-fn text(alloc: Global, text: &str) -> Result<Elem, Fail> {
-    Ok(Elem::Text(Text::from_str(alloc, text)?))
-}
-
 // The tuple of null, the empty tuple, the tuple of null and an empty byte string, and null.
-fn nulls(alloc: Global) -> Result<Tuple, Fail> {
-    let mut inner = tuple_of(alloc, Elem::Null)?;
-    inner.push(bytes(alloc, b"")?)?;
-    let mut outer = tuple_of(alloc, Elem::Null)?;
-    outer.push(Elem::Nested(Tuple::new(alloc)))?;
-    outer.push(Elem::Nested(inner))?;
-    outer.push(Elem::Null)?;
-    Ok(outer)
+fn nulls(alloc: Global) -> Option<Tuple> {
+    let inner = longer(tuple_of(alloc, Some(Elem::Null)), bytes(alloc, b""));
+    let empty = Some(Elem::Nested(Tuple::new(alloc)));
+    let two = longer(tuple_of(alloc, Some(Elem::Null)), empty);
+    longer(longer(two, inside(inner)), Some(Elem::Null))
 }
 
 // The element that is packed at a place of `PACKED`.
-fn element(alloc: Global, place: usize) -> Result<Elem, Fail> {
-    Ok(match place {
-        0 => Elem::Null,
-        1 => bytes(alloc, b"")?,
-        2 => bytes(alloc, b"\0a\0\0")?,
-        3 => bytes(alloc, b"\xFF")?,
-        4 => text(alloc, "")?,
-        5 => text(alloc, "\u{e9}\0\u{10ffff}")?,
-        6 => Elem::Nested(Tuple::new(alloc)),
-        7 => Elem::Nested(tuple_of(alloc, Elem::Null)?),
-        8 => Elem::Nested(nulls(alloc)?),
-        9 => Elem::Int(0),
-        10 => Elem::Int(5),
-        11 => Elem::Int(-0xFFFF_FFFF_FFFF_FFFF),
-        12 => Elem::Int(i128::MAX),
-        13 => Elem::Int(i128::MIN),
-        14 => Elem::Bool(false),
-        15 => Elem::Bool(true),
-        16 => Elem::Uuid(*b"\x00\xFF0123456789abcd"),
-        _ => Elem::Stamp(Versionstamp {
+fn element(alloc: Global, place: usize) -> Option<Elem> {
+    match place {
+        0 => Some(Elem::Null),
+        1 => bytes(alloc, b""),
+        2 => bytes(alloc, b"\0a\0\0"),
+        3 => bytes(alloc, b"\xFF"),
+        4 => text(alloc, ""),
+        5 => text(alloc, "\u{e9}\0\u{10ffff}"),
+        6 => Some(Elem::Nested(Tuple::new(alloc))),
+        7 => inside(tuple_of(alloc, Some(Elem::Null))),
+        8 => inside(nulls(alloc)),
+        9 => Some(Elem::Int(0)),
+        10 => Some(Elem::Int(5)),
+        11 => Some(Elem::Int(-0xFFFF_FFFF_FFFF_FFFF)),
+        12 => Some(Elem::Int(i128::MAX)),
+        13 => Some(Elem::Int(i128::MIN)),
+        14 => Some(Elem::Bool(false)),
+        15 => Some(Elem::Bool(true)),
+        16 => Some(Elem::Uuid(*b"\x00\xFF0123456789abcd")),
+        _ => Some(Elem::Stamp(Versionstamp {
             stamp: *b"0123456789",
             user: 0xFF,
-        }),
-    })
+        })),
+    }
+}
+
+fn is_packed(alloc: Global, tuple: &Tuple, bytes: &[u8]) -> bool {
+    match pack(alloc, tuple) {
+        Ok(packed) => packed.as_slice() == bytes,
+        Err(_) => false,
+    }
 }
 
 // Whether the bytes are those of this tuple, and of no other.
-fn spells(alloc: Global, bytes: &[u8], tuple: &Tuple) -> Result<bool, Fail> {
-    let unpacked = unpack(alloc, bytes)?;
-    let packed = pack(alloc, &unpacked)?;
-    Ok(cmp(&unpacked, tuple).is_eq() && packed.as_slice() == bytes)
+fn spells(alloc: Global, bytes: &[u8], tuple: &Tuple) -> bool {
+    match unpack(alloc, bytes) {
+        Ok(unpacked) => cmp(&unpacked, tuple).is_eq() && is_packed(alloc, &unpacked, bytes),
+        Err(_) => false,
+    }
 }
 
-fn expect_tuple(rt: &impl Abort, alloc: Global, bytes: &[u8], tuple: &Tuple) -> Result<(), Fail> {
-    assert!(rt; spells(alloc, bytes, tuple)?, "{bytes:?}");
-    Ok(())
+// The fault of bytes, if they have one.
+fn fault_of(alloc: Global, bytes: &[u8]) -> Option<UnpackFault> {
+    unpack(alloc, bytes).err()
 }
 
-fn expect_fault(rt: &impl Abort, alloc: Global, bytes: &[u8], fault: UnpackFault) {
-    assert_eq!(rt; unpack(alloc, bytes).err(), Some(fault), "{bytes:?}");
-}
-
-// That an integer is packed in so many bytes, from which it is unpacked.
-fn expect_number(rt: &impl Abort, alloc: Global, number: i128, len: usize) -> Result<(), Fail> {
-    let tuple = tuple_of(alloc, Elem::Int(number))?;
-    let packed = pack(alloc, &tuple)?;
-    assert_eq!(rt; packed.len(), len, "{number}");
-    expect_tuple(rt, alloc, packed.as_slice(), &tuple)
+// Whether an integer is packed in so many bytes, from which it is unpacked.
+fn is_number_packed(alloc: Global, number: i128, len: usize) -> bool {
+    let Some(tuple) = tuple_of(alloc, Some(Elem::Int(number))) else {
+        return false;
+    };
+    match pack(alloc, &tuple) {
+        Ok(packed) => packed.len() == len && spells(alloc, packed.as_slice(), &tuple),
+        Err(_) => false,
+    }
 }
 
 // How many bytes an integer is packed in whose magnitude has so many.
@@ -238,87 +231,155 @@ fn further(fault: UnpackFault, by: usize) -> UnpackFault {
     }
 }
 
-// Tuples that are opened, and then closed, so many of each.
-fn opened_and_closed(alloc: Global, opened: usize, closed: usize) -> Result<Vec<u8>, Fail> {
-    let mut bytes = vec![in alloc; 0x05u8; opened]?;
-    bytes.extend_from_slice(vec![in alloc; 0x00u8; closed]?.as_slice())?;
-    Ok(bytes)
+// The first row whose bytes have another fault, or none.
+fn first_other(alloc: Global, rows: &[(&[u8], UnpackFault)]) -> Option<usize> {
+    for (place, (bytes, fault)) in rows.iter().enumerate() {
+        if fault_of(alloc, bytes) != Some(*fault) {
+            return Some(place);
+        }
+    }
+    None
+}
+
+fn joined(alloc: Global, first: &[u8], second: &[u8]) -> Option<Vec<u8>> {
+    let mut bytes = first.to_vec(alloc).ok()?;
+    bytes.extend_from_slice(second).ok()?;
+    Some(bytes)
+}
+
+// The fault of bytes behind others, if they have one.
+fn fault_of_joined(alloc: Global, first: &[u8], second: &[u8]) -> Option<UnpackFault> {
+    fault_of(alloc, joined(alloc, first, second)?.as_slice())
+}
+
+// The first place of `FAULTY` whose bytes have another fault in open tuples.
+fn first_other_inside(alloc: Global) -> Option<usize> {
+    for (place, (bytes, fault)) in FAULTY.iter().enumerate() {
+        if fault_of_joined(alloc, OPEN, bytes) != Some(further(*fault, OPEN.len())) {
+            return Some(place);
+        }
+    }
+    None
 }
 
 #[test]
 fn faults_at_the_top(rt: HostRuntime) {
-    for (bytes, fault) in FAULTY {
-        expect_fault(&rt, rt.alloc(), bytes, *fault);
-    }
-    expect_fault(&rt, rt.alloc(), b"\x00\xFF", BadCode(1));
+    assert_eq!(rt; first_other(rt.alloc(), FAULTY), None);
+    assert_eq!(rt; fault_of(rt.alloc(), b"\x00\xFF"), Some(BadCode(1)));
 }
 
 #[test]
-fn faults_inside(rt: HostRuntime) -> Result<(), Fail> {
-    for (bytes, fault) in FAULTY_INSIDE {
-        expect_fault(&rt, rt.alloc(), bytes, *fault);
+fn faults_inside(rt: HostRuntime) {
+    assert_eq!(rt; first_other(rt.alloc(), FAULTY_INSIDE), None);
+    assert_eq!(rt; first_other_inside(rt.alloc()), None);
+}
+
+// The first byte that is no code although it should be, or the other way round.
+fn first_other_code(alloc: Global) -> Option<u8> {
+    for code in 0..=0xFF {
+        let is_code = matches!(code, 0..=2 | 5 | 0x0B..=0x1D | 0x26 | 0x27 | 0x30 | 0x33);
+        let is_refused = fault_of(alloc, &[code]) == Some(BadCode(0));
+        if is_refused == is_code {
+            return Some(code);
+        }
     }
-    for (bytes, fault) in FAULTY {
-        let mut input = OPEN.to_vec(rt.alloc())?;
-        input.extend_from_slice(bytes)?;
-        expect_fault(
-            &rt,
-            rt.alloc(),
-            input.as_slice(),
-            further(*fault, OPEN.len()),
-        );
-    }
-    Ok(())
+    None
 }
 
 #[test]
 fn codes(rt: HostRuntime) {
-    for code in 0..=0xFF {
-        let is_code = matches!(code, 0..=2 | 5 | 0x0B..=0x1D | 0x26 | 0x27 | 0x30 | 0x33);
-        let fault = unpack(rt.alloc(), &[code]).err();
-        assert_eq!(rt; fault == Some(BadCode(0)), !is_code, "{code}");
+    assert_eq!(rt; first_other_code(rt.alloc()), None);
+}
+
+// The fault of so many tuples that are opened, and then closed, at most 101 of each.
+fn fault_of_opened(alloc: Global, opened: usize, closed: usize) -> Option<UnpackFault> {
+    fault_of_joined(alloc, OPENED.get(..opened)?, CLOSED.get(..closed)?)
+}
+
+fn depth_of_opened(alloc: Global, depth: usize) -> Option<u8> {
+    let bytes = joined(alloc, OPENED.get(..depth)?, CLOSED.get(..depth)?)?;
+    Some(unpack(alloc, bytes.as_slice()).ok()?.depth())
+}
+
+#[test]
+fn depths(rt: HostRuntime) {
+    let alloc = rt.alloc();
+    assert_eq!(rt; depth_of_opened(alloc, 100), Some(100));
+    assert_eq!(rt; fault_of_opened(alloc, 101, 101), Some(TooDeep(100)));
+    assert_eq!(rt; fault_of_opened(alloc, 101, 0), Some(TooDeep(100)));
+    assert_eq!(rt; fault_of_opened(alloc, 100, 99), Some(Truncated(199)));
+}
+
+fn spells_place(alloc: Global, place: usize, bytes: &[u8]) -> bool {
+    match tuple_of(alloc, element(alloc, place)) {
+        Some(tuple) => spells(alloc, bytes, &tuple),
+        None => false,
     }
 }
 
-#[test]
-fn depths(rt: HostRuntime) -> Result<(), Fail> {
-    let alloc = rt.alloc();
-    let deepest = unpack(alloc, opened_and_closed(alloc, 100, 100)?.as_slice())?;
-    assert_eq!(rt; deepest.depth(), 100);
-    let too_deep = opened_and_closed(alloc, 101, 101)?;
-    expect_fault(&rt, alloc, too_deep.as_slice(), TooDeep(100));
-    let unclosed = opened_and_closed(alloc, 101, 0)?;
-    expect_fault(&rt, alloc, unclosed.as_slice(), TooDeep(100));
-    let unclosed = opened_and_closed(alloc, 100, 99)?;
-    expect_fault(&rt, alloc, unclosed.as_slice(), Truncated(199));
-    Ok(())
-}
-
-#[test]
-fn elements(rt: HostRuntime) -> Result<(), Fail> {
-    let alloc = rt.alloc();
-    let mut tuple = Tuple::new(alloc);
-    let mut input = Vec::new(alloc);
-    expect_tuple(&rt, alloc, b"", &tuple)?;
+// The first place of `PACKED` whose bytes are not those of its element alone.
+fn first_other_element(alloc: Global) -> Option<usize> {
     for (place, bytes) in PACKED.iter().enumerate() {
-        expect_tuple(&rt, alloc, bytes, &tuple_of(alloc, element(alloc, place)?)?)?;
-        tuple.push(element(alloc, place)?)?;
-        input.extend_from_slice(bytes)?;
+        if !spells_place(alloc, place, bytes) {
+            return Some(place);
+        }
     }
-    expect_tuple(&rt, alloc, input.as_slice(), &tuple)
+    None
+}
+
+// The tuple of all elements of `PACKED`.
+fn all_elements(alloc: Global) -> Option<Tuple> {
+    let mut tuple = Some(Tuple::new(alloc));
+    for place in 0..PACKED.len() {
+        tuple = longer(tuple, element(alloc, place));
+    }
+    tuple
+}
+
+fn all_packed(alloc: Global) -> Option<Vec<u8>> {
+    let mut all = Vec::new(alloc);
+    for bytes in PACKED {
+        all.extend_from_slice(bytes).ok()?;
+    }
+    Some(all)
+}
+
+fn are_all_spelled(alloc: Global) -> bool {
+    match (all_elements(alloc), all_packed(alloc)) {
+        (Some(tuple), Some(bytes)) => spells(alloc, bytes.as_slice(), &tuple),
+        _ => false,
+    }
 }
 
 #[test]
-fn integers(rt: HostRuntime) -> Result<(), Fail> {
-    let alloc = rt.alloc();
+fn elements(rt: HostRuntime) {
+    assert!(rt; spells(rt.alloc(), b"", &Tuple::new(rt.alloc())));
+    assert_eq!(rt; first_other_element(rt.alloc()), None);
+    assert!(rt; are_all_spelled(rt.alloc()));
+}
+
+// Whether a least magnitude, the one below it and both with their signs turned are packed in as many bytes as they have.
+fn are_numbers_packed(alloc: Global, least: i128, size_below: usize) -> bool {
+    let below = least.wrapping_sub(1);
+    let size = packed_size(size_below.wrapping_add(1));
+    is_number_packed(alloc, least, size)
+        && is_number_packed(alloc, least.wrapping_neg(), size)
+        && is_number_packed(alloc, below, packed_size(size_below))
+        && is_number_packed(alloc, below.wrapping_neg(), packed_size(size_below))
+}
+
+fn first_other_magnitude(alloc: Global) -> Option<usize> {
     for (size_below, least) in MAGNITUDES.iter().enumerate() {
-        let below = least.wrapping_sub(1);
-        let size = packed_size(size_below.wrapping_add(1));
-        expect_number(&rt, alloc, *least, size)?;
-        expect_number(&rt, alloc, least.wrapping_neg(), size)?;
-        expect_number(&rt, alloc, below, packed_size(size_below))?;
-        expect_number(&rt, alloc, below.wrapping_neg(), packed_size(size_below))?;
+        if !are_numbers_packed(alloc, *least, size_below) {
+            return Some(size_below);
+        }
     }
-    expect_number(&rt, alloc, i128::MAX, 18)?;
-    expect_number(&rt, alloc, i128::MIN, 18)
+    None
+}
+
+#[test]
+fn integers(rt: HostRuntime) {
+    assert_eq!(rt; first_other_magnitude(rt.alloc()), None);
+    assert!(rt; is_number_packed(rt.alloc(), i128::MAX, 18));
+    assert!(rt; is_number_packed(rt.alloc(), i128::MIN, 18));
 }

@@ -86,31 +86,68 @@ fn a_callback_after_the_value_runs_at_once(rt: HostRuntime) -> Result<(), Fail> 
     Ok(())
 }
 
+// What a cell showed whose callback was parked before the value was set.
+#[derive(Clone, Copy, Debug, PartialEq, Eq)]
+struct Told {
+    ready: Ready,
+    registered: Registered,
+    // What the waiter showed before the value was set.
+    shown: Option<u64>,
+    // How often the mark was raised before, and right after.
+    raised: (u64, u64),
+    // Whether setting the value ran the callback.
+    ran: bool,
+    // The value, and how many callbacks ran.
+    settled: (u64, u8),
+}
+
+fn told_where_parked(alloc: Global) -> Result<Told, AllocError> {
+    let (mark, raise) = mark(alloc)?;
+    let (setter, mut waiter) = pair(alloc)?;
+    let ready = waiter.on_ready(raise);
+    let registered = waiter.registered();
+    let shown = waiter.peek().copied();
+    let before = mark.load(Ordering::SeqCst);
+    let receipt = setter.set(7);
+    let after = mark.load(Ordering::SeqCst);
+    let ran = receipt.ran();
+    let settled = settle(receipt, waiter);
+    Ok(Told {
+        ready,
+        registered,
+        shown,
+        raised: (before, after),
+        ran,
+        settled: (*settled.value(), settled.ran()),
+    })
+}
+
 #[test]
 fn a_parked_callback_runs_inside_set(rt: HostRuntime) -> Result<(), Fail> {
-    let (mark, raise) = mark(rt.alloc())?;
-    let (setter, mut waiter) = pair(rt.alloc())?;
-    assert_eq!(rt; waiter.on_ready(raise), Ready::Parked);
-    assert_eq!(rt;
-        (waiter.registered(), waiter.peek().copied()),
-        (Registered::Parked, None)
-    );
-    assert_eq!(rt; mark.load(Ordering::SeqCst), 0);
-    let receipt = setter.set(7u64);
-    assert_eq!(rt; mark.load(Ordering::SeqCst), 1);
-    assert!(rt; receipt.ran());
-    let settled = settle(receipt, waiter);
-    assert_eq!(rt; (*settled.value(), settled.ran()), (7, 1));
+    let wanted = Told {
+        ready: Ready::Parked,
+        registered: Registered::Parked,
+        shown: None,
+        raised: (0, 1),
+        ran: true,
+        settled: (7, 1),
+    };
+    assert_eq!(rt; told_where_parked(rt.alloc())?, wanted);
     Ok(())
+}
+
+// What a waiter shows before the value is set, and then the value, and how many callbacks ran.
+fn told_without_a_callback(alloc: Global) -> Result<(Option<u64>, u64, u8), AllocError> {
+    let (setter, mut waiter) = pair::<u64, Raise>(alloc)?;
+    let shown = waiter.peek().copied();
+    let receipt = setter.set(7);
+    let settled = settle(receipt, waiter);
+    Ok((shown, *settled.value(), settled.ran()))
 }
 
 #[test]
 fn a_cell_settles_without_a_callback(rt: HostRuntime) -> Result<(), Fail> {
-    let (setter, mut waiter) = pair::<u64, Raise>(rt.alloc())?;
-    assert_eq!(rt; waiter.peek().copied(), None);
-    let receipt = setter.set(7);
-    let settled = settle(receipt, waiter);
-    assert_eq!(rt; (*settled.value(), settled.ran()), (7, 0));
+    assert_eq!(rt; told_without_a_callback(rt.alloc())?, (None, 7, 0));
     Ok(())
 }
 
