@@ -1,24 +1,37 @@
 -- How many commits a call makes, and how many lives it draws.
-use Rattle.std.proofs.Common.{◌≡◌, ℕ, ◌≤◌, ◌⊎◌, inl, inr, Bool, true, false, List, [], length, Option, Some, None, refl, sym, ap, subst, ◌∙◌, arith}
+use Rattle.std.proofs.Common.{◌≡◌, ℕ, ◌≤◌, ◌⊎◌, inl, inr, Bool, true, false, cond, List, [], ◌∷◌, ◌++◌, length, Option, Some, None, refl, sym, ap, subst, ◌∙◌, arith}
 use Rattle.database_rules.specs.declared.Code.{Code}
 use Rattle.fdb_calls.specs.declared.TxnCall.{TxnCall}
 use Rattle.fdb_calls.specs.declared.TxnCall.TheVariants as call
 use Rattle.database_rules.specs.declared.AtomicOp.{AtomicOp}
 use Rattle.database_rules.specs.declared.Phase.{Phase}
 use Rattle.database_rules.specs.declared.Phase.TheVariants as phase
-use Rattle.database_rules.specs.Atomics.{atomic_named}
-use Rattle.database_rules.specs.Databases.{Mutation, History, Commit, Set, Clear, ClearRange}
-use Rattle.database_rules.specs.Transactions.{Transaction, fresh, one_key_code, set_code, clear_range_code, atomic_code, commit_code, is_read_only, is_cancelled, is_retryable, with_version}
-use Rattle.fdb_calls.specs.Calling.{Called, called, get_by, write_by, atomic_by, commit_by, commit_allowed, commit_refused, on_error_by, error_handled}
+use Rattle.database_rules.specs.Databases.{Mutation, Set, Clear, ClearRange}
+use Rattle.database_rules.specs.Histories.{Setting, Commit}
+use Rattle.database_rules.specs.Reads.{Read}
+use Rattle.database_rules.specs.Reads as read
+use Rattle.database_rules.specs.Modes.{lacks_limit}
+use Rattle.database_rules.specs.Transactions.{Transaction, fresh, first_failing, read_code, set_code, clear_code, clear_range_code, atomic_code, operation_named, commit_code, is_read_only, is_cancelled, is_retryable, with_version, late_checks}
+use Rattle.fdb_calls.specs.Calling.{Called, called, is_fault, in_turn, logs, set_called, read_by, read_at_version, read_called, write_by, atomic_by, commit_by, commit_allowed, commit_refused, on_error_by, error_handled}
 
 -- it makes no commit, and draws one life at most
 record IsQuiet (called : Called) : Type 0 where
   pub commits : called.commits ≡ []
   pub lives : called.lives ≤ 1
 
-get_quiet : (code : Option ℕ) (history : History) (transaction : Transaction) (key : List ℕ) → IsQuiet (get_by code history transaction key)
-get_quiet (Some code) history transaction key = record { commits = refl; lives = omega arith }
-get_quiet None history transaction key = record { commits = refl; lives = omega arith }
+at_version_quiet : (code : Option ℕ) (setting : Setting) (transaction : Transaction) (snapshot : Bool) (read : Read)
+    → IsQuiet (read_at_version code setting transaction snapshot read)
+at_version_quiet (Some code) setting transaction snapshot read = record { commits = refl; lives = omega arith }
+at_version_quiet None setting transaction snapshot read = record { commits = refl; lives = omega arith }
+
+read_quiet : (setting : Setting) (transaction : Transaction) (lacks snapshot : Bool) (read : Read)
+    → IsQuiet (read_called setting transaction lacks snapshot read)
+read_quiet setting transaction lacks snapshot read = by_code (read_code transaction.phase lacks read)
+  where
+    by_code : (code : Option ℕ) → IsQuiet (read_by code setting transaction snapshot read)
+    by_code (Some code) = record { commits = refl; lives = omega arith }
+    by_code None = at_version_quiet (first_failing (late_checks setting (with_version setting transaction) read)) setting
+        (with_version setting transaction) snapshot read
 
 write_quiet : (code : Option ℕ) (transaction : Transaction) (mutation : Mutation) → IsQuiet (write_by code transaction mutation)
 write_quiet (Some code) transaction mutation = record { commits = refl; lives = omega arith }
@@ -50,76 +63,104 @@ refused_few phase.Active code transaction = record { commits = omega arith; live
 refused_few phase.Cancelled code transaction = record { commits = omega arith; lives = refl }
 refused_few (phase.Tried outcome) code transaction = record { commits = omega arith; lives = refl }
 
-allowed_few : (read_only : Bool) (history : History) (transaction : Transaction) → IsFew (commit_allowed read_only history transaction)
-allowed_few true history transaction = record { commits = omega arith; lives = refl }
-allowed_few false history transaction = record { commits = omega arith; lives = refl }
+allowed_few : (read_only : Bool) (setting : Setting) (transaction : Transaction) → IsFew (commit_allowed read_only setting transaction)
+allowed_few true setting transaction = record { commits = omega arith; lives = refl }
+allowed_few false setting transaction = record { commits = omega arith; lives = refl }
 
-commit_few : (code : Option ℕ) (history : History) (transaction : Transaction) → IsFew (commit_by code history transaction)
-commit_few (Some code) history transaction = refused_few transaction.phase code transaction
-commit_few None history transaction = allowed_few (is_read_only transaction) history transaction
+commit_few : (code : Option ℕ) (setting : Setting) (transaction : Transaction) → IsFew (commit_by code setting transaction)
+commit_few (Some code) setting transaction = refused_few transaction.phase code transaction
+commit_few None setting transaction = allowed_few (is_read_only transaction) setting transaction
 
-pub commit_commits : (history : History) (life : ℕ) (transaction : Transaction)
-    → length (called history life transaction call.Commit).commits ≤ 1
+pub commit_commits : (setting : Setting) (life : ℕ) (transaction : Transaction)
+    → length (called setting life transaction call.Commit).commits ≤ 1
 unfolding called
-commit_commits history life transaction = (commit_few (commit_code transaction) history transaction).commits
+commit_commits setting life transaction = (commit_few (commit_code transaction.phase (is_read_only transaction) transaction.size) setting transaction).commits
 
-pub commit_lives : (history : History) (life : ℕ) (transaction : Transaction) → (called history life transaction call.Commit).lives ≡ 0
+pub commit_lives : (setting : Setting) (life : ℕ) (transaction : Transaction) → (called setting life transaction call.Commit).lives ≡ 0
 unfolding called
-commit_lives history life transaction = (commit_few (commit_code transaction) history transaction).lives
+commit_lives setting life transaction = (commit_few (commit_code transaction.phase (is_read_only transaction) transaction.size) setting transaction).lives
 
 -- a call but a commit
-quiet_or_commit : (history : History) (life : ℕ) (transaction : Transaction) (its_call : TxnCall)
-    → (IsQuiet (called history life transaction its_call)) ⊎ (its_call ≡ call.Commit)
+quiet_or_commit : (setting : Setting) (life : ℕ) (transaction : Transaction) (its_call : TxnCall)
+    → (IsQuiet (called setting life transaction its_call)) ⊎ (its_call ≡ call.Commit)
 unfolding called
-quiet_or_commit history life transaction (call.Get key snapshot) = inl (get_quiet (one_key_code transaction key) history transaction key)
-quiet_or_commit history life transaction (call.Set key value) =
-    inl (write_quiet (set_code transaction key value) transaction (Set key value))
-quiet_or_commit history life transaction (call.Clear key) = inl (write_quiet (one_key_code transaction key) transaction (Clear key))
-quiet_or_commit history life transaction (call.ClearRange range) =
-    inl (write_quiet (clear_range_code transaction range.begin range.end) transaction (ClearRange range.begin range.end))
-quiet_or_commit history life transaction (call.Atomic name key operand) =
-    inl (atomic_quiet (atomic_code transaction name key operand) (atomic_named name) transaction key operand)
-quiet_or_commit history life transaction call.Commit = inr refl
-quiet_or_commit history life transaction (call.OnError code) = inl (on_error_quiet (is_cancelled transaction.phase) life transaction code)
-quiet_or_commit history life transaction call.Reset = inl (record { commits = refl; lives = omega arith })
-quiet_or_commit history life transaction call.Cancel = inl (record { commits = refl; lives = omega arith })
+quiet_or_commit setting life transaction (call.Get key snapshot) = inl (read_quiet setting transaction false snapshot (read.Get key))
+quiet_or_commit setting life transaction (call.GetKey selector snapshot) = inl (read_quiet setting transaction false snapshot (read.GetKey selector))
+quiet_or_commit setting life transaction (call.GetRange begin end limit reverse mode snapshot) =
+    inl (read_quiet setting transaction (lacks_limit mode limit) snapshot (read.GetRange begin end limit reverse))
+quiet_or_commit setting life transaction (call.GetKeyRange range limit reverse mode snapshot) =
+    inl (read_quiet setting transaction (lacks_limit mode limit) snapshot (read.GetKeyRange range.begin range.end limit reverse))
+quiet_or_commit setting life transaction (call.Set key value) =
+    inl (write_quiet (set_code transaction.phase key value) transaction (Set key value))
+quiet_or_commit setting life transaction (call.Clear key) = inl (write_quiet (clear_code transaction.phase key) transaction (Clear key))
+quiet_or_commit setting life transaction (call.ClearRange range) =
+    inl (write_quiet (clear_range_code transaction.phase range.begin range.end) transaction (ClearRange range.begin range.end))
+quiet_or_commit setting life transaction (call.Atomic name key operand) =
+    inl (atomic_quiet (atomic_code transaction.phase name key operand) (operation_named name) transaction key operand)
+quiet_or_commit setting life transaction call.Commit = inr refl
+quiet_or_commit setting life transaction (call.OnError code) = inl (on_error_quiet (is_cancelled transaction.phase) life transaction code)
+quiet_or_commit setting life transaction call.Reset = inl (record { commits = refl; lives = omega arith })
+quiet_or_commit setting life transaction call.Cancel = inl (record { commits = refl; lives = omega arith })
 
-pub few_commits : (history : History) (life : ℕ) (transaction : Transaction) (its_call : TxnCall)
-    → length (called history life transaction its_call).commits ≤ 1
-few_commits history life transaction its_call = by_quiet (quiet_or_commit history life transaction its_call)
+pub few_commits : (setting : Setting) (life : ℕ) (transaction : Transaction) (its_call : TxnCall)
+    → length (called setting life transaction its_call).commits ≤ 1
+few_commits setting life transaction its_call = by_quiet (quiet_or_commit setting life transaction its_call)
   where
     none_few : (commits : List Commit) → commits ≡ [] → length commits ≤ 1
     none_few commits e = subst (λ cs. length cs ≤ 1) (sym e) (omega arith)
 
-    by_quiet : (IsQuiet (called history life transaction its_call)) ⊎ (its_call ≡ call.Commit)
-        → length (called history life transaction its_call).commits ≤ 1
-    by_quiet (inl is) = none_few (called history life transaction its_call).commits is.commits
-    by_quiet (inr e) = subst (λ c. length (called history life transaction c).commits ≤ 1) (sym e) (commit_commits history life transaction)
+    by_quiet : (IsQuiet (called setting life transaction its_call)) ⊎ (its_call ≡ call.Commit)
+        → length (called setting life transaction its_call).commits ≤ 1
+    by_quiet (inl is) = none_few (called setting life transaction its_call).commits is.commits
+    by_quiet (inr e) = subst (λ c. length (called setting life transaction c).commits ≤ 1) (sym e) (commit_commits setting life transaction)
 
-pub few_lives : (history : History) (life : ℕ) (transaction : Transaction) (its_call : TxnCall)
-    → (called history life transaction its_call).lives ≤ 1
-few_lives history life transaction its_call = by_quiet (quiet_or_commit history life transaction its_call)
+pub few_lives : (setting : Setting) (life : ℕ) (transaction : Transaction) (its_call : TxnCall)
+    → (called setting life transaction its_call).lives ≤ 1
+few_lives setting life transaction its_call = by_quiet (quiet_or_commit setting life transaction its_call)
   where
     none_few : (n : ℕ) → n ≡ 0 → n ≤ 1
     none_few n e = omega arith
 
-    by_quiet : (IsQuiet (called history life transaction its_call)) ⊎ (its_call ≡ call.Commit)
-        → (called history life transaction its_call).lives ≤ 1
+    by_quiet : (IsQuiet (called setting life transaction its_call)) ⊎ (its_call ≡ call.Commit)
+        → (called setting life transaction its_call).lives ≤ 1
     by_quiet (inl is) = is.lives
     by_quiet (inr e) =
-        subst (λ c. (called history life transaction c).lives ≤ 1) (sym e) (none_few _ (commit_lives history life transaction))
+        subst (λ c. (called setting life transaction c).lives ≤ 1) (sym e) (none_few _ (commit_lives setting life transaction))
 
 -- a transaction without a mutation commits nothing
-empty_commits : (history : History) (life n : ℕ) → (called history life (with_version history (fresh n)) call.Commit).commits ≡ []
+empty_commits : (setting : Setting) (life n : ℕ) → (called setting life (with_version setting (fresh n)) call.Commit).commits ≡ []
 unfolding called commit_code
-empty_commits history life n = refl
+empty_commits setting life n = refl
 
 -- a first call on a transaction of its own makes no commit
-pub first_commits : (history : History) (life n : ℕ) (its_call : TxnCall)
-    → (called history life (with_version history (fresh n)) its_call).commits ≡ []
-first_commits history life n its_call = by_quiet (quiet_or_commit history life (with_version history (fresh n)) its_call)
+pub first_commits : (setting : Setting) (life n : ℕ) (its_call : TxnCall)
+    → (called setting life (with_version setting (fresh n)) its_call).commits ≡ []
+first_commits setting life n its_call = by_quiet (quiet_or_commit setting life (with_version setting (fresh n)) its_call)
   where
-    by_quiet : (IsQuiet (called history life (with_version history (fresh n)) its_call)) ⊎ (its_call ≡ call.Commit)
-        → (called history life (with_version history (fresh n)) its_call).commits ≡ []
+    by_quiet : (IsQuiet (called setting life (with_version setting (fresh n)) its_call)) ⊎ (its_call ≡ call.Commit)
+        → (called setting life (with_version setting (fresh n)) its_call).commits ≡ []
     by_quiet (inl is) = is.commits
-    by_quiet (inr e) = ap (λ c. (called history life (with_version history (fresh n)) c).commits) e ∙ empty_commits history life n
+    by_quiet (inr e) = ap (λ c. (called setting life (with_version setting (fresh n)) c).commits) e ∙ empty_commits setting life n
+
+-- ---- writes one after the other
+
+-- it makes no commit, and draws no life
+pub record IsInPlace (called : Called) : Type 0 where
+  pub commits : called.commits ≡ []
+  pub lives : called.lives ≡ 0
+
+write_in_place : (code : Option ℕ) (transaction : Transaction) (mutation : Mutation) → IsInPlace (write_by code transaction mutation)
+write_in_place (Some code) transaction mutation = record { commits = refl; lives = refl }
+write_in_place None transaction mutation = record { commits = refl; lives = refl }
+
+by_fault : (b : Bool) (first rest : Called) → IsInPlace first → IsInPlace rest → IsInPlace (cond b first rest)
+by_fault true first rest place other = place
+by_fault false first rest place other = other
+
+pub logs_in_place : (prefix : List ℕ) (entries : List (List ℕ × List ℕ)) (transaction : Transaction)
+    → IsInPlace (in_turn (logs prefix entries) transaction)
+logs_in_place prefix [] transaction = record { commits = refl; lives = refl }
+logs_in_place prefix (entry ∷ entries) transaction =
+    by_fault (is_fault (set_called transaction (prefix ++ entry.0) entry.1).reply) (set_called transaction (prefix ++ entry.0) entry.1) _
+    (write_in_place (set_code transaction.phase (prefix ++ entry.0) entry.1) transaction (Set (prefix ++ entry.0) entry.1))
+    (logs_in_place prefix entries (set_called transaction (prefix ++ entry.0) entry.1).transaction)

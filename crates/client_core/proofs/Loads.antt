@@ -1,17 +1,19 @@
 -- A store of the first version alone stands for the beginning.
-use Rattle.std.proofs.Common.{◌≡◌, ℕ, zero, suc, ◌≤◌, List, [], ◌∷◌, sym, subst, arith}
+use Rattle.std.proofs.Common.{◌≡◌, ℕ, zero, suc, ◌≤◌, List, [], ◌∷◌, Option, None, sym, subst, arith}
 use Rattle.std.specs.FinMap as finite
 use Rattle.key_bytes.specs.Keys.{key_cmp}
-use Rattle.database_rules.specs.Databases.{do_all, loaded, at}
+use Rattle.database_rules.specs.Databases.{do_all}
+use Rattle.database_rules.specs.Histories.{loaded, at}
 use Rattle.version_store.specs.Versions as versions
 use Rattle.version_store.specs.Versions.{Versions, last_of}
-use Rattle.machine_rules.specs.Worlds.{Transactions, begun}
-use Rattle.txn_core.specs.Stands.{Keeps}
-use Rattle.client_core.specs.Stands.{CoreModel, StandsFor, AreAlike}
+use Rattle.database_rules.specs.Transactions.{Transaction}
+use Rattle.machine_rules.specs.Worlds.{begun}
+use Rattle.txn_core.specs.Stands.{Kept, Keeps}
+use Rattle.client_core.specs.Stands.{CoreModel, KeptTransactions, StandsFor, AreAlike}
 
 -- the store keeps the history of the first commit
 pub first_kept : (store : Versions) (pairs : List (List ℕ × List ℕ)) → last_of store ≡ 1 → versions.at store 0 ≡ finite.empty
-    → versions.at store 1 ≡ do_all (loaded pairs).mutations finite.empty → Keeps store (loaded pairs ∷ [])
+    → versions.at store 1 ≡ do_all (loaded pairs).mutations finite.empty → Keeps store (record { history = loaded pairs ∷ [] })
 first_kept store pairs last empty first = record { last_is = last; at_is = by_version }
   where
     by_version : (version : ℕ) → version ≤ 1 → versions.at store version ≡ at (loaded pairs ∷ []) version
@@ -20,14 +22,16 @@ first_kept store pairs last empty first = record { last_is = last; at_is = by_ve
     by_version (suc (suc n)) within = absurd (omega arith)
 
 -- a store of the first version, and no transaction, stand for the beginning
-pub begun_stands : (core : CoreModel) (pairs : List (List ℕ × List ℕ)) (words : ℕ → ℕ) → Keeps core.store (loaded pairs ∷ [])
+pub begun_stands : (core : CoreModel) (pairs : List (List ℕ × List ℕ)) (words : ℕ → ℕ) → Keeps core.store (record { history = loaded pairs ∷ [] })
     → core.transactions ≡ finite.empty → core.next_life ≡ 0
     → StandsFor core (begun pairs words)
 begun_stands core pairs words keeps none life = record {
   keeps = keeps;
   transactions = λ name.
       let nothing = finite.get-empty key_cmp name in
-      subst (λ (m : Transactions). AreAlike (finite.get m name) (finite.get (begun pairs words).transactions name)) (sym none)
-      (subst (λ o. AreAlike o o) (sym nothing) tt);
+      let other = finite.get-empty key_cmp name in
+      subst (λ (m : KeptTransactions). AreAlike (finite.get m name) (finite.get (begun pairs words).transactions name)) (sym none)
+      (subst (λ (o : Option Kept). AreAlike o (finite.get (begun pairs words).transactions name)) (sym nothing)
+      (subst (λ (o : Option Transaction). AreAlike None o) (sym other) tt));
   next_life = life;
 }

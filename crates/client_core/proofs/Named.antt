@@ -8,34 +8,34 @@ use Rattle.std.specs.Cmp.Lexicographic.{nat_list_cmp_total}
 use mir.Val.{bool_byte}
 use Rattle.fdb_calls.specs.declared.TxnCall.{TxnCall}
 use Rattle.key_bytes.specs.Keys.{key_cmp}
-use Rattle.database_rules.specs.Databases.{History}
+use Rattle.database_rules.specs.Histories.{Setting}
 use Rattle.database_rules.specs.Transactions.{Transaction, fresh}
 use Rattle.fdb_calls.specs.Calling.{called}
 use Rattle.machine_rules.specs.Worlds.{World, Transactions, transaction_of, call_named, with_new, with_named}
 use Rattle.txn_core.specs.Stands as txn
 use Rattle.txn_core.specs.declared.answer.Answer.{Answer}
-use Rattle.client_core.specs.Stands.{CoreModel, StandsFor, AreAlike}
+use Rattle.client_core.specs.Stands.{CoreModel, KeptTransactions, StandsFor, AreAlike}
 use Rattle.client_core.specs.Sound.{Took}
 
 same_key : (name : List ℕ) → eq_by_cmp key_cmp name name ≡ true
 same_key name = (eq_by_cmp_equiv nat_list_cmp_total).refl name
 
 -- each name has transactions that are alike
-abbrev pub AllAlike : Transactions → Transactions → Type 0
+abbrev pub AllAlike : KeptTransactions → Transactions → Type 0
 AllAlike kept transactions = (name : List ℕ) → AreAlike (finite.get kept name) (finite.get transactions name)
 
-pub there_inserted : (transactions : Transactions) (name : List ℕ) (transaction : Transaction)
+pub there_inserted : (transactions : KeptTransactions) (name : List ℕ) (transaction : txn.Kept)
     → IsSome (finite.get (finite.insert transactions name transaction) name)
 there_inserted transactions name transaction =
     ap is_some (finite.get-insert nat_list_cmp_total transactions name transaction name)
     ∙ ap (λ b. is_some (cond b (Some transaction) (finite.get transactions name))) (same_key name)
 
-alike_cond : (b : Bool) (kept transaction : Transaction) (x y : Option Transaction) → txn.StandsFor kept transaction → AreAlike x y
+alike_cond : (b : Bool) (kept : txn.Kept) (transaction : Transaction) (x : Option txn.Kept) (y : Option Transaction) → txn.StandsFor kept transaction → AreAlike x y
     → AreAlike (cond b (Some kept) x) (cond b (Some transaction) y)
 alike_cond true kept transaction x y stands alike = stands
 alike_cond false kept transaction x y stands alike = alike
 
-pub alike_inserted : (m w : Transactions) (name : List ℕ) (kept transaction : Transaction) → txn.StandsFor kept transaction → AllAlike m w
+pub alike_inserted : (m : KeptTransactions) (w : Transactions) (name : List ℕ) (kept : txn.Kept) (transaction : Transaction) → txn.StandsFor kept transaction → AllAlike m w
     → AllAlike (finite.insert m name kept) (finite.insert w name transaction)
 alike_inserted m w name kept transaction stands alike = λ q.
     let both = alike_cond (eq_by_cmp key_cmp q name) kept transaction (finite.get m q) (finite.get w q) stands (alike q) in
@@ -44,20 +44,20 @@ alike_inserted m w name kept transaction stands alike = λ q.
     (sym (finite.get-insert nat_list_cmp_total w name transaction q)) both)
 
 -- a transaction of a new life under a name
-pub new_stands : (core : CoreModel) (world : World) (name : List ℕ) (kept : Transaction) (after : CoreModel) → StandsFor core world
+pub new_stands : (core : CoreModel) (world : World) (name : List ℕ) (kept : txn.Kept) (after : CoreModel) → StandsFor core world
     → txn.StandsFor kept (fresh core.next_life)
     → after.store ≡ core.store → after.transactions ≡ finite.insert core.transactions name kept → after.next_life ≡ core.next_life + 1 →
     StandsFor after (with_new world name)
 new_stands core world name kept after stands fresh_one store transactions next_life = record {
-  keeps = subst (λ s. txn.Keeps s world.history) (sym store) stands.keeps;
-  transactions = subst (λ m. AllAlike m (finite.insert world.transactions name (fresh world.next_life))) (sym transactions)
+  keeps = subst (λ s. txn.Keeps s world.setting) (sym store) stands.keeps;
+  transactions = subst (λ (m : KeptTransactions). AllAlike m (finite.insert world.transactions name (fresh world.next_life))) (sym transactions)
       (alike_inserted core.transactions world.transactions name kept (fresh world.next_life)
       (subst (λ n. txn.StandsFor kept (fresh n)) stands.next_life fresh_one) stands.transactions);
   next_life = next_life ∙ ap (λ n. n + 1) stands.next_life;
 }
 
 -- alike transactions are there in both or in none
-pub alike_there : (x y : Option Transaction) → AreAlike x y → is_some x ≡ is_some y
+pub alike_there : (x : Option txn.Kept) (y : Option Transaction) → AreAlike x y → is_some x ≡ is_some y
 alike_there None None alike = refl
 alike_there None (Some y) alike = absurd alike
 alike_there (Some x) None alike = absurd alike
@@ -77,7 +77,7 @@ named_none core world name stands there =
     (sym (alike_there (finite.get core.transactions name) (finite.get world.transactions name) (stands.transactions name)) ∙ there)
 
 -- the transaction of a name is one that the kept one stands for
-pub found_stands : (kept fresh_one : Transaction) (x y : Option Transaction) → x ≡ Some kept → AreAlike x y
+pub found_stands : (kept : txn.Kept) (fresh_one : Transaction) (x : Option txn.Kept) (y : Option Transaction) → x ≡ Some kept → AreAlike x y
     → txn.StandsFor kept (unwrap_or y fresh_one)
 found_stands kept fresh_one None y e alike = absurd cc
 found_stands kept fresh_one (Some x) None e alike = absurd alike
@@ -89,23 +89,23 @@ byte_counts true = refl
 byte_counts false = refl
 
 -- a call on the transaction of a name, which is there, is the call of the step
-pub named_took : (core after : CoreModel) (world : World) (name : List ℕ) (call : TxnCall) (before left : Transaction) (answer : Answer)
+pub named_took : (core after : CoreModel) (world : World) (name : List ℕ) (call : TxnCall) (before left : txn.Kept) (answer : Answer)
     → finite.get core.transactions name ≡ Some before
     →
-    ((transaction : Transaction) (history : History) → txn.StandsFor before transaction → txn.Keeps core.store history → txn.Answers
-    answer left after.store history (called history core.next_life transaction call))
+    ((transaction : Transaction) (setting : Setting) → txn.StandsFor before transaction → txn.Keeps core.store setting → txn.Answers
+    answer left after.store setting (called setting core.next_life transaction call))
     → after.transactions ≡ finite.insert core.transactions name left → after.next_life ≡ core.next_life + cond answer.drew_life 1 0
     → StandsFor core world → Took answer.reply after (call_named world name call)
 named_took core after world name call before left answer found answers transactions next_life stands =
     let its = transaction_of world name in
     let stood = found_stands before (fresh world.next_life) (finite.get core.transactions name) (finite.get world.transactions name) found (stands.transactions name) in
-    let told = subst (λ n. txn.Answers answer left after.store world.history (called world.history n its call)) stands.next_life (answers its world.history stood stands.keeps) in
-    let made = called world.history world.next_life its call in
+    let told = subst (λ n. txn.Answers answer left after.store world.setting (called world.setting n its call)) stands.next_life (answers its world.setting stood stands.keeps) in
+    let made = called world.setting world.next_life its call in
     record {
       reply_is = told.reply;
       stands = record {
         keeps = told.keeps;
-        transactions = subst (λ m. AllAlike m (finite.insert world.transactions name made.transaction)) (sym transactions)
+        transactions = subst (λ (m : KeptTransactions). AllAlike m (finite.insert world.transactions name made.transaction)) (sym transactions)
             (alike_inserted core.transactions world.transactions name left made.transaction told.stands stands.transactions);
         next_life = next_life ∙ (λ i. stands.next_life i + told.lives i);
       };

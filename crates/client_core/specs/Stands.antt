@@ -3,21 +3,26 @@ use Rattle.std.specs.Prelude.{◌≡◌, ℕ, ⊤, List, Option, Some, None}
 use Rattle.std.specs.FinMap as finite
 use Rattle.fdb_calls.specs.declared.Reply.{Reply}
 use Rattle.fdb_calls.specs.declared.Reply.TheVariants as reply
+use Rattle.key_bytes.specs.Keys.{key_cmp}
 use Rattle.database_rules.specs.Transactions.{Transaction}
-use Rattle.machine_rules.specs.Worlds.{World, Transactions, Stepped, HasWords}
+use Rattle.machine_rules.specs.Worlds.{World, Stepped, HasWords}
 use Rattle.version_store.specs.Versions.{Versions}
 use Rattle.txn_core.specs.Stands as txn
+
+-- what is kept of transactions, by their names
+abbrev pub KeptTransactions : Type 0
+KeptTransactions = finite.FinMap key_cmp txn.Kept
 
 -- what a core keeps: the store of its versions, the transactions by name, the number of the next life, and how many
 -- requests it took
 pub record CoreModel : Type 0 where
   pub store : Versions
-  pub transactions : Transactions
+  pub transactions : KeptTransactions
   pub next_life : ℕ
   pub applied : ℕ
 
 -- both are none, or the first stands for the second
-abbrev pub AreAlike : Option Transaction → Option Transaction → Type 0
+abbrev pub AreAlike : Option txn.Kept → Option Transaction → Type 0
 AreAlike None None = ⊤
 AreAlike None (Some transaction) = ⊥
 AreAlike (Some kept) None = ⊥
@@ -26,7 +31,7 @@ AreAlike (Some kept) (Some transaction) = txn.StandsFor kept transaction
 -- A core stands for each world whose history its store keeps, which has the number of its next life, and in which each
 -- name has a transaction that the core's stands for, or none where the core has none.
 pub record StandsFor (core : CoreModel) (world : World) : Type 0 where
-  pub keeps : txn.Keeps core.store world.history
+  pub keeps : txn.Keeps core.store world.setting
   pub transactions : (name : List ℕ) → AreAlike (finite.get core.transactions name) (finite.get world.transactions name)
   pub next_life : core.next_life ≡ world.next_life
 
@@ -36,6 +41,10 @@ abbrev pub Answers : Reply → CoreModel → (ℕ → ℕ) → Stepped → Type 
 Answers reply.Done core words stepped = (stepped.reply ≡ reply.Done) × StandsFor core stepped.world × HasWords stepped.world words
 Answers (reply.Value value) core words stepped =
     (stepped.reply ≡ reply.Value value) × StandsFor core stepped.world × HasWords stepped.world words
+Answers (reply.KeyIs key) core words stepped =
+    (stepped.reply ≡ reply.KeyIs key) × StandsFor core stepped.world × HasWords stepped.world words
+Answers (reply.PairsAre pairs) core words stepped =
+    (stepped.reply ≡ reply.PairsAre pairs) × StandsFor core stepped.world × HasWords stepped.world words
 Answers (reply.Fault code) core words stepped =
     (stepped.reply ≡ reply.Fault code) × StandsFor core stepped.world × HasWords stepped.world words
 Answers reply.NoMemory core words stepped = ⊤

@@ -3,18 +3,18 @@
 ghost use Rattle.std.specs.Prelude.{◌≡◌, ◌+◌, ◌-◌, ◌<◌, ◌≤◌, ◌^◌, if◌then◌else◌, IsSome, IfOk, OnOk};
 ghost use Rattle.std.specs.FinMap as finite;
 ghost use Rattle.database_rules.specs.Transactions.{Transaction};
-ghost use Rattle.fdb_calls.specs.declared.Request.TheVariants.{Database};
+ghost use Rattle.fdb_calls.specs.declared.Request.TheVariants.{Database, Log};
 ghost use Rattle.fdb_calls.specs.declared.Reply.TheVariants.{Done};
-ghost use Rattle.fdb_calls.specs.Calling.{called};
-ghost use Rattle.machine_rules.specs.Worlds.{World, with_new, with_named, call_named, is_fault, step};
+ghost use Rattle.fdb_calls.specs.Calling.{Called, called, is_fault};
+ghost use Rattle.machine_rules.specs.Worlds.{World, with_new, with_named, call_named, and_commit, step};
 ghost use Rattle.version_store.specs.Versions.{last_of};
 ghost use Rattle.client_core.specs.Stands.{StandsFor};
 ghost use Rattle.txn_core.specs.Stands as txn;
-ghost use Rattle.client_core.specs.Sound.{IsSound, Took, TookApart};
+ghost use Rattle.client_core.specs.Sound.{IsSound, Took, TookApart, FirstTook, Replies};
 ghost use Rattle.client_core.specs.Contents.{model_of};
 
-use fdb_calls::{Reply, Request, TxnCall};
-use key_bytes::Bytes;
+use fdb_calls::{Reply, Request, TrFault, TxnCall};
+use key_bytes::{Bytes, Pairs};
 use key_map::KeyMap;
 use std::alloc::{AllocError, Global};
 use txn_core::Txn;
@@ -43,6 +43,7 @@ impl Contents {
             Request::New { name } => self.make_new(name),
             Request::On { name, call } => self.call_made(name, call),
             Request::Database { call } => self.call_database(call),
+            Request::Log { prefix, entries } => self.log(prefix, entries),
         }
     }
 
@@ -114,6 +115,30 @@ impl Contents {
         let mut transaction = Txn::at_last(self.alloc, self.next_life, &self.store);
         self.next_life += 1;
         let reply = self.call_apart(&mut transaction, call)?;
+        self.commit_apart(transaction, reply)
+    }
+
+    // Writes entries under a prefix on a transaction of its own at the last version, which is then committed.
+    fn log(&mut self, prefix: &Bytes, entries: &Pairs) -> Result<Reply, AllocError>
+        requires { IsSound (model_of self.old) (2 ^ 62) (2 ^ 63) }
+        ensures step { IfOk result (λ reply. (world : World) → StandsFor (model_of self.old) world
+            → Took reply (model_of self.new) (step world (Log prefix.now entries.now))) }
+        ensures applied { self.new.applied ≡ self.old.applied }
+    {
+        let mut transaction = Txn::at_last(self.alloc, self.next_life, &self.store);
+        self.next_life += 1;
+        let reply = reply_to_writes(transaction.log(prefix, entries))?;
+        self.commit_apart(transaction, reply)
+    }
+
+    // Commits a transaction that stands under no name, where its calls were not refused: their reply, or the commit's fault.
+    fn commit_apart(&mut self, mut transaction: Txn, reply: Reply) -> Result<Reply, AllocError>
+        requires few_commits { last_of self.old.store < 2 ^ 63 }
+        requires few_lives { self.old.next_life < 2 ^ 64 - 1 }
+        ensures step { IfOk result (λ answered. (world : World) (made : Called) → FirstTook reply transaction (model_of self.old) world made
+            → Took answered (model_of self.new) (and_commit world made)) }
+        ensures applied { self.new.applied ≡ self.old.applied }
+    {
         if is_fault(&reply) {
             return Ok(reply);
         }
@@ -127,12 +152,23 @@ impl Contents {
         requires few_lives { self.old.next_life < 2 ^ 64 - 1 }
         ensures step { IfOk result (λ reply. (t : Transaction) (world : World) → txn.StandsFor transaction.old t
             → StandsFor (model_of self.old) world
-            → TookApart reply transaction.new (model_of self.new) world (called world.history world.next_life t call.now)) }
+            → TookApart reply transaction.new (model_of self.new) world (called world.setting world.next_life t call.now)) }
         ensures applied { self.new.applied ≡ self.old.applied }
     {
         let answer = transaction.call(&mut self.store, call, self.next_life)?;
         self.next_life += u64::from(answer.drew_life);
         Ok(answer.reply)
+    }
+}
+
+// The reply to writes; want of memory has none.
+fn reply_to_writes(written: Result<(), TrFault>) -> Result<Reply, AllocError>
+    ensures { IfOk result (Replies written) }
+{
+    match written {
+        Ok(()) => Ok(Reply::Done),
+        Err(TrFault::Code(code)) => Ok(Reply::Fault(code)),
+        Err(TrFault::NoMemory) => Err(AllocError),
     }
 }
 

@@ -9,7 +9,8 @@
 
 mod contents;
 mod core_state;
-#[cfg(test)]
-mod tests;
 
 pub use core_state::Core;
+
+#[cfg(test)]
+mod tests;

@@ -1,32 +1,53 @@
 use super::*;
-use database_rules::Code;
+use asks::{Ask, Say, bytes_of, range_of, request_of};
+use database_rules::{Code, Mode, Selector};
 use fdb_calls::{Reply, Request, TxnCall};
 use key_bytes::{Bytes, KeyRange, Pair, Pairs};
 use outside::Words;
 use std::alloc::{AllocError, Global};
 use std::test::Fail;
 
+mod asks;
 mod beside;
+mod draws;
 mod limits;
 mod plain;
+mod plain_atoms;
+mod plain_reads;
+mod reads;
 
-// What a request is answered, as a test writes it.
+// What a request is answered, as a test writes it. Pairs are spelled.
 #[derive(Clone, Copy, PartialEq, Eq)]
 enum Told<'a> {
     Done,
     Nothing,
     Value(&'a [u8]),
+    Key(&'a [u8]),
+    Pairs(&'a [u8]),
     Fault(u16),
     NoMemory,
 }
 
-fn tell(reply: &Reply) -> Told<'_> {
+// None where it is pairs.
+fn tell(reply: &Reply) -> Option<Told<'_>> {
     match reply {
-        Reply::Done => Told::Done,
-        Reply::Value(None) => Told::Nothing,
-        Reply::Value(Some(value)) => Told::Value(value.as_slice()),
-        Reply::Fault(code) => Told::Fault(code.0),
-        Reply::NoMemory => Told::NoMemory,
+        Reply::Done => Some(Told::Done),
+        Reply::Value(None) => Some(Told::Nothing),
+        Reply::Value(Some(value)) => Some(Told::Value(value.as_slice())),
+        Reply::KeyIs(key) => Some(Told::Key(key.as_slice())),
+        Reply::PairsAre(_) => None,
+        Reply::Fault(code) => Some(Told::Fault(code.0)),
+        Reply::NoMemory => Some(Told::NoMemory),
+    }
+}
+
+// Whether a reply is this.
+fn is_told(alloc: Global, reply: &Reply, wanted: Told<'_>) -> Result<bool, AllocError> {
+    match (reply, wanted) {
+        (Reply::PairsAre(pairs), Told::Pairs(text)) => {
+            Ok(spelled(alloc, pairs)?.as_slice() == text)
+        }
+        _ => Ok(tell(reply) == Some(wanted)),
     }
 }
 
@@ -50,102 +71,8 @@ fn apply(core: &mut Core, request: &Request) -> Reply {
     core.apply(0, request, &mut Zeros)
 }
 
-// A call, as a test writes it. The long ones have keys and values of so many bytes.
-#[derive(Clone, Copy)]
-enum Say {
-    Get(&'static [u8]),
-    Set(&'static [u8], &'static [u8]),
-    LongSet(usize, usize),
-    Clear(&'static [u8]),
-    LongClear(usize),
-    ClearRange(&'static [u8], &'static [u8]),
-    LongClearRange(usize, usize),
-    Atomic(&'static [u8], &'static [u8], &'static [u8]),
-    LongAdd(usize, usize),
-    Commit,
-    OnError(u16),
-    Reset,
-    Cancel,
-}
-
-// A request, as a test writes it.
-#[derive(Clone, Copy)]
-enum Ask {
-    New(&'static [u8]),
-    On(&'static [u8], Say),
-    Database(Say),
-}
-
 // A request, what it is answered, and the last version after it.
 type Row = (Ask, Told<'static>, u64);
-
-fn range_of(alloc: Global, begin: &[u8], end: &[u8]) -> Result<KeyRange, AllocError> {
-    let begin = Bytes::from_slice(alloc, begin)?;
-    let end = Bytes::from_slice(alloc, end)?;
-    Ok(KeyRange { begin, end })
-}
-
-fn set_of(alloc: Global, key: &[u8], value: &[u8]) -> Result<TxnCall, AllocError> {
-    let key = Bytes::from_slice(alloc, key)?;
-    let value = Bytes::from_slice(alloc, value)?;
-    Ok(TxnCall::Set { key, value })
-}
-
-fn atomic_of(
-    alloc: Global,
-    name: &[u8],
-    key: &[u8],
-    operand: &[u8],
-) -> Result<TxnCall, AllocError> {
-    let name = Bytes::from_slice(alloc, name)?;
-    let key = Bytes::from_slice(alloc, key)?;
-    let operand = Bytes::from_slice(alloc, operand)?;
-    Ok(TxnCall::Atomic { name, key, operand })
-}
-
-fn call_of(alloc: Global, say: Say) -> Result<TxnCall, AllocError> {
-    Ok(match say {
-        Say::Get(key) => TxnCall::Get {
-            key: Bytes::from_slice(alloc, key)?,
-            snapshot: false,
-        },
-        Say::Set(key, value) => set_of(alloc, key, value)?,
-        Say::LongSet(key, value) => limits::long_set(alloc, key, value)?,
-        Say::Clear(key) => TxnCall::Clear {
-            key: Bytes::from_slice(alloc, key)?,
-        },
-        Say::LongClear(key) => TxnCall::Clear {
-            key: limits::long(alloc, key)?,
-        },
-        Say::ClearRange(begin, end) => TxnCall::ClearRange {
-            range: range_of(alloc, begin, end)?,
-        },
-        Say::LongClearRange(begin, end) => TxnCall::ClearRange {
-            range: limits::long_range(alloc, begin, end)?,
-        },
-        Say::Atomic(name, key, operand) => atomic_of(alloc, name, key, operand)?,
-        Say::LongAdd(key, operand) => limits::long_add(alloc, key, operand)?,
-        Say::Commit => TxnCall::Commit,
-        Say::OnError(code) => TxnCall::OnError { code: Code(code) },
-        Say::Reset => TxnCall::Reset,
-        Say::Cancel => TxnCall::Cancel,
-    })
-}
-
-fn request_of(alloc: Global, ask: Ask) -> Result<Request, AllocError> {
-    Ok(match ask {
-        Ask::New(name) => Request::New {
-            name: Bytes::from_slice(alloc, name)?,
-        },
-        Ask::On(name, say) => Request::On {
-            name: Bytes::from_slice(alloc, name)?,
-            call: call_of(alloc, say)?,
-        },
-        Ask::Database(say) => Request::Database {
-            call: call_of(alloc, say)?,
-        },
-    })
-}
 
 // Whether a request is answered so, is counted, and leaves this last version.
 fn is_answered(alloc: Global, core: &mut Core, row: Row) -> Result<bool, AllocError> {
@@ -153,7 +80,11 @@ fn is_answered(alloc: Global, core: &mut Core, row: Row) -> Result<bool, AllocEr
     let request = request_of(alloc, ask)?;
     let applied = core.applied();
     let reply = apply(core, &request);
-    Ok(tell(&reply) == wanted && core.last() == last && core.applied() == applied.saturating_add(1))
+    Ok(
+        core.last() == last
+            && core.applied() == applied.saturating_add(1)
+            && is_told(alloc, &reply, wanted)?,
+    )
 }
 
 // The place of the first request that is answered otherwise.
@@ -166,18 +97,30 @@ fn first_wrong(alloc: Global, core: &mut Core, rows: &[Row]) -> Result<Option<us
     Ok(None)
 }
 
-fn pair_of(alloc: Global, key: &[u8], value: &[u8]) -> Result<Pair, AllocError> {
-    let key = Bytes::from_slice(alloc, key)?;
-    let value = Bytes::from_slice(alloc, value)?;
+type Loaded = (&'static [u8], &'static [u8]);
+
+fn pair_of(alloc: Global, loaded: Loaded) -> Result<Pair, AllocError> {
+    let key = bytes_of(alloc, loaded.0)?;
+    let value = bytes_of(alloc, loaded.1)?;
     Ok(Pair { key, value })
 }
 
-fn new_core(alloc: Global) -> Result<Core, AllocError> {
+fn pairs_of(alloc: Global, loaded: &[Loaded]) -> Result<Pairs, AllocError> {
     let mut pairs = Pairs::new(alloc);
-    for (key, value) in [(b"b", b"1"), (b"a", b"2"), (b"b", b"3")] {
-        pairs.push(pair_of(alloc, key, value)?)?;
+    for pair in loaded {
+        pairs.push(pair_of(alloc, *pair)?)?;
     }
-    Core::load(alloc, pairs)
+    Ok(pairs)
+}
+
+fn core_of(alloc: Global, loaded: &[Loaded]) -> Result<Core, AllocError> {
+    Core::load(alloc, pairs_of(alloc, loaded)?)
+}
+
+const TWO: &[Loaded] = &[(b"b", b"1"), (b"a", b"2"), (b"b", b"3")];
+
+fn new_core(alloc: Global) -> Result<Core, AllocError> {
+    core_of(alloc, TWO)
 }
 
 // Adds a pair as `key=value;`.
@@ -209,7 +152,16 @@ fn shown(alloc: Global, core: &Core) -> Result<Vec<u8>, AllocError> {
 
 // The place of the first request that a new core answers otherwise, and the pairs that are left.
 fn outcome(alloc: Global, rows: &[Row]) -> Result<(Option<usize>, Vec<u8>), AllocError> {
-    let mut core = new_core(alloc)?;
+    outcome_over(alloc, TWO, rows)
+}
+
+// The same of a core over these pairs.
+fn outcome_over(
+    alloc: Global,
+    loaded: &[Loaded],
+    rows: &[Row],
+) -> Result<(Option<usize>, Vec<u8>), AllocError> {
+    let mut core = core_of(alloc, loaded)?;
     let wrong = first_wrong(alloc, &mut core, rows)?;
     let text = shown(alloc, &core)?;
     Ok((wrong, text))
@@ -458,5 +410,33 @@ fn a_call_on_the_database_is_committed(rt: HostRuntime) -> Result<(), Fail> {
     let (wrong, text) = outcome(rt.alloc(), APART)?;
     assert_eq!(rt; wrong, None);
     assert_eq!(rt; text.as_slice(), b"c=4;".as_slice());
+    Ok(())
+}
+
+const LOGS: &[Row] = &[
+    (Ask::On(P, Say::Set(b"c", b"4")), Told::Done, 1),
+    (
+        Ask::Log(b"log/", &[(b"2", b"x"), (b"1", b"y"), (b"2", b"z")]),
+        Told::Done,
+        2,
+    ),
+    (Ask::Log(b"log/", &[]), Told::Done, 2),
+    (Ask::Log(b"\xff", &[]), Told::Done, 2),
+    (Ask::Log(b"\xff", &[(b"1", b"x")]), Told::Fault(2004), 2),
+    (
+        Ask::Log(b"", &[(b"3", b"x"), (b"\xff", b"y")]),
+        Told::Fault(2004),
+        2,
+    ),
+    (Ask::Database(Say::Get(b"log/2")), Told::Value(b"z"), 2),
+    (Ask::Database(Say::Get(b"3")), Told::Nothing, 2),
+    (Ask::On(P, Say::Commit), Told::Done, 3),
+];
+
+#[test]
+fn logs_all_entries_or_none(rt: HostRuntime) -> Result<(), Fail> {
+    let (wrong, text) = outcome(rt.alloc(), LOGS)?;
+    assert_eq!(rt; wrong, None);
+    assert_eq!(rt; text.as_slice(), b"a=2;b=3;c=4;log/1=y;log/2=z;".as_slice());
     Ok(())
 }

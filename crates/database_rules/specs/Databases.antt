@@ -1,5 +1,5 @@
--- The database: a finite map from keys to byte strings, and its history.
-use Rattle.std.specs.Prelude.{ℕ, not, List, [], ◌∷◌, length, map, take, Option, Some, None}
+-- The database: a finite map from keys to byte strings, and what mutations make of it.
+use Rattle.std.specs.Prelude.{ℕ, not, List, [], ◌∷◌, Option, Some, None}
 use Rattle.std.specs.FinMap as finite
 use Rattle.key_bytes.specs.Keys.{key_cmp, within}
 use Rattle.database_rules.specs.declared.AtomicOp.{AtomicOp}
@@ -32,31 +32,3 @@ do_one (Atomic op key operand) database = put database key (atom op (finite.get 
 abbrev pub do_all : List Mutation → Database → Database
 do_all [] database = database
 do_all (mutation ∷ mutations) database = do_all mutations (do_one mutation database)
-
--- what a commit did
-pub record Commit : Type 0 where
-  pub mutations : List Mutation
-
--- the commits in order: the one at place n made version n + 1
-abbrev pub History : Type 0
-History = List Commit
-
--- the database after commits, in their order
-abbrev pub after_commits : List Commit → Database → Database
-after_commits [] database = database
-after_commits (commit ∷ commits) database = after_commits commits (do_all commit.mutations database)
-
--- the last version
-abbrev pub last : History → ℕ
-last history = length history
-
--- the database at a version: the empty map after the first so many commits
-abbrev pub at : History → ℕ → Database
-at history version = after_commits (take version history) finite.empty
-
-abbrev pub set_of : List ℕ × List ℕ → Mutation
-set_of entry = Set entry.0 entry.1
-
--- the first commit: the pairs of the input as sets, in the order of their lines, so that of two values of one key the later stays
-abbrev pub loaded : List (List ℕ × List ℕ) → Commit
-loaded pairs = record { mutations = map set_of pairs }

@@ -1,4 +1,10 @@
 pub mod Atomics
 pub mod Databases
 pub mod States
+pub mod KeyByKey
+pub mod Selecting
+pub mod Slices
+pub mod Modes
+pub mod Reads
+pub mod Histories
 pub mod Transactions

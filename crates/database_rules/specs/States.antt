@@ -1,13 +1,14 @@
 -- What a list of mutations says of one key, whatever the map before it, and what a versionstamp fills in.
-use Rattle.std.specs.Prelude.{ℕ, ◌+◌, ◌-◌, Bool, true, false, not, ◌&&◌, if◌then◌else◌, List, [], ◌∷◌, ◌++◌, length, map, take, drop, replicate, flat_map, Option, Some, None, bytes_eq}
+use Rattle.std.specs.Prelude.{ℕ, ◌+◌, ◌-◌, Bool, true, false, not, ◌&&◌, if◌then◌else◌, List, [], ◌∷◌, ◌++◌, length, map, take, drop, replicate, flat_map, nat_le, Option, Some, None, bytes_eq}
 use Rattle.std.specs.List.{list_any}
+use Rattle.std.specs.FinMap as finite
 use Rattle.key_bytes.specs.declared.range.KeyRange.{KeyRange}
 use Rattle.key_bytes.specs.Keys.{within, after}
 use Rattle.database_rules.specs.declared.AtomicOp.{AtomicOp}
 use Rattle.database_rules.specs.declared.AtomicOp.TheVariants as atomic
 use Rattle.key_bytes.specs.Numbers.{number_low}
 use Rattle.database_rules.specs.Atomics.{atom, is_versionstamped}
-use Rattle.database_rules.specs.Databases.{Mutation, Set, Clear, ClearRange, Atomic}
+use Rattle.database_rules.specs.Databases.{Database, Mutation, Set, Clear, ClearRange, Atomic, do_all}
 
 -- ---- sets of keys
 
@@ -83,6 +84,15 @@ template bytes = take (length bytes - 4) bytes
 abbrev pub stamp_place : List ℕ → ℕ
 stamp_place bytes = number_low (drop (length bytes - 4) bytes)
 
+-- the stamped bytes have 4 bytes of place, and the ten bytes at the place lie within the template
+abbrev pub has_room : List ℕ → Bool
+has_room bytes = nat_le 4 (length bytes) && nat_le (stamp_place bytes + 10) (length (template bytes))
+
+-- the stamped bytes of an operation with a versionstamp: its key, or its operand
+abbrev pub stamped_bytes : AtomicOp → List ℕ → List ℕ → List ℕ
+stamped_bytes atomic.SetVersionstampedKey key operand = key
+stamped_bytes op key operand = operand
+
 -- the template with the ten bytes at its place replaced by a stamp
 unfoldable pub stamped : List ℕ → List ℕ → List ℕ
 stamped stamp bytes = take (stamp_place bytes) (template bytes) ++ stamp ++ drop (stamp_place bytes + 10) (template bytes)
@@ -109,3 +119,7 @@ unreadable_by mutation = []
 
 abbrev pub unreadable : List Mutation → List KeyRange
 unreadable mutations = flat_map unreadable_by mutations
+
+-- what reads see: the database after mutations, those with a versionstamp left out, without the keys that they make unreadable
+unfoldable pub seen : List Mutation → Database → Database
+seen mutations database = finite.retain_keys (do_all mutations database) (λ key. not (covers (unreadable mutations) key))

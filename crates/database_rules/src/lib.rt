@@ -2,11 +2,19 @@
 //! transaction is, and which check of a call fails first.
 //!
 //! Nothing here runs but a few types that definitions and code share. The crates above state their contracts by these
-//! words: `specs/Databases.antt` has the database and its history, `specs/Atomics.antt` the atomic operations,
+//! words: `specs/Databases.antt` has the database and the mutations, `specs/Atomics.antt` the atomic operations,
+//! `specs/Reads.antt` the reads and their answers, by `specs/Selecting.antt` and `specs/Slices.antt`,
+//! `specs/Histories.antt` scripts, commits and the history, `specs/States.antt` what mutations say of one key, and
 //! `specs/Transactions.antt` a transaction and the checks of its calls.
 #![tactic(auto)]
 
 ghost use Rattle.std.specs.Prelude.{◌≡◌};
+
+mod mode;
+mod selector;
+
+pub use mode::Mode;
+pub use selector::Selector;
 
 /// The longest key of a write, in bytes.
 pub const KEY_LIMIT: usize = 10_000;
@@ -34,6 +42,9 @@ pub const INVALID_MUTATION_TYPE: u16 = 2018;
 
 /// The mutations of a transaction have more bytes than may be committed.
 pub const TRANSACTION_TOO_LARGE: u16 = 2101;
+
+/// A read of a range has the streaming mode that wants a limit, and no limit.
+pub const EXACT_MODE_WITHOUT_LIMITS: u16 = 2210;
 
 /// A key of a write has more bytes than a key may have.
 pub const KEY_TOO_LARGE: u16 = 2102;

@@ -9,7 +9,7 @@ pub struct Script {
 }
 
 /// All of them.
-pub const SCRIPTS: [Script; 17] = [
+pub const SCRIPTS: [Script; 20] = [
     Script {
         input: "first.kv",
         prefix: "p",
@@ -111,5 +111,23 @@ pub const SCRIPTS: [Script; 17] = [
         prefix: "p",
         status: 0,
         dump: "errors.dump",
+    },
+    Script {
+        input: "ranges.kv",
+        prefix: "p",
+        status: 0,
+        dump: "ranges.dump",
+    },
+    Script {
+        input: "log_stack.kv",
+        prefix: "p",
+        status: 0,
+        dump: "log_stack.dump",
+    },
+    Script {
+        input: "log_refused.kv",
+        prefix: "p",
+        status: 0,
+        dump: "log_refused.dump",
     },
 ];

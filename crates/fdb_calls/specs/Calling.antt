@@ -1,15 +1,17 @@
--- A call on a transaction over a history: what it answers, and what it leaves.
-use Rattle.std.specs.Prelude.{ℕ, ◌+◌, Bool, true, false, List, [], ◌∷◌, Option, Some, None, unwrap_or}
-use Rattle.std.specs.FinMap as finite
+-- A call on a transaction in its setting: what it answers, and what it leaves.
+use Rattle.std.specs.Prelude.{ℕ, ◌+◌, Bool, true, false, if◌then◌else◌, List, [], ◌∷◌, ◌++◌, Option, Some, None, unwrap_or}
 use Rattle.database_rules.specs.declared.TheConstants.{TRANSACTION_CANCELLED}
 use Rattle.database_rules.specs.declared.Code.{Code}
 use Rattle.database_rules.specs.declared.Tried.TheVariants as tried
 use Rattle.database_rules.specs.declared.Phase.{Phase}
 use Rattle.database_rules.specs.declared.Phase.TheVariants as phase
 use Rattle.database_rules.specs.declared.AtomicOp.{AtomicOp}
-use Rattle.database_rules.specs.Atomics.{atomic_named}
-use Rattle.database_rules.specs.Databases.{Mutation, Set, Clear, ClearRange, Atomic, History, Commit, last}
-use Rattle.database_rules.specs.Transactions.{Transaction, fresh, one_key_code, set_code, clear_range_code, atomic_code, commit_code, is_read_only, is_cancelled, is_retryable, view, with_version, with_mutation, with_phase, cancelled}
+use Rattle.database_rules.specs.Databases.{Mutation, Set, Clear, ClearRange, Atomic}
+use Rattle.database_rules.specs.Modes.{lacks_limit}
+use Rattle.database_rules.specs.Reads as read
+use Rattle.database_rules.specs.Reads.{Read, Answer, answer}
+use Rattle.database_rules.specs.Histories.{Setting, Commit, last}
+use Rattle.database_rules.specs.Transactions.{Transaction, fresh, first_failing, read_code, set_code, clear_code, clear_range_code, atomic_code, operation_named, commit_code, is_read_only, is_cancelled, is_retryable, view, late_checks, writes_of, with_version, with_read, with_mutation, with_phase, cancelled}
 use Rattle.fdb_calls.specs.declared.TxnCall.{TxnCall}
 use Rattle.fdb_calls.specs.declared.TxnCall.TheVariants as call
 use Rattle.fdb_calls.specs.declared.Reply.{Reply}
@@ -32,10 +34,25 @@ answers transaction reply = record { transaction = transaction; commits = []; li
 abbrev pub refuses : Transaction → ℕ → Called
 refuses transaction code = answers transaction (reply.Fault (code_of code))
 
--- a read takes the version; a refused one doesn't
-abbrev pub get_by : Option ℕ → History → Transaction → List ℕ → Called
-get_by (Some code) history transaction key = refuses transaction code
-get_by None history transaction key = answers (with_version history transaction) (reply.Value (finite.get (view history transaction) key))
+-- what a read is answered, as a reply
+abbrev pub reply_of : Answer → Reply
+reply_of (read.ValueIs value) = reply.Value value
+reply_of (read.KeyIs key) = reply.KeyIs key
+reply_of (read.PairsAre pairs) = reply.PairsAre pairs
+
+abbrev pub read_answered : Bool → Read → Answer → Transaction → Called
+read_answered snapshot read answer transaction = answers (with_read snapshot read answer transaction) (reply_of answer)
+
+-- a read at its version, by the code of the first of its later checks that fails
+abbrev pub read_at_version : Option ℕ → Setting → Transaction → Bool → Read → Called
+read_at_version (Some code) setting transaction snapshot read = refuses transaction code
+read_at_version None setting transaction snapshot read = read_answered snapshot read (answer read (view setting transaction)) transaction
+
+-- a read that is refused by an earlier check takes no version; each other read takes it
+abbrev pub read_by : Option ℕ → Setting → Transaction → Bool → Read → Called
+read_by (Some code) setting transaction snapshot read = refuses transaction code
+read_by None setting transaction snapshot read =
+    read_at_version (first_failing (late_checks setting (with_version setting transaction) read)) setting (with_version setting transaction) snapshot read
 
 -- a write: a refused one changes nothing
 abbrev pub write_by : Option ℕ → Transaction → Mutation → Called
@@ -48,20 +65,20 @@ atomic_by code None transaction key operand = refuses transaction (unwrap_or cod
 atomic_by code (Some op) transaction key operand = write_by code transaction (Atomic op key operand)
 
 abbrev pub commit_of : Transaction → Commit
-commit_of transaction = record { mutations = transaction.mutations }
+commit_of transaction = record { script = transaction.script; mutations = writes_of transaction }
 
 -- a commit that is not read-only makes the next version
-abbrev pub committed : History → Transaction → Called
-committed history transaction = record {
-  transaction = with_phase (with_version history transaction) (phase.Tried (tried.Version (last history + 1)));
+abbrev pub committed : Setting → Transaction → Called
+committed setting transaction = record {
+  transaction = with_phase (with_version setting transaction) (phase.Tried (tried.Version (last setting.history + 1)));
   commits = commit_of transaction ∷ [];
   lives = 0;
   reply = reply.Done;
 }
 
-abbrev pub commit_allowed : Bool → History → Transaction → Called
-commit_allowed true history transaction = answers (with_phase transaction (phase.Tried tried.ReadOnly)) reply.Done
-commit_allowed false history transaction = committed history transaction
+abbrev pub commit_allowed : Bool → Setting → Transaction → Called
+commit_allowed true setting transaction = answers (with_phase transaction (phase.Tried tried.ReadOnly)) reply.Done
+commit_allowed false setting transaction = committed setting transaction
 
 -- one that is refused for its size was tried; one on a life that takes no call is only refused
 abbrev pub commit_refused : Phase → ℕ → Transaction → Called
@@ -69,9 +86,9 @@ commit_refused phase.Active code transaction =
     answers (with_phase transaction (phase.Tried (tried.Refused (code_of code)))) (reply.Fault (code_of code))
 commit_refused _ code transaction = refuses transaction code
 
-abbrev pub commit_by : Option ℕ → History → Transaction → Called
-commit_by (Some code) history transaction = commit_refused transaction.phase code transaction
-commit_by None history transaction = commit_allowed (is_read_only transaction) history transaction
+abbrev pub commit_by : Option ℕ → Setting → Transaction → Called
+commit_by (Some code) setting transaction = commit_refused transaction.phase code transaction
+commit_by None setting transaction = commit_allowed (is_read_only transaction) setting transaction
 
 -- a new life of this number
 abbrev pub reset : ℕ → Called
@@ -88,29 +105,30 @@ on_error_by false life transaction code = error_handled (is_retryable code.0) li
 
 -- ---- each call: its checks in their order, and then what it does
 
-abbrev pub get_called : History → Transaction → List ℕ → Called
-get_called history transaction key = get_by (one_key_code transaction key) history transaction key
+-- a read, where `lacks` is whether it lacks a limit that its mode wants
+abbrev pub read_called : Setting → Transaction → (lacks snapshot : Bool) → Read → Called
+read_called setting transaction lacks snapshot read = read_by (read_code transaction.phase lacks read) setting transaction snapshot read
 
 abbrev pub set_called : Transaction → List ℕ → List ℕ → Called
-set_called transaction key value = write_by (set_code transaction key value) transaction (Set key value)
+set_called transaction key value = write_by (set_code transaction.phase key value) transaction (Set key value)
 
 abbrev pub clear_called : Transaction → List ℕ → Called
-clear_called transaction key = write_by (one_key_code transaction key) transaction (Clear key)
+clear_called transaction key = write_by (clear_code transaction.phase key) transaction (Clear key)
 
 abbrev pub clear_range_called : Transaction → List ℕ → List ℕ → Called
-clear_range_called transaction begin end = write_by (clear_range_code transaction begin end) transaction (ClearRange begin end)
+clear_range_called transaction begin end = write_by (clear_range_code transaction.phase begin end) transaction (ClearRange begin end)
 
 -- an atomic operation that is known passes the checks of a set
 abbrev pub atomic_called : Transaction → AtomicOp → List ℕ → List ℕ → Called
-atomic_called transaction op key operand = write_by (set_code transaction key operand) transaction (Atomic op key operand)
+atomic_called transaction op key operand = write_by (set_code transaction.phase key operand) transaction (Atomic op key operand)
 
 -- one by its name
 abbrev pub named_atomic_called : Transaction → List ℕ → List ℕ → List ℕ → Called
 named_atomic_called transaction name key operand =
-    atomic_by (atomic_code transaction name key operand) (atomic_named name) transaction key operand
+    atomic_by (atomic_code transaction.phase name key operand) (operation_named name) transaction key operand
 
-abbrev pub commit_called : History → Transaction → Called
-commit_called history transaction = commit_by (commit_code transaction) history transaction
+abbrev pub commit_called : Setting → Transaction → Called
+commit_called setting transaction = commit_by (commit_code transaction.phase (is_read_only transaction) transaction.size) setting transaction
 
 -- where this is the number of the next life
 abbrev pub on_error_called : ℕ → Transaction → Code → Called
@@ -119,14 +137,35 @@ on_error_called life transaction code = on_error_by (is_cancelled transaction.ph
 abbrev pub cancel_called : Transaction → Called
 cancel_called transaction = answers (cancelled transaction) reply.Done
 
--- a call over a history, where this is the number of the next life
-unfoldable pub called : History → ℕ → Transaction → TxnCall → Called
-called history life transaction (call.Get key snapshot) = get_called history transaction key
-called history life transaction (call.Set key value) = set_called transaction key value
-called history life transaction (call.Clear key) = clear_called transaction key
-called history life transaction (call.ClearRange range) = clear_range_called transaction range.begin range.end
-called history life transaction (call.Atomic name key operand) = named_atomic_called transaction name key operand
-called history life transaction call.Commit = commit_called history transaction
-called history life transaction (call.OnError code) = on_error_called life transaction code
-called history life transaction call.Reset = reset life
-called history life transaction call.Cancel = cancel_called transaction
+-- a call in a setting, where this is the number of the next life
+unfoldable pub called : Setting → ℕ → Transaction → TxnCall → Called
+called setting life transaction (call.Get key snapshot) = read_called setting transaction false snapshot (read.Get key)
+called setting life transaction (call.GetKey selector snapshot) = read_called setting transaction false snapshot (read.GetKey selector)
+called setting life transaction (call.GetRange begin end limit reverse mode snapshot) =
+    read_called setting transaction (lacks_limit mode limit) snapshot (read.GetRange begin end limit reverse)
+called setting life transaction (call.GetKeyRange range limit reverse mode snapshot) =
+    read_called setting transaction (lacks_limit mode limit) snapshot (read.GetKeyRange range.begin range.end limit reverse)
+called setting life transaction (call.Set key value) = set_called transaction key value
+called setting life transaction (call.Clear key) = clear_called transaction key
+called setting life transaction (call.ClearRange range) = clear_range_called transaction range.begin range.end
+called setting life transaction (call.Atomic name key operand) = named_atomic_called transaction name key operand
+called setting life transaction call.Commit = commit_called setting transaction
+called setting life transaction (call.OnError code) = on_error_called life transaction code
+called setting life transaction call.Reset = reset life
+called setting life transaction call.Cancel = cancel_called transaction
+
+-- ---- calls made one after the other
+
+abbrev pub is_fault : Reply → Bool
+is_fault (reply.Fault code) = true
+is_fault _ = false
+
+-- calls on one transaction, each on what the one before left, until one is refused
+abbrev pub in_turn : List (Transaction → Called) → Transaction → Called
+in_turn [] transaction = answers transaction reply.Done
+in_turn (call ∷ calls) transaction = if is_fault (call transaction).reply then call transaction else in_turn calls (call transaction).transaction
+
+-- the writes of entries to be logged: each is a set of the prefix followed by the entry's key
+abbrev pub logs : List ℕ → List (List ℕ × List ℕ) → List (Transaction → Called)
+logs prefix [] = []
+logs prefix (entry ∷ entries) = (λ transaction. set_called transaction (prefix ++ entry.0) entry.1) ∷ logs prefix entries

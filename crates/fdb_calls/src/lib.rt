@@ -9,8 +9,9 @@ mod fault;
 mod tr;
 
 pub use database_rules::Code;
+use database_rules::{Mode, Selector};
 pub use fault::TrFault;
-use key_bytes::{Bytes, Key, KeyRange};
+use key_bytes::{Bytes, Key, KeyRange, Pairs};
 pub use tr::Tr;
 
 /// A call on a transaction (API reference, "Transaction").
@@ -19,6 +20,29 @@ pub enum TxnCall {
     /// Reads the value of a key (`fdb_transaction_get`). Whether by snapshot changes no answer.
     Get {
         key: Key,
+        snapshot: bool,
+    },
+    /// Reads the key that a selector means (`fdb_transaction_get_key`).
+    GetKey {
+        selector: Selector,
+        snapshot: bool,
+    },
+    /// Reads the pairs between the keys that two selectors mean, up to a limit, or all where it is 0, in the order of
+    /// their keys or reversed (`fdb_transaction_get_range`).
+    GetRange {
+        begin: Selector,
+        end: Selector,
+        limit: u32,
+        reverse: bool,
+        mode: Mode,
+        snapshot: bool,
+    },
+    /// The same between two keys.
+    GetKeyRange {
+        range: KeyRange,
+        limit: u32,
+        reverse: bool,
+        mode: Mode,
         snapshot: bool,
     },
     /// Writes a value under a key (`fdb_transaction_set`).
@@ -61,6 +85,9 @@ pub enum Request {
     On { name: Bytes, call: TxnCall },
     /// A call on a transaction of its own at the last version, which is then committed.
     Database { call: TxnCall },
+    /// Writes each entry under the prefix followed by its key, on a transaction of its own, which is then committed. The
+    /// first write that is refused refuses all.
+    Log { prefix: Bytes, entries: Pairs },
 }
 
 /// What a request was answered.
@@ -70,6 +97,10 @@ pub enum Reply {
     Done,
     /// The value of a key; None where the key has none.
     Value(Option<Bytes>),
+    /// The key that a selector means.
+    KeyIs(Key),
+    /// The pairs of a range.
+    PairsAre(Pairs),
     /// The first check that failed has this code.
     Fault(Code),
     /// Memory ran out.

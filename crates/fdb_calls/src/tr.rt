@@ -1,24 +1,25 @@
 //! The calls of a transaction by their names, for layers that work over any transaction.
 
-ghost use Rattle.std.specs.Prelude.{◌≡◌, ℕ, Bool, true};
-ghost use Rattle.database_rules.specs.Databases.{History};
+ghost use Rattle.std.specs.Prelude.{◌≡◌, ℕ, Bool, true, false};
+ghost use Rattle.database_rules.specs.Histories.{Setting};
+ghost use Rattle.database_rules.specs.Reads as read;
 ghost use Rattle.database_rules.specs.Transactions.{Transaction};
 ghost use Rattle.database_rules.specs.declared.AtomicOp.{AtomicOp as AnyOp};
 ghost use Rattle.database_rules.specs.declared.AtomicOp.TheVariants as atomic;
 ghost use Rattle.fdb_calls.specs.declared.Reply.TheVariants as reply;
 ghost use Rattle.fdb_calls.specs.Answers.{Answered};
-ghost use Rattle.fdb_calls.specs.Calling.{get_called, set_called, clear_called, clear_range_called, atomic_called};
+ghost use Rattle.fdb_calls.specs.Calling.{read_called, set_called, clear_called, clear_range_called, atomic_called};
 
 use crate::fault::TrFault;
 use database_rules::AtomicOp;
-use key_bytes::{Bytes, KeyRange};
+use key_bytes::{Bytes, KeyRange, Pairs};
 
-/// A transaction over a history, by its calls (API reference, "Transaction"). For every history and every transaction for
+/// A transaction in a setting, by its calls (API reference, "Transaction"). For every setting and every transaction for
 /// which it stands before a call, the call is answered as the definitions say (`specs/Calling.antt`), and it stands for
 /// the transaction after the call. After NoMemory it stands for the transaction before.
 pub trait Tr {
-    // it stands for a transaction over a history
-    ghost stands: { Self → History → Transaction → Type 0 };
+    // it stands for a transaction in a setting
+    ghost stands: { Self → Setting → Transaction → Type 0 };
 
     // the atomic operations that it takes
     ghost takes: { AnyOp → Bool };
@@ -28,34 +29,48 @@ pub trait Tr {
 
     /// The value of `key` that the transaction sees (`fdb_transaction_get`). Whether by snapshot changes no answer.
     fn get(&mut self, key: &[u8], snapshot: bool) -> Result<Option<Bytes>, TrFault>
-        ensures answer { (history : History) (t : Transaction) → stands self.old history t
-            → Answered reply.Value result (stands self.new history) t (get_called history t key.now) }
+        ensures answer { (setting : Setting) (t : Transaction) → stands self.old setting t
+            → Answered reply.Value result (stands self.new setting) t (read_called setting t false snapshot (read.Get key.now)) }
+        ensures same { same self.old self.new };
+
+    /// The pairs of `range` that the transaction sees, up to `limit`, or all where it is 0, in the order of their keys, or
+    /// in the other order where `reverse` holds (`fdb_transaction_get_range`, streaming mode `WANT_ALL`).
+    fn range(
+        &mut self,
+        range: &KeyRange,
+        limit: u32,
+        reverse: bool,
+        snapshot: bool,
+    ) -> Result<Pairs, TrFault>
+        ensures answer { (setting : Setting) (t : Transaction) → stands self.old setting t
+            → Answered reply.PairsAre result (stands self.new setting) t
+            (read_called setting t false snapshot (read.GetKeyRange range.now.begin range.now.end limit reverse)) }
         ensures same { same self.old self.new };
 
     /// Writes `value` under `key` (`fdb_transaction_set`).
     fn set(&mut self, key: &[u8], value: &[u8]) -> Result<(), TrFault>
-        ensures answer { (history : History) (t : Transaction) → stands self.old history t
-            → Answered (λ _. reply.Done) result (stands self.new history) t (set_called t key.now value.now) }
+        ensures answer { (setting : Setting) (t : Transaction) → stands self.old setting t
+            → Answered (λ _. reply.Done) result (stands self.new setting) t (set_called t key.now value.now) }
         ensures same { same self.old self.new };
 
     /// Clears `key` (`fdb_transaction_clear`).
     fn clear(&mut self, key: &[u8]) -> Result<(), TrFault>
-        ensures answer { (history : History) (t : Transaction) → stands self.old history t
-            → Answered (λ _. reply.Done) result (stands self.new history) t (clear_called t key.now) }
+        ensures answer { (setting : Setting) (t : Transaction) → stands self.old setting t
+            → Answered (λ _. reply.Done) result (stands self.new setting) t (clear_called t key.now) }
         ensures same { same self.old self.new };
 
     /// Clears the keys of `range` (`fdb_transaction_clear_range`).
     fn clear_range(&mut self, range: &KeyRange) -> Result<(), TrFault>
-        ensures answer { (history : History) (t : Transaction) → stands self.old history t
-            → Answered (λ _. reply.Done) result (stands self.new history) t (clear_range_called t range.now.begin range.now.end) }
+        ensures answer { (setting : Setting) (t : Transaction) → stands self.old setting t
+            → Answered (λ _. reply.Done) result (stands self.new setting) t (clear_range_called t range.now.begin range.now.end) }
         ensures same { same self.old self.new };
 
     /// Does an atomic operation on the value of `key` (`fdb_transaction_atomic_op`). The operation is one that this
     /// transaction takes.
     fn atomic(&mut self, op: AtomicOp, key: &[u8], operand: &[u8]) -> Result<(), TrFault>
         requires { takes op ≡ true }
-        ensures answer { (history : History) (t : Transaction) → stands self.old history t
-            → Answered (λ _. reply.Done) result (stands self.new history) t (atomic_called t op key.now operand.now) }
+        ensures answer { (setting : Setting) (t : Transaction) → stands self.old setting t
+            → Answered (λ _. reply.Done) result (stands self.new setting) t (atomic_called t op key.now operand.now) }
         ensures same { same self.old self.new };
 
     // each takes ADD

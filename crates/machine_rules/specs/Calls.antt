@@ -1,14 +1,21 @@
 -- What an instruction that makes a request pops, and the request that it makes (bindingApiTester.md).
-use Rattle.std.specs.Prelude.{ℕ, Bool, List, Option, Some, None, Ok, unwrap_or, option_and_then, if◌then◌else◌}
+use Rattle.std.specs.Prelude.{ℕ, ◌-◌, Bool, List, length, map, take, reverse, pos, Option, Some, None, Ok, unwrap_or, option_and_then, if◌then◌else◌}
+use Rattle.std.specs.List.{enumerate_from}
 use Rattle.std.specs.Option.{option_map_or}
 use Rattle.key_bytes.specs.Keys.{top}
 use Rattle.key_bytes.specs.Successors.{strinc}
 use Rattle.database_rules.specs.Atomics.{is_versionstamped, atomic_named}
+use Rattle.database_rules.specs.declared.selector.Selector.{Selector}
+use Rattle.database_rules.specs.declared.mode.Mode.{Mode}
 use Rattle.fdb_tuple.specs.declared.tuple.Elem.{Elem}
+use Rattle.fdb_tuple.specs.Tuples.{Int, Empty, Single}
+use Rattle.fdb_tuple.specs.Listed.{before}
+use Rattle.fdb_tuple.specs.Spelling.{spelling}
 use Rattle.fdb_calls.specs.declared.TxnCall.{TxnCall}
 use Rattle.fdb_calls.specs.declared.TxnCall.TheVariants as call
 use Rattle.fdb_calls.specs.declared.Request.{Request}
 use Rattle.fdb_calls.specs.declared.Request.TheVariants as request
+use Rattle.machine_rules.specs.declared.TheConstants.{LOG_BATCH, LOGGED_BYTES}
 use Rattle.machine_rules.specs.declared.Item.{Item}
 use Rattle.machine_rules.specs.declared.Awaits.{Awaits}
 use Rattle.machine_rules.specs.declared.Awaits.TheVariants as awaits
@@ -18,41 +25,99 @@ use Rattle.machine_rules.specs.declared.TransactionOperation.{TransactionOperati
 use Rattle.machine_rules.specs.declared.TransactionOperation.TheVariants as on_transaction
 use Rattle.machine_rules.specs.declared.Scope.{Scope}
 use Rattle.machine_rules.specs.declared.Scope.TheVariants as scope
-use Rattle.machine_rules.specs.Operands.{◌>>=◌, Popped, bytes_of, operand_by, bytes_operand, code_operand, two_operands}
+use Rattle.machine_rules.specs.Operands.{◌>>=◌, Popped, bytes_of, operand_by, bytes_operand, code_operand, flag_operand, offset_operand, limit_operand, mode_operand, two_operands}
 
 -- ---- calls on the database
 
-abbrev pub get_call : List Item → Popped TxnCall
+-- a call, and what its reply is used for; a write tells with `_DATABASE` alone that it was done
+abbrev pub Calls : Type 0
+Calls = TxnCall × Awaits
+
+abbrev pub written_in : Scope → Awaits
+written_in scope.Transaction = awaits.Nothing
+written_in scope.Database = awaits.NotPresent
+
+abbrev pub get_call : List Item → Popped Calls
 get_call stack = do
   key ← bytes_operand stack
-  Ok (call.Get key.0 Bool.false, key.1)
+  Ok ((call.Get key.0 Bool.false, awaits.Value), key.1)
 
-abbrev pub set_call : List Item → Popped TxnCall
-set_call stack = do
-  operands ← two_operands bytes_operand bytes_operand stack
-  Ok (call.Set operands.0.0 operands.0.1, operands.1)
-
-abbrev pub clear_call : List Item → Popped TxnCall
-clear_call stack = do
+-- a selector: its key, whether a key that equals it counts among those before, and its offset
+abbrev pub selector_operand : List Item → Popped Selector
+selector_operand stack = do
   key ← bytes_operand stack
-  Ok (call.Clear key.0, key.1)
+  or_equal ← flag_operand key.1
+  offset ← offset_operand or_equal.1
+  Ok (record { key = key.0; or_equal = or_equal.0; offset = offset.0 }, offset.1)
 
-abbrev pub clear_between : List ℕ → List ℕ → TxnCall
-clear_between begin end = call.ClearRange (record { begin = begin; end = end })
+abbrev pub get_key_call : List Item → Popped Calls
+get_key_call stack = do
+  selector ← selector_operand stack
+  prefix ← bytes_operand selector.1
+  Ok ((call.GetKey selector.0 Bool.false, awaits.Key prefix.0), prefix.1)
 
-abbrev pub clear_range_call : List Item → Popped TxnCall
-clear_range_call stack = do
+-- how a range is read: the limit, whether reversed, and the mode
+pub record Manner : Type 0 where
+  pub limit : ℕ
+  pub reverse : Bool
+  pub mode : Mode
+
+abbrev pub manner_operand : List Item → Popped Manner
+manner_operand stack = do
+  limit ← limit_operand stack
+  reverse ← flag_operand limit.1
+  mode ← mode_operand reverse.1
+  Ok (record { limit = limit.0; reverse = reverse.0; mode = mode.0 }, mode.1)
+
+abbrev pub get_between : List ℕ → List ℕ → Manner → TxnCall
+get_between begin end manner =
+    call.GetKeyRange (record { begin = begin; end = end }) manner.limit manner.reverse manner.mode Bool.false
+
+abbrev pub get_range_call : List Item → Popped Calls
+get_range_call stack = do
   ends ← two_operands bytes_operand bytes_operand stack
-  Ok (clear_between ends.0.0 ends.0.1, ends.1)
+  manner ← manner_operand ends.1
+  Ok ((get_between ends.0.0 ends.0.1 manner.0, awaits.Pairs), manner.1)
 
 -- the end of the range of the keys that begin with a prefix: the least key above them, or FF where there is none
 abbrev pub prefix_end : List ℕ → List ℕ
 prefix_end prefix = unwrap_or (strinc prefix) top
 
-abbrev pub clear_range_starts_with_call : List Item → Popped TxnCall
-clear_range_starts_with_call stack = do
+abbrev pub get_range_starts_with_call : List Item → Popped Calls
+get_range_starts_with_call stack = do
   prefix ← bytes_operand stack
-  Ok (clear_between prefix.0 (prefix_end prefix.0), prefix.1)
+  manner ← manner_operand prefix.1
+  Ok ((get_between prefix.0 (prefix_end prefix.0) manner.0, awaits.Pairs), manner.1)
+
+abbrev pub get_range_selector_call : List Item → Popped Calls
+get_range_selector_call stack = do
+  ends ← two_operands selector_operand selector_operand stack
+  manner ← manner_operand ends.1
+  prefix ← bytes_operand manner.1
+  Ok ((call.GetRange ends.0.0 ends.0.1 manner.0.limit manner.0.reverse manner.0.mode Bool.false, awaits.PairsWithin prefix.0), prefix.1)
+
+abbrev pub set_call : Scope → List Item → Popped Calls
+set_call scope stack = do
+  operands ← two_operands bytes_operand bytes_operand stack
+  Ok ((call.Set operands.0.0 operands.0.1, written_in scope), operands.1)
+
+abbrev pub clear_call : Scope → List Item → Popped Calls
+clear_call scope stack = do
+  key ← bytes_operand stack
+  Ok ((call.Clear key.0, written_in scope), key.1)
+
+abbrev pub clear_between : List ℕ → List ℕ → TxnCall
+clear_between begin end = call.ClearRange (record { begin = begin; end = end })
+
+abbrev pub clear_range_call : Scope → List Item → Popped Calls
+clear_range_call scope stack = do
+  ends ← two_operands bytes_operand bytes_operand stack
+  Ok ((clear_between ends.0.0 ends.0.1, written_in scope), ends.1)
+
+abbrev pub clear_range_starts_with_call : Scope → List Item → Popped Calls
+clear_range_starts_with_call scope stack = do
+  prefix ← bytes_operand stack
+  Ok ((clear_between prefix.0 (prefix_end prefix.0), written_in scope), prefix.1)
 
 -- the name of an atomic operation; a versionstamped one is refused as an operand, for now
 abbrev pub name_of_atomic : List ℕ → Option (List ℕ)
@@ -61,30 +126,41 @@ name_of_atomic name = if option_map_or is_versionstamped (atomic_named name) Boo
 abbrev pub atomic_name : Elem → Option (List ℕ)
 atomic_name element = option_and_then name_of_atomic (bytes_of element)
 
-abbrev pub atomic_call : List Item → Popped TxnCall
-atomic_call stack = do
+abbrev pub atomic_call : Scope → List Item → Popped Calls
+atomic_call scope stack = do
   operands ← two_operands (operand_by atomic_name) (two_operands bytes_operand bytes_operand) stack
-  Ok (call.Atomic operands.0.0 operands.0.1.0 operands.0.1.1, operands.1)
+  Ok ((call.Atomic operands.0.0 operands.0.1.0 operands.0.1.1, written_in scope), operands.1)
 
--- the call that an operation makes, by what it pops
-abbrev pub call_of : DatabaseOperation → List Item → Popped TxnCall
-call_of on_database.Get stack = get_call stack
-call_of on_database.Set stack = set_call stack
-call_of on_database.Clear stack = clear_call stack
-call_of on_database.ClearRange stack = clear_range_call stack
-call_of on_database.ClearRangeStartsWith stack = clear_range_starts_with_call stack
-call_of on_database.AtomicOp stack = atomic_call stack
+-- the call that an operation makes in this scope, by what it pops
+abbrev pub call_of : DatabaseOperation → Scope → List Item → Popped Calls
+call_of on_database.Get scope stack = get_call stack
+call_of on_database.GetKey scope stack = get_key_call stack
+call_of on_database.GetRange scope stack = get_range_call stack
+call_of on_database.GetRangeStartsWith scope stack = get_range_starts_with_call stack
+call_of on_database.GetRangeSelector scope stack = get_range_selector_call stack
+call_of on_database.Set scope stack = set_call scope stack
+call_of on_database.Clear scope stack = clear_call scope stack
+call_of on_database.ClearRange scope stack = clear_range_call scope stack
+call_of on_database.ClearRangeStartsWith scope stack = clear_range_starts_with_call scope stack
+call_of on_database.AtomicOp scope stack = atomic_call scope stack
 
 -- the request that makes a call in this scope, where this is the current name
 abbrev pub request_in : Scope → List ℕ → TxnCall → Request
 request_in scope.Transaction name call = request.On name call
 request_in scope.Database name call = request.Database call
 
--- what the reply is used for: a read gives a value, and another call tells with `_DATABASE` alone that it was done
-abbrev pub awaits_in : DatabaseOperation → Scope → Awaits
-awaits_in on_database.Get scope = awaits.Value
-awaits_in _ scope.Transaction = awaits.Nothing
-awaits_in _ scope.Database = awaits.NotPresent
+-- ---- LOG_STACK
+
+-- an item at its place in the stack: its place and its instruction as the key, and its first packed bytes as the value
+abbrev pub log_entry : ℕ × Item → List ℕ × List ℕ
+log_entry (place, item) = (
+  spelling (Single (Int (pos place)) (Single (Int (pos item.instruction)) Empty)),
+  take LOGGED_BYTES (spelling (before item.element Empty)),
+)
+
+-- the uppermost items of a stack, as many as one request writes, in the order of their places
+abbrev pub log_entries : List Item → List (List ℕ × List ℕ)
+log_entries stack = map log_entry (enumerate_from (length stack - LOG_BATCH) (reverse (take LOG_BATCH stack)))
 
 -- ---- operations on the current transaction
 

@@ -52,6 +52,14 @@ abbrev pub database_operation : List ℕ → Option (DatabaseOperation × Scope)
 database_operation name =
     if bytes_eq name (codes "GET") then Some (on_database.Get, scope.Transaction)
     else if bytes_eq name (codes "GET_DATABASE") then Some (on_database.Get, scope.Database)
+    else if bytes_eq name (codes "GET_KEY") then Some (on_database.GetKey, scope.Transaction)
+    else if bytes_eq name (codes "GET_KEY_DATABASE") then Some (on_database.GetKey, scope.Database)
+    else if bytes_eq name (codes "GET_RANGE") then Some (on_database.GetRange, scope.Transaction)
+    else if bytes_eq name (codes "GET_RANGE_DATABASE") then Some (on_database.GetRange, scope.Database)
+    else if bytes_eq name (codes "GET_RANGE_STARTS_WITH") then Some (on_database.GetRangeStartsWith, scope.Transaction)
+    else if bytes_eq name (codes "GET_RANGE_STARTS_WITH_DATABASE") then Some (on_database.GetRangeStartsWith, scope.Database)
+    else if bytes_eq name (codes "GET_RANGE_SELECTOR") then Some (on_database.GetRangeSelector, scope.Transaction)
+    else if bytes_eq name (codes "GET_RANGE_SELECTOR_DATABASE") then Some (on_database.GetRangeSelector, scope.Database)
     else if bytes_eq name (codes "SET") then Some (on_database.Set, scope.Transaction)
     else if bytes_eq name (codes "SET_DATABASE") then Some (on_database.Set, scope.Database)
     else if bytes_eq name (codes "CLEAR") then Some (on_database.Clear, scope.Transaction)
@@ -73,6 +81,7 @@ or_else None other = other
 abbrev pub bare_instruction : List ℕ → Option Instruction
 bare_instruction name =
     if bytes_eq name (codes "USE_TRANSACTION") then Some instruction.UseTransaction
+    else if bytes_eq name (codes "LOG_STACK") then Some instruction.LogStack
     else or_else (option_map (λ found. instruction.OnTransaction found) (transaction_operation name))
     (or_else (option_map (λ found. instruction.OnDatabase found.0 found.1) (database_operation name))
     (option_map (λ found. instruction.OnStack found) (stack_operation name)))

@@ -1,12 +1,14 @@
 -- What follows from the definitions of machines and runs, for the layers above.
-use Rattle.std.specs.Prelude.{◌≡◌, ℕ, zero, suc, ◌+◌, ◌-◌, ◌<◌, Bool, true, false, List, [], ◌∷◌, ◌++◌, length, Option, Some, None, option_and_then, slice_get, cond, refl}
-use Rattle.std.proofs.Common.{sym, ap, ◌∙◌, add-one, arith}
+use Rattle.std.specs.Prelude.{◌≡◌, ℕ, zero, suc, ◌+◌, ◌-◌, ◌<◌, Bool, true, false, List, [], ◌∷◌, ◌++◌, length, drop, Option, Some, None, option_and_then, slice_get, cond, refl}
+use Rattle.std.proofs.Common.{sym, ap, subst, ◌∙◌, add-one, length-drop, arith}
 use Rattle.std.proofs.lemmas.Option.{slice_get_within}
 use Rattle.fdb_calls.specs.declared.Request.{Request}
 use Rattle.fdb_calls.specs.declared.Reply.{Reply}
+use Rattle.machine_rules.specs.declared.TheConstants.{LOG_BATCH}
+use Rattle.machine_rules.specs.declared.Item.{Item}
 use Rattle.machine_rules.specs.declared.State.{State}
 use Rattle.machine_rules.specs.declared.State.TheVariants as state
-use Rattle.machine_rules.specs.Machines.{Machine, Progress, Act, Does, Uses, Stops, Asks, Use, Goes, Pushes, Faults, silent, acted, next_act, advance_by, advance, resumed, resumed_by, use_of, used}
+use Rattle.machine_rules.specs.Machines.{Registers, Machine, Progress, Act, Does, Stops, Asks, silent, acted, next_act, advance_by, advance, logs_on, Use, Goes, Pushes, Fails, LogsOn, use_of, used, resumed, resumed_by}
 use Rattle.machine_rules.specs.Runs.{Run, is_running, rested, at_rest, take_place, run_from}
 
 -- ---- one step of a machine
@@ -23,10 +25,9 @@ not_running e = absurd cc
 
 act_running : (machine : Machine) (act : Act) → machine.next < length machine.instructions
     → is_running (acted machine act).machine.state ≡ true → Finishes machine (acted machine act)
-act_running machine (Does stack) inside e = record { silent_is = refl; instructions = refl; next = refl; inside = inside }
-act_running machine (Uses name stack) inside e = record { silent_is = refl; instructions = refl; next = refl; inside = inside }
-act_running machine (Stops stack end) inside e = not_running e
-act_running machine (Asks stack request awaits) inside e = not_running e
+act_running machine (Does registers) inside e = record { silent_is = refl; instructions = refl; next = refl; inside = inside }
+act_running machine (Stops registers end) inside e = not_running e
+act_running machine (Asks registers request awaits) inside e = not_running e
 
 next_running : (machine : Machine) (value : Option (List ℕ)) → slice_get machine.instructions machine.next ≡ value
     → is_running (acted machine (next_act machine value)).machine.state ≡ true
@@ -53,49 +54,42 @@ is_awaiting (state.Awaiting awaits) = true
 is_awaiting (state.Stopped end) = false
 
 -- a machine that asks awaits the reply
-abbrev AsksAwaiting : Progress → Type 0
+abbrev pub AsksAwaiting : Progress → Type 0
 AsksAwaiting progress = (request : Request) → progress.asks ≡ Some request → is_awaiting progress.machine.state ≡ true
 
-silent_asks : (machine : Machine) → AsksAwaiting (silent machine)
-silent_asks machine request e = absurd cc
+-- one that asks nothing awaits none
+abbrev pub IsQuiet : Progress → Type 0
+IsQuiet progress = progress.asks ≡ None → is_awaiting progress.machine.state ≡ false
 
 act_asks : (machine : Machine) (act : Act) → AsksAwaiting (acted machine act)
-act_asks machine (Does stack) request e = absurd cc
-act_asks machine (Uses name stack) request e = absurd cc
-act_asks machine (Stops stack end) request e = absurd cc
-act_asks machine (Asks stack asked awaits) request e = refl
+act_asks machine (Does registers) request e = absurd cc
+act_asks machine (Stops registers end) request e = absurd cc
+act_asks machine (Asks registers asked awaits) request e = refl
+
+act_quiet : (machine : Machine) (act : Act) → IsQuiet (acted machine act)
+act_quiet machine (Does registers) e = refl
+act_quiet machine (Stops registers end) e = refl
+act_quiet machine (Asks registers request awaits) e = absurd cc
 
 state_asks : (state : State) (machine : Machine) → AsksAwaiting (advance_by state machine)
 state_asks state.Running machine request e = act_asks machine (next_act machine (slice_get machine.instructions machine.next)) request e
 state_asks (state.Awaiting awaits) machine request e = absurd cc
 state_asks (state.Stopped end) machine request e = absurd cc
 
-pub advance_asks : (machine : Machine) (request : Request) → (advance machine).asks ≡ Some request
-    → is_awaiting (advance machine).machine.state ≡ true
+pub advance_asks : (machine : Machine) → AsksAwaiting (advance machine)
 unfolding advance
 advance_asks machine request e = state_asks machine.state machine request e
-
--- a running machine awaits a reply after a step only where it asks
-abbrev IsQuiet : Progress → Type 0
-IsQuiet progress = progress.asks ≡ None → is_awaiting progress.machine.state ≡ false
-
-act_quiet : (machine : Machine) (act : Act) → IsQuiet (acted machine act)
-act_quiet machine (Does stack) e = refl
-act_quiet machine (Uses name stack) e = refl
-act_quiet machine (Stops stack end) e = refl
-act_quiet machine (Asks stack request awaits) e = absurd cc
 
 state_quiet : (state : State) (machine : Machine) → is_running state ≡ true → IsQuiet (advance_by state machine)
 state_quiet state.Running machine was e = act_quiet machine (next_act machine (slice_get machine.instructions machine.next)) e
 state_quiet (state.Awaiting awaits) machine was e = not_running was
 state_quiet (state.Stopped end) machine was e = not_running was
 
-pub advance_quiet : (machine : Machine) → is_running machine.state ≡ true → (advance machine).asks ≡ None
-    → is_awaiting (advance machine).machine.state ≡ false
+pub advance_quiet : (machine : Machine) → is_running machine.state ≡ true → IsQuiet (advance machine)
 unfolding advance
 advance_quiet machine was e = state_quiet machine.state machine was e
 
--- a machine that has stopped stays as it is
+-- a machine that doesn't run stays as it is
 stopped_by : (state : State) (machine : Machine) → is_running state ≡ false → advance_by state machine ≡ silent machine
 stopped_by state.Running machine e = absurd cc
 stopped_by (state.Awaiting awaits) machine e = refl
@@ -105,24 +99,41 @@ pub advance_still : (machine : Machine) → is_running machine.state ≡ false �
 unfolding advance
 advance_still machine e = stopped_by machine.state machine e
 
--- a machine that used a reply has gone on by one instruction
-pub record GoneOn (before after : Machine) : Type 0 where
-  pub instructions : after.instructions ≡ before.instructions
-  pub next : after.next ≡ before.next + 1
-  pub state : after.state ≡ state.Running
+-- ---- a reply
 
-used_goes : (machine : Machine) (used_for : Use) → GoneOn machine (used machine used_for)
-used_goes machine Goes = record { instructions = refl; next = refl; state = refl }
-used_goes machine (Pushes element) = record { instructions = refl; next = refl; state = refl }
-used_goes machine (Faults code) = record { instructions = refl; next = refl; state = refl }
+-- The machine that used a reply has gone on by one instruction; or it asks on within the same one, and has fewer items.
+pub data GoesOn (before : Machine) (progress : Progress) : Type 0 where
+  Further : (instructions_are : progress.machine.instructions ≡ before.instructions) (next_is : progress.machine.next ≡ before.next + 1)
+      (runs : is_running progress.machine.state ≡ true) (silent_is : progress.asks ≡ None) → GoesOn before progress
+  Again : (instructions_are : progress.machine.instructions ≡ before.instructions) (next_is : progress.machine.next ≡ before.next)
+      (awaits_is : is_awaiting progress.machine.state ≡ true) (asked : Request) (asks_is : progress.asks ≡ Some asked)
+      (fewer : length progress.machine.registers.stack < length before.registers.stack) → GoesOn before progress
+
+does_go : (machine : Machine) (registers : Registers) → GoesOn machine (acted machine (Does registers))
+does_go machine registers = Further refl refl refl refl
+
+fewer_dropped : {A : Type 0} (n : ℕ) (top : A) (below : List A) → length (drop n below) < suc (length below)
+fewer_dropped n top below = omega (arith, length-drop n below)
+
+logs_go : (machine : Machine) (stack : List Item) (prefix : List ℕ) → machine.registers.stack ≡ stack
+    → GoesOn machine (acted machine (logs_on stack machine.registers prefix))
+logs_go machine [] prefix is = does_go machine machine.registers
+logs_go machine (top ∷ below) prefix is =
+    Again refl refl refl _ refl (subst (λ items. length (drop LOG_BATCH (top ∷ below)) < length items) (sym is) (fewer_dropped 99 top below))
+
+used_goes : (machine : Machine) (used_for : Use) → GoesOn machine (acted machine (used machine.next machine.registers used_for))
+used_goes machine Goes = does_go machine machine.registers
+used_goes machine (Pushes element) = does_go machine _
+used_goes machine (Fails word element) = does_go machine _
+used_goes machine (LogsOn prefix) = logs_go machine machine.registers.stack prefix refl
 
 resumed_goes_by : (state : State) (machine : Machine) (given : Reply) → is_awaiting state ≡ true
-    → GoneOn machine (resumed_by state machine given)
+    → GoesOn machine (resumed_by state machine given)
 resumed_goes_by state.Running machine given e = not_running e
 resumed_goes_by (state.Awaiting awaits) machine given e = used_goes machine (use_of awaits given)
 resumed_goes_by (state.Stopped end) machine given e = not_running e
 
-pub resumed_goes : (machine : Machine) (given : Reply) → is_awaiting machine.state ≡ true → GoneOn machine (resumed machine given)
+pub resumed_goes : (machine : Machine) (given : Reply) → is_awaiting machine.state ≡ true → GoesOn machine (resumed machine given)
 unfolding resumed
 resumed_goes machine given e = resumed_goes_by machine.state machine given e
 
@@ -136,10 +147,9 @@ abbrev AsksAt : Machine → Progress → Type 0
 AsksAt machine progress = (request : Request) → progress.asks ≡ Some request → AsksInside machine progress
 
 act_at : (machine : Machine) (act : Act) → machine.next < length machine.instructions → AsksAt machine (acted machine act)
-act_at machine (Does stack) inside request e = absurd cc
-act_at machine (Uses name stack) inside request e = absurd cc
-act_at machine (Stops stack end) inside request e = absurd cc
-act_at machine (Asks stack asked awaits) inside request e = record { instructions = refl; next = refl; inside = inside }
+act_at machine (Does registers) inside request e = absurd cc
+act_at machine (Stops registers end) inside request e = absurd cc
+act_at machine (Asks registers asked awaits) inside request e = record { instructions = refl; next = refl; inside = inside }
 
 next_at : (machine : Machine) (value : Option (List ℕ)) → slice_get machine.instructions machine.next ≡ value
     → AsksAt machine (acted machine (next_act machine value))
@@ -156,11 +166,6 @@ pub advance_asks_inside : (machine : Machine) (request : Request) → (advance m
 unfolding advance
 advance_asks_inside machine request e = state_at machine.state machine request e
 
-awaiting_rests : (state : State) → is_awaiting state ≡ true → is_running state ≡ false
-awaiting_rests state.Running e = absurd cc
-awaiting_rests (state.Awaiting awaits) e = refl
-awaiting_rests (state.Stopped end) e = refl
-
 -- ---- coming to rest
 
 rested_still : (n : ℕ) (progress : Progress) → is_running progress.machine.state ≡ false → rested n progress ≡ progress
@@ -174,52 +179,35 @@ unfolding rested
 rested_once n progress e = ap (λ b. cond b (rested n (advance progress.machine)) progress) e
 
 -- a machine that doesn't run is at rest
-pub at_rest_still : (machine : Machine) → is_running machine.state ≡ false → at_rest machine ≡ silent machine
+pub at_rest_still : (progress : Progress) → is_running progress.machine.state ≡ false → at_rest progress ≡ progress
 unfolding at_rest
-at_rest_still machine e = rested_still (length machine.instructions - machine.next + 1) (silent machine) e
+at_rest_still progress e = rested_still (length progress.machine.instructions - progress.machine.next + 1) progress e
 
 at_rest_once : (machine : Machine) → is_running machine.state ≡ true
-    → at_rest machine ≡ rested (length machine.instructions - machine.next) (advance machine)
+    → at_rest (silent machine) ≡ rested (length machine.instructions - machine.next) (advance machine)
 unfolding at_rest
 at_rest_once machine e =
     ap (λ n. rested n (silent machine)) (add-one (length machine.instructions - machine.next))
     ∙ rested_once (length machine.instructions - machine.next) (silent machine) e
 
--- a step that leaves the machine not running leaves it at rest
-pub at_rest_after : (machine : Machine) → is_running machine.state ≡ true → is_running (advance machine).machine.state ≡ false
-    → at_rest machine ≡ advance machine
-at_rest_after machine was e = at_rest_once machine was ∙ rested_still (length machine.instructions - machine.next) (advance machine) e
-
-silent-machine : (progress : Progress) → progress.asks ≡ None → progress ≡ silent progress.machine
-silent-machine progress e = ap (λ (asks : Option Request). record { machine = progress.machine; asks = asks }) e
-
 left_after_one : (i j n m : ℕ) → j ≡ i + 1 → m ≡ n → i < n → n - i ≡ m - j + 1
 left_after_one i j n m next same inside = omega arith
 
--- a step after which the machine still runs leads to the same rest
-pub at_rest_again : (machine : Machine) → is_running machine.state ≡ true → is_running (advance machine).machine.state ≡ true
-    → at_rest machine ≡ at_rest (advance machine).machine
+-- a step of a running machine leads to the same rest
+pub at_rest_advance : (machine : Machine) → is_running machine.state ≡ true → at_rest (silent machine) ≡ at_rest (advance machine)
 unfolding at_rest
-at_rest_again machine was e =
-    let finishes = advance_finishes machine was e in
-    let progress = advance machine in
-    at_rest_once machine was
-    ∙ ap (λ n. rested n progress) (left_after_one machine.next progress.machine.next (length machine.instructions) (length progress.machine.instructions) finishes.next (ap length finishes.instructions) finishes.inside)
-    ∙ ap (rested (length progress.machine.instructions - progress.machine.next + 1)) (silent-machine progress finishes.silent_is)
-
--- one that stops in a step is at rest as it is then
-pub at_rest_stops : (machine : Machine) → is_running machine.state ≡ true → is_running (advance machine).machine.state ≡ false
-    → (advance machine).asks ≡ None
-    → at_rest machine ≡ at_rest (advance machine).machine
-at_rest_stops machine was e quiet =
-    at_rest_after machine was e ∙ silent-machine (advance machine) quiet ∙ sym (at_rest_still (advance machine).machine e)
-
--- one that asks is at rest at its request
-pub at_rest_asks : (machine : Machine) (request : Request) → is_running machine.state ≡ true → (advance machine).asks ≡ Some request
-    → at_rest machine ≡ record { machine = (advance machine).machine; asks = Some request }
-at_rest_asks machine request was asks =
-    at_rest_after machine was (awaiting_rests (advance machine).machine.state (advance_asks machine request asks))
-    ∙ ap (λ (a : Option Request). record { machine = (advance machine).machine; asks = a }) asks
+at_rest_advance machine was = at_rest_once machine was ∙ by_running (is_running (advance machine).machine.state) refl
+  where
+    by_running : (b : Bool) → is_running (advance machine).machine.state ≡ b
+        → rested (length machine.instructions - machine.next) (advance machine)
+        ≡ rested (length (advance machine).machine.instructions - (advance machine).machine.next + 1) (advance machine)
+    by_running true e =
+        let finishes = advance_finishes machine was e in
+        ap (λ n. rested n (advance machine)) (left_after_one machine.next (advance machine).machine.next (length machine.instructions)
+        (length (advance machine).machine.instructions) finishes.next (ap length finishes.instructions) finishes.inside)
+    by_running false e =
+        rested_still (length machine.instructions - machine.next) (advance machine) e
+        ∙ sym (rested_still (length (advance machine).machine.instructions - (advance machine).machine.next + 1) (advance machine) e)
 
 -- ---- orders
 

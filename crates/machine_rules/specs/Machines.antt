@@ -1,13 +1,18 @@
 -- A machine and its instructions (bindingApiTester.md).
-use Rattle.std.specs.Prelude.{ℕ, ◌+◌, List, [], ◌∷◌, ◌++◌, Option, Some, None, Ok, Err, slice_get, codes, decimal}
+use Rattle.std.specs.Prelude.{ℕ, ◌+◌, if◌then◌else◌, List, [], ◌∷◌, ◌++◌, drop, flat_map, Option, Some, None, Ok, Err, slice_get, codes, decimal}
+use Rattle.std.specs.List.{filter}
+use Rattle.key_bytes.specs.Keys.{key_lt, begins_with}
+use Rattle.database_rules.specs.Slices.{Entries}
 use Rattle.fdb_tuple.specs.declared.tuple.Elem.{Elem}
 use Rattle.fdb_tuple.specs.declared.tuple.Elem.TheVariants as elem
 use Rattle.fdb_tuple.specs.Tuples.{Bytes, Empty, Single}
+use Rattle.fdb_tuple.specs.Listed.{tuple_of}
 use Rattle.fdb_tuple.specs.Spelling.{spelling}
-use Rattle.fdb_calls.specs.declared.TxnCall.{TxnCall}
 use Rattle.fdb_calls.specs.declared.Request.{Request}
+use Rattle.fdb_calls.specs.declared.Request.TheVariants as request
 use Rattle.fdb_calls.specs.declared.Reply.{Reply}
 use Rattle.fdb_calls.specs.declared.Reply.TheVariants as reply
+use Rattle.machine_rules.specs.declared.TheConstants.{LOG_BATCH}
 use Rattle.machine_rules.specs.declared.Item.{Item}
 use Rattle.machine_rules.specs.declared.ErrorNote.{ErrorNote}
 use Rattle.machine_rules.specs.declared.End.{End as HowEnded}
@@ -19,12 +24,21 @@ use Rattle.machine_rules.specs.declared.State.TheVariants as state
 use Rattle.machine_rules.specs.declared.Scope.{Scope}
 use Rattle.machine_rules.specs.declared.Instruction.{Instruction}
 use Rattle.machine_rules.specs.declared.Instruction.TheVariants as instruction
-use Rattle.machine_rules.specs.Operands.{Refusal, Missing, Unfit, ◌>>=◌, Popped, bytes_operand}
+use Rattle.machine_rules.specs.Operands.{Refusal, Missing, Unfit, Popped, bytes_operand}
 use Rattle.machine_rules.specs.StackOperations.{Operated, pushed, operated}
-use Rattle.machine_rules.specs.Calls.{call_of, request_in, awaits_in, request_of, awaits_of}
+use Rattle.machine_rules.specs.Calls.{Calls, call_of, request_in, request_of, awaits_of, prefix_end, log_entries}
 use Rattle.machine_rules.specs.Instructions.{instruction_of}
 
 -- ---- a machine
+
+-- what an instruction works on
+pub record Registers : Type 0 where
+  -- the name of the current transaction
+  pub name : List ℕ
+  -- the items, the top first
+  pub stack : List Item
+  -- the errors that were noted, the earliest first
+  pub errors : List ErrorNote
 
 pub record Machine : Type 0 where
   pub number : ℕ
@@ -32,12 +46,9 @@ pub record Machine : Type 0 where
   -- the values of its instructions, and the number of the next one
   pub instructions : List (List ℕ)
   pub next : ℕ
-  -- the name of its current transaction
-  pub name : List ℕ
-  -- its items, the top first
-  pub stack : List Item
-  -- the errors that it noted, the earliest first
-  pub errors : List ErrorNote
+  -- how often the polls of one wait may be answered that it isn't decided yet; no operation waits so far
+  pub polls : ℕ
+  pub registers : Registers
   pub state : State
 
 -- a machine, and the request that it asks, if it asks one
@@ -49,78 +60,100 @@ abbrev pub silent : Machine → Progress
 silent machine = record { machine = machine; asks = None }
 
 -- the machine as it stops at its instruction
-abbrev pub stopped : Machine → List Item → HowEnded → Machine
-stopped machine stack end = record machine { stack = stack; state = state.Stopped end }
+abbrev pub stopped : Machine → Registers → HowEnded → Machine
+stopped machine registers end = record machine { registers = registers; state = state.Stopped end }
 
 -- the machine as it has done its instruction
-abbrev pub done : Machine → List Item → Machine
-done machine stack = record machine { stack = stack; next = machine.next + 1; state = state.Running }
+abbrev pub done : Machine → Registers → Machine
+done machine registers = record machine { registers = registers; next = machine.next + 1; state = state.Running }
 
 -- the machine as it asks a request
-abbrev pub asking : Machine → List Item → Request → Awaits → Progress
-asking machine stack request awaits = record {
-  machine = record machine { stack = stack; state = state.Awaiting awaits };
+abbrev pub asking : Machine → Registers → Request → Awaits → Progress
+asking machine registers request awaits = record {
+  machine = record machine { registers = registers; state = state.Awaiting awaits };
   asks = Some request;
 }
 
--- ---- what an instruction comes to
+-- ---- what an instruction, or the reply that it awaited, comes to
 
 pub data Act : Type 0 where
-  -- it is done, and leaves this stack
-  Does : (stack : List Item) → Act
-  -- it is done, and leaves this name as that of the current transaction, and this stack
-  Uses : (name : List ℕ) (stack : List Item) → Act
+  -- the instruction is done
+  Does : (registers : Registers) → Act
   -- it stops the machine
-  Stops : (stack : List Item) (end : HowEnded) → Act
+  Stops : (registers : Registers) (end : HowEnded) → Act
   -- it asks a request, whose reply it awaits
-  Asks : (stack : List Item) (request : Request) (awaits : Awaits) → Act
-
--- an instruction of this number that was refused: an item is missing, or an operand is of a wrong kind or range
-abbrev pub refused : ℕ → Refusal → Act
-refused number (Missing left) = Stops left (end.Underflow number)
-refused number (Unfit left) = Stops left (end.BadInstruction number)
-
-abbrev pub does : ℕ → Operated → Act
-does number (Ok stack) = Does stack
-does number (Err refusal) = refused number refusal
-
--- a request, where its operands were popped
-abbrev pub asks : ℕ → Awaits → Popped Request → Act
-asks number awaits (Ok popped) = Asks popped.1 popped.0 awaits
-asks number awaits (Err refusal) = refused number refusal
-
--- a call on the database as a request
-abbrev pub requested : Scope → List ℕ → Popped TxnCall → Popped Request
-requested scope name popped = do
-  called ← popped
-  Ok (request_in scope name called.0, called.1)
-
--- USE_TRANSACTION pops the name
-abbrev pub uses : ℕ → Popped (List ℕ) → Act
-uses number (Ok popped) = Uses popped.0 popped.1
-uses number (Err refusal) = refused number refusal
-
--- the instruction of this number, where this is the name of the current transaction, on this stack
-unfoldable pub act_of : ℕ → List ℕ → List Item → Option Instruction → Act
-act_of number name stack None = Stops stack (end.BadInstruction number)
-act_of number name stack (Some (instruction.Push element)) = Does (pushed number (element ∷ []) stack)
-act_of number name stack (Some (instruction.OnStack operation)) = does number (operated operation number stack)
-act_of number name stack (Some instruction.UseTransaction) = uses number (bytes_operand stack)
-act_of number name stack (Some (instruction.OnTransaction operation)) = asks number (awaits_of operation) (request_of operation name stack)
-act_of number name stack (Some (instruction.OnDatabase operation scope)) = asks number (awaits_in operation scope) (requested scope name (call_of operation stack))
+  Asks : (registers : Registers) (request : Request) (awaits : Awaits) → Act
 
 abbrev pub acted : Machine → Act → Progress
-acted machine (Does stack) = silent (done machine stack)
-acted machine (Uses name stack) = silent (done (record machine { name = name }) stack)
-acted machine (Stops stack end) = silent (stopped machine stack end)
-acted machine (Asks stack request awaits) = asking machine stack request awaits
+acted machine (Does registers) = silent (done machine registers)
+acted machine (Stops registers end) = silent (stopped machine registers end)
+acted machine (Asks registers request awaits) = asking machine registers request awaits
+
+abbrev pub with_stack : Registers → List Item → Registers
+with_stack registers stack = record registers { stack = stack }
+
+-- the instruction of this number pushes an element
+abbrev pub pushing : ℕ → Registers → Elem → Registers
+pushing number registers element = with_stack registers (pushed number (element ∷ []) registers.stack)
+
+-- the instruction of this number notes a fault by its word, and pushes an element
+abbrev pub failing : ℕ → Registers → (word : List ℕ) → Elem → Registers
+failing number registers word element =
+    pushing number (record registers { errors = registers.errors ++ record { instruction = number; word = word } ∷ [] }) element
+
+-- an instruction of this number that was refused: an item is missing, or an operand is of a wrong kind or range
+abbrev pub refused : ℕ → Registers → Refusal → Act
+refused number registers (Missing left) = Stops (with_stack registers left) (end.Underflow number)
+refused number registers (Unfit left) = Stops (with_stack registers left) (end.BadInstruction number)
+
+abbrev pub does : ℕ → Registers → Operated → Act
+does number registers (Ok stack) = Does (with_stack registers stack)
+does number registers (Err refusal) = refused number registers refusal
+
+-- a request, where its operands were popped
+abbrev pub asks : ℕ → Registers → Awaits → Popped Request → Act
+asks number registers awaits (Ok popped) = Asks (with_stack registers popped.1) popped.0 awaits
+asks number registers awaits (Err refusal) = refused number registers refusal
+
+-- a call on the database in this scope, where its operands were popped
+abbrev pub calls : ℕ → Registers → Scope → Popped Calls → Act
+calls number registers scope (Ok popped) = Asks (with_stack registers popped.1) (request_in scope registers.name popped.0.0) popped.0.1
+calls number registers scope (Err refusal) = refused number registers refusal
+
+-- USE_TRANSACTION pops the name
+abbrev pub uses : ℕ → Registers → Popped (List ℕ) → Act
+uses number registers (Ok popped) = Does (record registers { name = popped.0; stack = popped.1 })
+uses number registers (Err refusal) = refused number registers refusal
+
+-- LOG_STACK takes the uppermost items and writes them, and goes on so until none is left
+abbrev pub logs_on : List Item → Registers → List ℕ → Act
+logs_on [] registers prefix = Does registers
+logs_on (top ∷ below) registers prefix =
+    Asks (with_stack registers (drop LOG_BATCH (top ∷ below))) (request.Log prefix (log_entries (top ∷ below))) (awaits.Logged prefix)
+
+-- LOG_STACK pops the prefix
+abbrev pub logs_stack : ℕ → Registers → Popped (List ℕ) → Act
+logs_stack number registers (Ok popped) = logs_on popped.1 (with_stack registers popped.1) popped.0
+logs_stack number registers (Err refusal) = refused number registers refusal
+
+-- the instruction of this number on these registers
+unfoldable pub act_of : ℕ → Registers → Option Instruction → Act
+act_of number registers None = Stops registers (end.BadInstruction number)
+act_of number registers (Some (instruction.Push element)) = Does (pushing number registers element)
+act_of number registers (Some (instruction.OnStack operation)) = does number registers (operated operation number registers.stack)
+act_of number registers (Some instruction.UseTransaction) = uses number registers (bytes_operand registers.stack)
+act_of number registers (Some (instruction.OnTransaction operation)) =
+    asks number registers (awaits_of operation) (request_of operation registers.name registers.stack)
+act_of number registers (Some (instruction.OnDatabase operation scope)) =
+    calls number registers scope (call_of operation scope registers.stack)
+act_of number registers (Some instruction.LogStack) = logs_stack number registers (bytes_operand registers.stack)
 
 -- ---- going on
 
 -- what a running machine does next: an instruction, or its end where all were run
 abbrev pub next_act : Machine → Option (List ℕ) → Act
-next_act machine None = Stops machine.stack end.Ended
-next_act machine (Some value) = act_of machine.next machine.name machine.stack (instruction_of value)
+next_act machine None = Stops machine.registers end.Ended
+next_act machine (Some value) = act_of machine.next machine.registers (instruction_of value)
 
 abbrev pub advance_by : State → Machine → Progress
 advance_by state.Running machine = acted machine (next_act machine (slice_get machine.instructions machine.next))
@@ -131,55 +164,63 @@ advance_by (state.Stopped end) machine = silent machine
 unfoldable pub advance : Machine → Progress
 advance machine = advance_by machine.state machine
 
+-- ---- using a reply
+
 -- the fixed text, a byte string
 abbrev pub result_not_present : Elem
 result_not_present = elem.Bytes (codes "RESULT_NOT_PRESENT")
 
--- the digits of a code, and the item that tells of it
+-- the item that tells of a code
 abbrev pub error_item : ℕ → Elem
 error_item code = elem.Bytes (spelling (Single (Bytes (codes "ERROR")) (Single (Bytes (decimal code)) Empty)))
-
-abbrev pub error_note : ℕ → ℕ → ErrorNote
-error_note number code = record { instruction = number; word = decimal code }
-
--- a fault is noted, and pushed
-abbrev pub faulted : Machine → ℕ → Machine
-faulted machine code =
-    done (record machine { errors = machine.errors ++ error_note machine.next code ∷ [] }) (pushed machine.next (error_item code ∷ []) machine.stack)
-
-abbrev pub pushes : Machine → Elem → Machine
-pushes machine element = done machine (pushed machine.next (element ∷ []) machine.stack)
 
 abbrev pub value_or_text : Option (List ℕ) → Elem
 value_or_text (Some value) = elem.Bytes value
 value_or_text None = result_not_present
 
--- what a reply comes to
+-- a key where it begins with the prefix; else the prefix where the key is less, and the end of the prefix's range where it is greater
+abbrev pub key_within : List ℕ → List ℕ → List ℕ
+key_within prefix key = if begins_with key prefix then key else if key_lt key prefix then prefix else prefix_end prefix
+
+-- the keys and values of pairs in turn, as one packed tuple
+unfoldable pub packed_pairs : Entries → Elem
+packed_pairs pairs = elem.Bytes (spelling (tuple_of (flat_map (λ e. elem.Bytes e.0 ∷ elem.Bytes e.1 ∷ []) pairs)))
+
+abbrev pub pairs_within : List ℕ → Entries → Entries
+pairs_within prefix pairs = filter (λ e. begins_with e.0 prefix) pairs
+
+-- what a reply is used for
 pub data Use : Type 0 where
   Goes : Use
   Pushes : (element : Elem) → Use
-  Faults : (code : ℕ) → Use
+  -- a fault is noted by its word, and an element pushed
+  Fails : (word : List ℕ) (element : Elem) → Use
+  -- LOG_STACK goes on
+  LogsOn : (prefix : List ℕ) → Use
 
--- what a reply is used for; one of another kind than the request's changes nothing but that the machine goes on
+-- a reply of another kind than the request's changes nothing but that the machine goes on
 abbrev pub use_of : Awaits → Reply → Use
-use_of awaits (reply.Fault code) = Faults code.0
+use_of awaits (reply.Fault code) = Fails (decimal code.0) (error_item code.0)
 use_of awaits.NotPresent reply.Done = Pushes result_not_present
 use_of awaits.Value (reply.Value value) = Pushes (value_or_text value)
+use_of (awaits.Key prefix) (reply.KeyIs key) = Pushes (elem.Bytes (key_within prefix key))
+use_of awaits.Pairs (reply.PairsAre pairs) = Pushes (packed_pairs pairs)
+use_of (awaits.PairsWithin prefix) (reply.PairsAre pairs) = Pushes (packed_pairs (pairs_within prefix pairs))
+use_of (awaits.Logged prefix) reply.Done = LogsOn prefix
 use_of awaits reply = Goes
 
-abbrev pub used : Machine → Use → Machine
-used machine Goes = done machine machine.stack
-used machine (Pushes element) = pushes machine element
-used machine (Faults code) = faulted machine code
+-- in the instruction of this number
+abbrev pub used : ℕ → Registers → Use → Act
+used number registers Goes = Does registers
+used number registers (Pushes element) = Does (pushing number registers element)
+used number registers (Fails word element) = Does (failing number registers word element)
+used number registers (LogsOn prefix) = logs_on registers.stack registers prefix
 
-abbrev pub answered : Machine → Awaits → Reply → Machine
-answered machine awaits reply = used machine (use_of awaits reply)
+abbrev pub resumed_by : State → Machine → Reply → Progress
+resumed_by state.Running machine reply = silent machine
+resumed_by (state.Awaiting awaits) machine reply = acted machine (used machine.next machine.registers (use_of awaits reply))
+resumed_by (state.Stopped end) machine reply = silent machine
 
-abbrev pub resumed_by : State → Machine → Reply → Machine
-resumed_by state.Running machine reply = machine
-resumed_by (state.Awaiting awaits) machine reply = answered machine awaits reply
-resumed_by (state.Stopped end) machine reply = machine
-
--- the machine after the reply to what it asked
-unfoldable pub resumed : Machine → Reply → Machine
+-- the machine after the reply to what it asked, and what it asks next within the same instruction
+unfoldable pub resumed : Machine → Reply → Progress
 resumed machine reply = resumed_by machine.state machine reply

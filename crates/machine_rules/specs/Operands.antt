@@ -1,6 +1,8 @@
 -- Operands: what an operation pops from a stack, one item after the other, and the kinds that it takes. A stack is
 -- the list of its items, the top first.
-use Rattle.std.specs.Prelude.{ℕ, zero, suc, List, [], ◌∷◌, ℤ, pos, negsuc, Option, Some, None, Result, Ok, Err, option_and_then, nat_lt, if◌then◌else◌}
+use Rattle.std.specs.Prelude.{ℕ, zero, suc, ◌==◌, Bool, List, [], ◌∷◌, ℤ, pos, negsuc, unsigned_abs, Option, Some, None, Result, Ok, Err, option_and_then, nat_lt, if◌then◌else◌}
+use Rattle.database_rules.specs.declared.mode.Mode.{Mode}
+use Rattle.database_rules.specs.declared.mode.Mode.TheVariants as mode
 use Rattle.fdb_tuple.specs.declared.tuple.Elem.{Elem}
 use Rattle.fdb_tuple.specs.declared.tuple.Elem.TheVariants as elem
 use Rattle.fdb_tuple.specs.Tuples.{Elements}
@@ -40,6 +42,41 @@ code_in n = if nat_lt n 65536 then Some n else None
 
 abbrev pub code_of : Elem → Option ℕ
 code_of element = option_and_then code_in (count_of element)
+
+-- "flag": an integer, true where it isn't 0, or a boolean
+abbrev pub flag_of : Elem → Option Bool
+flag_of (elem.Int number) = Some (nat_lt 0 (unsigned_abs number))
+flag_of (elem.Bool flag) = Some flag
+flag_of _ = None
+
+-- "offset": an integer of 32 bits with a sign
+abbrev pub offset_in : ℤ → Option ℤ
+offset_in (pos n) = if nat_lt n 2147483648 then Some (pos n) else None
+offset_in (negsuc n) = if nat_lt n 2147483648 then Some (negsuc n) else None
+
+abbrev pub offset_of : Elem → Option ℤ
+offset_of element = option_and_then offset_in (int_of element)
+
+-- "limit": an integer from 0 to 2^31 - 1
+abbrev pub limit_in : ℕ → Option ℕ
+limit_in n = if nat_lt n 2147483648 then Some n else None
+
+abbrev pub limit_of : Elem → Option ℕ
+limit_of element = option_and_then limit_in (count_of element)
+
+-- "mode": an integer from -2 to 4 (API reference, "FDBStreamingMode")
+abbrev pub mode_in : ℤ → Option Mode
+mode_in (pos n) =
+    if n == 0 then Some mode.Exact
+    else if n == 1 then Some mode.Small
+    else if n == 2 then Some mode.Medium
+    else if n == 3 then Some mode.Large
+    else if n == 4 then Some mode.Serial
+    else None
+mode_in (negsuc n) = if n == 0 then Some mode.Iterator else if n == 1 then Some mode.WantAll else None
+
+abbrev pub mode_of : Elem → Option Mode
+mode_of element = option_and_then mode_in (int_of element)
 
 -- ---- popping
 
@@ -88,6 +125,18 @@ count_operand stack = operand_by count_of stack
 
 abbrev pub code_operand : List Item → Popped ℕ
 code_operand stack = operand_by code_of stack
+
+abbrev pub flag_operand : List Item → Popped Bool
+flag_operand stack = operand_by flag_of stack
+
+abbrev pub offset_operand : List Item → Popped ℤ
+offset_operand stack = operand_by offset_of stack
+
+abbrev pub limit_operand : List Item → Popped ℕ
+limit_operand stack = operand_by limit_of stack
+
+abbrev pub mode_operand : List Item → Popped Mode
+mode_operand stack = operand_by mode_of stack
 
 -- so many operands, in the order popped
 unfoldable pub operands_by : {A : Type 0} → (List Item → Popped A) → ℕ → List Item → Popped (List A)

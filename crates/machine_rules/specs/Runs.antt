@@ -3,11 +3,13 @@ use Rattle.std.specs.Prelude.{◌≡◌, ℕ, zero, suc, ◌+◌, ◌-◌, Bool,
 use Rattle.std.specs.List.{enumerate_from, list_all}
 use Rattle.std.specs.FinMap as finite
 use Rattle.key_bytes.specs.Keys.{within}
-use Rattle.database_rules.specs.Databases.{Database, at, last}
+use Rattle.database_rules.specs.Databases.{Database}
+use Rattle.database_rules.specs.Histories.{at, last}
 use Rattle.fdb_tuple.specs.Tuples.{Bytes, Empty, Single}
 use Rattle.fdb_tuple.specs.Listed.{before}
 use Rattle.fdb_tuple.specs.Spelling.{spelling}
 use Rattle.line_rules.specs.Printing.{machine_line, item_line, error_line, order_line, pair_line}
+use Rattle.machine_rules.specs.declared.TheConstants.{POLLS}
 use Rattle.machine_rules.specs.declared.End.TheVariants as end
 use Rattle.machine_rules.specs.declared.State.{State}
 use Rattle.machine_rules.specs.declared.State.TheVariants as state
@@ -27,8 +29,8 @@ rested zero progress = progress
 rested (suc more) progress = if is_running progress.machine.state then rested more (advance progress.machine) else progress
 
 -- each instruction is run once at most, and then the machine ends: so many steps are enough
-unfoldable pub at_rest : Machine → Progress
-at_rest machine = rested (length machine.instructions - machine.next + 1) (silent machine)
+unfoldable pub at_rest : Progress → Progress
+at_rest progress = rested (length progress.machine.instructions - progress.machine.next + 1) progress
 
 -- ---- starting a machine
 
@@ -43,7 +45,7 @@ instructions_in database prefix =
 
 -- the map at the last version
 abbrev pub newest : World → Database
-newest world = at world.history (last world.history)
+newest world = at world.setting.history (last world.setting.history)
 
 -- a machine of a number, as it is started under a prefix
 unfoldable pub started : World → ℕ → List ℕ → Machine
@@ -52,9 +54,8 @@ started world number prefix = record {
   prefix = prefix;
   instructions = instructions_in (newest world) prefix;
   next = 0;
-  name = prefix;
-  stack = [];
-  errors = [];
+  polls = POLLS;
+  registers = record { name = prefix; stack = []; errors = [] };
   state = state.Running;
 }
 
@@ -73,7 +74,7 @@ words_of_run place = 0
 abbrev pub start : List (List ℕ × List ℕ) → List ℕ → Run
 start pairs prefix =
     let world = begun pairs words_of_run in
-    record { world = world; machines = at_rest (started world 0 prefix) ∷ [] }
+    record { world = world; machines = at_rest (silent (started world 0 prefix)) ∷ [] }
 
 -- a machine's request was taken: its machine has the reply, and stands at its next request or its end
 abbrev pub replied : Run → ℕ → Machine → Stepped → Run
@@ -132,11 +133,11 @@ end_line machine (state.Stopped (end.Underflow instruction)) = machine_line mach
 -- a machine's stack, each item with its place, the oldest at 0
 abbrev pub stack_lines : Machine → List ℕ
 stack_lines machine =
-    flat_map (λ (place, item). item_line machine.number place item.instruction (spelling (before item.element Empty))) (enumerate_from 0 (reverse machine.stack))
+    flat_map (λ (place, item). item_line machine.number place item.instruction (spelling (before item.element Empty))) (enumerate_from 0 (reverse machine.registers.stack))
 
 -- the errors that a machine noted
 abbrev pub error_lines : Machine → List ℕ
-error_lines machine = flat_map (λ note. error_line machine.number note.instruction note.word) machine.errors
+error_lines machine = flat_map (λ note. error_line machine.number note.instruction note.word) machine.registers.errors
 
 -- how the machines ended, their stacks, their errors, the order, and the map at the last version in the order of its keys
 unfoldable pub dump : List ℕ → Run → List ℕ

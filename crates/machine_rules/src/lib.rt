@@ -36,8 +36,17 @@ pub struct ErrorNote {
     pub word: Bytes,
 }
 
+/// How often the polls of one wait may be answered that it isn't decided yet.
+pub const POLLS: u32 = 10_000;
+
+/// How many items LOG_STACK writes in one request, at most.
+pub const LOG_BATCH: usize = 100;
+
+/// How many bytes of a packed item LOG_STACK writes, at most.
+pub const LOGGED_BYTES: usize = 40_000;
+
 /// What the reply to a request is used for, where it is no fault.
-#[derive(Clone, Copy, Debug, PartialEq, Eq)]
+#[derive(Debug, Drop)]
 pub enum Awaits {
     /// Nothing is pushed.
     Nothing,
@@ -45,10 +54,19 @@ pub enum Awaits {
     NotPresent,
     /// The value is pushed, or the fixed text `RESULT_NOT_PRESENT` where there is none.
     Value,
+    /// The key is pushed where it begins with the prefix; else the prefix where the key is less, and the least key above
+    /// all that begin with the prefix where it is greater.
+    Key { prefix: Bytes },
+    /// The keys and values of the pairs in turn are pushed, as one packed tuple.
+    Pairs,
+    /// The same of the pairs with keys that begin with the prefix.
+    PairsWithin { prefix: Bytes },
+    /// The next items are logged under the prefix, until none is left.
+    Logged { prefix: Bytes },
 }
 
 /// What a machine is about to do.
-#[derive(Clone, Copy, Debug, PartialEq, Eq)]
+#[derive(Debug, Drop)]
 pub enum State {
     /// To run its next instruction.
     Running,
@@ -98,6 +116,15 @@ pub enum StackOperation {
 pub enum DatabaseOperation {
     /// Pops a key, and pushes its value.
     Get,
+    /// Pops a selector and a prefix, and pushes the key that the selector means as the prefix lets it.
+    GetKey,
+    /// Pops two keys, a limit, whether reversed and a mode, and pushes the pairs of the range.
+    GetRange,
+    /// Pops a prefix, a limit, whether reversed and a mode, and pushes the pairs with keys that begin with the prefix.
+    GetRangeStartsWith,
+    /// Pops two selectors, a limit, whether reversed, a mode and a prefix, and pushes the pairs between the selectors' keys
+    /// with keys that begin with the prefix.
+    GetRangeSelector,
     /// Pops a key and a value, and writes the value under the key.
     Set,
     /// Pops a key, and clears it.
@@ -147,4 +174,6 @@ pub enum Instruction {
     OnTransaction(TransactionOperation),
     /// Calls the database in one of two forms.
     OnDatabase(DatabaseOperation, Scope),
+    /// Pops a prefix, and writes all items of the stack under it, at most `LOG_BATCH` in one commit.
+    LogStack,
 }

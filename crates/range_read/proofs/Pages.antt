@@ -7,10 +7,12 @@ use Rattle.std.proofs.lemmas.List.{take-take, length-take, append-nil}
 use Rattle.std.proofs.lemmas.Option.{same_Some}
 use Rattle.std.specs.Option.{option_map_or}
 use Rattle.database_rules.specs.Databases.{Database}
-use Rattle.range_read.specs.declared.mode.Mode.{Mode}
-use Rattle.range_read.specs.declared.mode.Mode.TheVariants.{WantAll, Iterator, Exact, Small, Medium, Large, Serial}
-use Rattle.range_read.specs.Pages.{capped, page_size, lacks_limit}
-use Rattle.range_read.specs.Slices.{Entries, cut, span, slice, slice_behind, last_key}
+use Rattle.database_rules.specs.declared.mode.Mode.{Mode}
+use Rattle.database_rules.specs.declared.mode.Mode.TheVariants.{WantAll, Iterator, Exact, Small, Medium, Large, Serial}
+use Rattle.database_rules.specs.Modes.{lacks_limit}
+use Rattle.range_read.specs.Pages.{capped, page_size}
+use Rattle.database_rules.specs.Slices.{Entries, cut, span, slice}
+use Rattle.range_read.specs.Left.{slice_behind, last_key}
 use Rattle.range_read.specs.Walks.{begin_behind, end_behind, has_more}
 use Rattle.range_read.proofs.Lists.{last-append}
 use Rattle.range_read.proofs.Walks.{Entry, span_behind}

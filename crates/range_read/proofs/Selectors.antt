@@ -9,10 +9,10 @@ use Rattle.std.proofs.lemmas.List.{get_or-append-add, get_or_append_left, get_or
 use Rattle.std.proofs.lemmas.List.Sums.{length-filter}
 use Rattle.key_bytes.specs.Keys.{key_lt, key_le, after, top}
 use Rattle.database_rules.specs.Databases.{Database}
-use Rattle.range_read.specs.declared.selector.Selector.{Selector}
+use Rattle.database_rules.specs.declared.selector.Selector.{Selector}
 use Rattle.range_read.specs.Courses.{start_of}
-use Rattle.range_read.specs.Selecting.{select, key_at, sorted_keys, stands_before}
-use Rattle.range_read.specs.Slices.{Entries}
+use Rattle.database_rules.specs.Selecting.{select, key_at, sorted_keys, stands_before}
+use Rattle.database_rules.specs.Slices.{Entries}
 use Rattle.range_read.specs.Walks.{onward}
 use Rattle.range_read.proofs.Lists.{filter-reverse, reverse-cons}
 use Rattle.key_bytes.proofs.Orders.{lt_after, above_not_below, le_lt}

@@ -1,7 +1,7 @@
 -- How a selector's key is found: from a start up, or from it down.
 use Rattle.std.specs.Prelude.{◌≡◌, ℕ, suc, ℤ, pos, neg_ℤ, if◌then◌else◌, List}
 use Rattle.key_bytes.specs.Keys.{after}
-use Rattle.range_read.specs.declared.selector.Selector.{Selector}
+use Rattle.database_rules.specs.declared.selector.Selector.{Selector}
 use Rattle.range_read.specs.declared.resolving.Course.{Course}
 use Rattle.range_read.specs.declared.resolving.Course.TheVariants.{Up, Down}
 

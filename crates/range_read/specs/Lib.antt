@@ -1,5 +1,4 @@
 pub mod Courses
 pub mod Pages
-pub mod Selecting
-pub mod Slices
+pub mod Left
 pub mod Walks

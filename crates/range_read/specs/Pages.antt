@@ -1,7 +1,8 @@
 -- How many pairs a page has.
-use Rattle.std.specs.Prelude.{◌≡◌, ℕ, ◌-◌, ◌*◌, ◌^◌, ◌==◌, Bool, true, false, if◌then◌else◌, min}
-use Rattle.range_read.specs.declared.mode.Mode.{Mode}
-use Rattle.range_read.specs.declared.mode.Mode.TheVariants.{WantAll, Iterator, Exact, Small, Medium, Large, Serial}
+use Rattle.std.specs.Prelude.{◌≡◌, ℕ, ◌-◌, ◌*◌, ◌^◌, ◌==◌, true, false, if◌then◌else◌, min}
+use Rattle.database_rules.specs.declared.mode.Mode.{Mode}
+use Rattle.database_rules.specs.declared.mode.Mode.TheVariants.{WantAll, Iterator, Exact, Small, Medium, Large, Serial}
+use Rattle.database_rules.specs.Modes.{lacks_limit}
 use Rattle.range_read.specs.declared.fault.RangeFault.{RangeFault}
 use Rattle.range_read.specs.declared.fault.RangeFault.TheVariants.{NoLimit, NoMemory}
 
@@ -23,11 +24,6 @@ full_size Exact turn = 0
 abbrev pub page_size : Mode → (limit turn : ℕ) → ℕ
 page_size Exact limit turn = limit
 page_size mode limit turn = capped limit (full_size mode turn)
-
--- Exact wants a limit
-abbrev pub lacks_limit : Mode → ℕ → Bool
-lacks_limit Exact limit = limit == 0
-lacks_limit mode limit = false
 
 -- why a range was not read: NoLimit exactly where the limit is lacking
 abbrev pub IsRefused : Mode → ℕ → RangeFault → Type 0

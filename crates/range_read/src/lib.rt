@@ -2,9 +2,9 @@
 //! database.
 //!
 //! A view answers the first pair from a key on, and the last pair below a key (`OrderedView`). From these two alone
-//! `resolve` answers the key that a selector means (`select`, in `specs/Selecting.antt`), `all` the pairs of a range,
-//! in order or reversed, up to a limit (`slice`, in `specs/Slices.antt`), and `page` the first so many of these, and
-//! whether more follow (`page_size`, in `specs/Pages.antt`). Where more follow, the slice is the page followed by the
+//! `resolve` answers the key that a selector means (`select`), `all` the pairs of a range, in order or reversed, up to a
+//! limit (`slice`; both are words of `database_rules`), and `page` the first so many of these, and whether more follow
+//! (`page_size`, in `specs/Pages.antt`). Where more follow, the slice is the page followed by the
 //! slice of what is left, so pages that are read one behind another until no more follow are together the slice.
 //!
 //! The rules are those of the API reference of release 6.3: "Key selectors" for `resolve`, and
@@ -18,16 +18,15 @@ mod mode;
 mod paged;
 mod reading;
 mod resolving;
-mod selector;
 mod view;
 mod walking;
 
+pub use database_rules::{Mode, Selector};
 pub use fault::RangeFault;
-pub use mode::Mode;
+pub use mode::lacks_limit;
 pub use paged::Page;
 pub use reading::{all, page};
 pub use resolving::resolve;
-pub use selector::Selector;
 pub use view::OrderedView;
 
 #[cfg(test)]

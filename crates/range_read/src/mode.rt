@@ -1,30 +1,14 @@
-//! Streaming modes.
+//! How many pairs a page of a streaming mode has.
 
 ghost use Rattle.std.specs.Prelude.{◌≡◌, ◌<◌, ◌≤◌, ◌*◌, ◌^◌, ◌-◌, min};
-ghost use Rattle.range_read.specs.Pages.{capped, full_size, lacks_limit, page_size};
+ghost use Rattle.database_rules.specs.Modes.{lacks_limit};
+ghost use Rattle.range_read.specs.Pages.{capped, full_size, page_size};
 
-/// How many pairs a caller wants at a time (API reference of release 6.3, "fdb_transaction_get_range", streaming modes).
-/// A page of each mode has at most as many pairs as `page_size` in `specs/Pages.antt` says.
-#[derive(Clone, Copy, Debug, PartialEq, Eq)]
-pub enum Mode {
-    /// Everything is wanted soon: 4,096 pairs a page.
-    WantAll,
-    /// Pages that grow as the caller goes on: 16 pairs in the first, twice as many in each that follows, up to 4,096.
-    Iterator,
-    /// Exactly the limit, in one page. There must be a limit.
-    Exact,
-    /// 16 pairs a page.
-    Small,
-    /// 128 pairs a page.
-    Medium,
-    /// 1,024 pairs a page.
-    Large,
-    /// 4,096 pairs a page.
-    Serial,
-}
+use database_rules::Mode;
 
-// Whether a mode wants a limit that is not there. It takes no memory.
-pub(crate) fn lacks(mode: Mode, limit: u32) -> bool
+/// Whether a mode wants a limit that is not there: a read of a range is then refused with 2210 (API reference of release
+/// 6.3, "fdb_transaction_get_range", `EXACT`). It takes no memory.
+pub fn lacks_limit(mode: Mode, limit: u32) -> bool
     ensures { result ≡ lacks_limit mode limit }
 {
     match mode {

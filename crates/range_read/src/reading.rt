@@ -1,15 +1,18 @@
 //! Slices of a range, whole and by pages.
 
 ghost use Rattle.std.specs.Prelude.{◌≡◌, ◌≤◌, ◌++◌, ◌-◌, true, false, IfOk, IfErr, take, length, nat_lt};
-ghost use Rattle.range_read.specs.Pages.{lacks_limit, page_size, IsRefused};
-ghost use Rattle.range_read.specs.Slices.{slice, slice_behind, span, last_key};
+ghost use Rattle.database_rules.specs.Modes.{lacks_limit};
+ghost use Rattle.database_rules.specs.Slices.{slice, span};
+ghost use Rattle.range_read.specs.Left.{slice_behind, last_key};
+ghost use Rattle.range_read.specs.Pages.{page_size, IsRefused};
 ghost use Rattle.range_read.specs.Walks.{has_more};
 
 use crate::fault::RangeFault;
-use crate::mode::{Mode, lacks, size_of_page};
+use crate::mode::{lacks_limit, size_of_page};
 use crate::paged::Page;
 use crate::view::OrderedView;
 use crate::walking::{first_inside, walk};
+use database_rules::Mode;
 use key_bytes::{KeyRange, Pairs};
 use std::alloc::{AllocError, Global};
 
@@ -18,7 +21,7 @@ fn check(mode: Mode, limit: u32) -> Result<(), RangeFault>
     ensures ok { IfOk result (λ _. lacks_limit mode limit ≡ false) }
     ensures err { IfErr result (λ fault. (lacks_limit mode limit ≡ true) × IsRefused mode limit fault) }
 {
-    if lacks(mode, limit) {
+    if lacks_limit(mode, limit) {
         return Err(RangeFault::NoLimit);
     }
     Ok(())

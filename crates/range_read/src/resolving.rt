@@ -3,12 +3,12 @@
 ghost use Rattle.std.specs.Prelude.{◌≡◌, IfOk, slice_get, slice_index_or};
 ghost use Rattle.std.specs.Map.{keys_of};
 ghost use Rattle.range_read.specs.Courses.{start_of, IsCourse};
-ghost use Rattle.range_read.specs.Selecting.{select};
+ghost use Rattle.database_rules.specs.Selecting.{select};
 ghost use Rattle.range_read.specs.Walks.{onward};
 
-use crate::selector::Selector;
 use crate::view::OrderedView;
 use crate::walking::{go_on, step};
+use database_rules::Selector;
 use key_bytes::{Bytes, Key};
 use std::alloc::{AllocError, Global};
 

@@ -2,7 +2,8 @@ ghost use Rattle.std.specs.Prelude.{◌≡◌, ◌<◌, ◌≤◌, ◌++◌, ◌
 ghost use Rattle.std.specs.Map.Iter.{deref_pair};
 ghost use Rattle.std.specs.Option.{option_map};
 ghost use Rattle.key_bytes.specs.Entries.{entry_of};
-ghost use Rattle.range_read.specs.Slices.{last_key, slice};
+ghost use Rattle.database_rules.specs.Slices.{slice};
+ghost use Rattle.range_read.specs.Left.{last_key};
 ghost use Rattle.range_read.specs.Walks.{begin_behind, end_behind};
 
 use super::*;
@@ -39,14 +40,12 @@ fn copied(found: Option<(&Key, &Bytes)>) -> Result<Option<Pair>, AllocError>
 impl OrderedView for Seen {
     ghost map = { λ seen. seen.pairs };
 
-    fn next(&self, key: &[u8]) -> Result<Option<Pair>, AllocError> {
-        let key = Bytes::from_slice(self.alloc, key)?;
-        copied(self.pairs.next(&key))
+    fn next(&self, key: &Key) -> Result<Option<Pair>, AllocError> {
+        copied(self.pairs.next(key))
     }
 
-    fn prev(&self, key: &[u8]) -> Result<Option<Pair>, AllocError> {
-        let key = Bytes::from_slice(self.alloc, key)?;
-        copied(self.pairs.prev(&key))
+    fn prev(&self, key: &Key) -> Result<Option<Pair>, AllocError> {
+        copied(self.pairs.prev(key))
     }
 }
 

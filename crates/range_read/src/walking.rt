@@ -4,7 +4,7 @@ ghost use Rattle.std.specs.Prelude.{◌≡◌, ◌<◌, ◌≤◌, ◌++◌, ℕ
 ghost use Rattle.std.specs.Option.{option_map};
 ghost use Rattle.key_bytes.specs.Entries.{entry_of};
 ghost use Rattle.key_map.specs.Ends.{first};
-ghost use Rattle.range_read.specs.Slices.{slice, span};
+ghost use Rattle.database_rules.specs.Slices.{slice, span};
 ghost use Rattle.range_read.specs.Walks.{begin_behind, behind, end_behind, near, onward};
 
 use crate::view::OrderedView;
@@ -28,9 +28,9 @@ pub(crate) fn step<V: OrderedView>(
         ≡ first (onward (V.map view.now) from.now down)) }
 {
     if down {
-        view.prev(from.as_slice())
+        view.prev(from)
     } else {
-        view.next(from.as_slice())
+        view.next(from)
     }
 }
 

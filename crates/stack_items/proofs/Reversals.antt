@@ -1,8 +1,10 @@
 -- A stack's list of items has its top first, the Vec behind it its oldest: what an edit of the one is in the other.
-use Rattle.std.proofs.Common.{◌≡◌, ◌≢◌, ℕ, ◌-◌, ◌<◌, List, [], ◌∷◌, length, get_or, set, reverse, refl, sym, ap, ◌∙◌, ⊎_elim, arith}
+use Rattle.std.proofs.Common.{List, [], ◌∷◌, ◌++◌, length, take, drop, get_or, set, reverse}
+use Rattle.std.proofs.Common.{◌≡◌, ◌≢◌, ℕ, ◌-◌, ◌<◌, refl, sym, ap, ◌∙◌, ⊎_elim, arith}
 use Rattle.std.specs.List.{swap, AllByRecursion}
 use Rattle.std.proofs.lemmas.Bool.{cases_eq}
-use Rattle.std.proofs.lemmas.List.{length-reverse, length-set, get_or-reverse, get_or-set_same, get_or-set_other, same_lists}
+use Rattle.std.proofs.lemmas.List.{length-reverse, length-set, length-drop, get_or-reverse, get_or-set_same, get_or-set_other, same_lists}
+use Rattle.std.proofs.lemmas.List.{take-append-drop, take_at, drop_at, reverse-append, reverse-reverse}
 use Rattle.std.proofs.lemmas.List.Edits.{swap_is}
 use Rattle.std.proofs.lemmas.List.Elements.{All-from_recursion, recursion_from_All}
 use Rattle.std.proofs.lemmas.List.Sorted.{IsPermutation-swap, All-permutation}
@@ -55,3 +57,27 @@ pub all-swap : {X : Type 0} (P : X → Type 0) (xs : List X) (i j : ℕ) → i <
     → AllByRecursion P (swap xs i j)
 all-swap P xs i j lt lt' all =
     recursion_from_All P (swap xs i j) (All-permutation P xs (swap xs i j) (IsPermutation-swap xs (swap xs i j) i j lt lt' refl) (All-from_recursion P xs all))
+
+-- ---- the first items, and those below
+
+reverse-split : {X : Type 0} (n : ℕ) (xs : List X) → reverse xs ≡ reverse (drop n xs) ++ reverse (take n xs)
+reverse-split n xs = ap reverse (sym (take-append-drop n xs)) ∙ reverse-append (take n xs) (drop n xs)
+
+length-reverse-drop : {X : Type 0} (n : ℕ) (xs : List X) → length (reverse (drop n xs)) ≡ length xs - n
+length-reverse-drop n xs = length-reverse (drop n xs) ∙ length-drop n xs
+
+-- the last elements, as many as n says
+pub drop-reverse : {X : Type 0} (n : ℕ) (xs : List X) → drop (length xs - n) (reverse xs) ≡ reverse (take n xs)
+drop-reverse n xs =
+    ap (drop (length xs - n)) (reverse-split n xs)
+    ∙ drop_at (reverse (drop n xs)) (reverse (take n xs)) (length xs - n) (length-reverse-drop n xs)
+
+-- and those before them
+pub take-reverse : {X : Type 0} (n : ℕ) (xs : List X) → take (length xs - n) (reverse xs) ≡ reverse (drop n xs)
+take-reverse n xs =
+    ap (take (length xs - n)) (reverse-split n xs)
+    ∙ take_at (reverse (drop n xs)) (reverse (take n xs)) (length xs - n) (length-reverse-drop n xs)
+
+-- the list whose last elements were taken off
+pub kept_is : {X : Type 0} (n : ℕ) (xs kept : List X) → reverse kept ≡ take (length xs - n) (reverse xs) → kept ≡ drop n xs
+kept_is n xs kept e = sym (reverse-reverse kept) ∙ ap reverse (e ∙ take-reverse n xs) ∙ reverse-reverse (drop n xs)

@@ -6,6 +6,7 @@
 #![tactic(auto)]
 
 mod fault;
+mod logging;
 mod operands;
 mod operate;
 mod operations;

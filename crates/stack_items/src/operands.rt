@@ -2,15 +2,22 @@
 
 ghost use Rattle.std.specs.Prelude.{◌≡◌, ◌≤◌, [], ◌∷◌, ◌++◌, length, map, take, drop, Err, option_map, IfOk, OnOk, OnErr, IsOkUnless};
 ghost use Rattle.fdb_tuple.specs.Listed.{elements_of, IsElement};
-ghost use Rattle.machine_rules.specs.Operands.{bytes_of, string_of, int_of, count_in, code_in, code_operand, item_operand, bytes_operand, string_operand, int_operand, count_operand, tuple_operand, byte_strings_operand, left_of};
+ghost use Rattle.machine_rules.specs.Operands.{bytes_of, string_of, int_of, flag_of, count_in, code_in, offset_in, limit_in, mode_in};
+ghost use Rattle.machine_rules.specs.Operands.{code_operand, flag_operand, offset_operand, limit_operand, mode_operand, item_operand};
+ghost use Rattle.machine_rules.specs.Operands.{bytes_operand, string_operand, int_operand, count_operand, tuple_operand};
+ghost use Rattle.machine_rules.specs.Operands.{byte_strings_operand, left_of};
 ghost use Rattle.stack_items.specs.Items.{IsItem, EndsIn};
 ghost use Rattle.stack_items.specs.Pops.{Pops, PopsUnlessFull};
 
 use crate::fault::StackFault;
 use crate::stack::Stack;
+use database_rules::Mode;
 use fdb_tuple::{Elem, Tuple};
 use key_bytes::Bytes;
 use machine_rules::Item;
+
+// The greatest limit of a range.
+const LIMIT_MOST: u128 = (1 << 31) - 1;
 
 impl Stack {
     // Pops an item of any kind.
@@ -66,6 +73,50 @@ impl Stack {
         into_int(item.element)
             .and_then(count_in)
             .and_then(code_in)
+            .ok_or(StackFault::Operand)
+    }
+
+    /// Pops a flag: an integer, true where it isn't 0, or a boolean. Where there is no item it answers Underflow; where the
+    /// top item is neither it answers Operand, and the item is gone. It takes no memory.
+    pub fn pop_flag(&mut self) -> Result<bool, StackFault>
+        ensures { Pops (λ flag. flag) result (flag_operand self.old) self.new }
+    {
+        let item = self.pop_item()?;
+        into_flag(item.element).ok_or(StackFault::Operand)
+    }
+
+    /// Pops an offset: an integer of 32 bits with a sign. Where there is no item it answers Underflow; where the top item is
+    /// no such integer it answers Operand, and the item is gone. It takes no memory.
+    pub fn pop_offset(&mut self) -> Result<i32, StackFault>
+        ensures { Pops (λ offset. offset) result (offset_operand self.old) self.new }
+    {
+        let item = self.pop_item()?;
+        into_int(item.element)
+            .and_then(offset_in)
+            .ok_or(StackFault::Operand)
+    }
+
+    /// Pops a limit: an integer from 0 to 2^31 - 1. Where there is no item it answers Underflow; where the top item is no
+    /// such integer it answers Operand, and the item is gone. It takes no memory.
+    pub fn pop_limit(&mut self) -> Result<u32, StackFault>
+        ensures { Pops (λ limit. limit) result (limit_operand self.old) self.new }
+    {
+        let item = self.pop_item()?;
+        into_int(item.element)
+            .and_then(count_in)
+            .and_then(limit_in)
+            .ok_or(StackFault::Operand)
+    }
+
+    /// Pops a streaming mode by its number, from -2 to 4 (API reference, "FDBStreamingMode"). Where there is no item it
+    /// answers Underflow; where the top item is no such integer it answers Operand, and the item is gone. It takes no
+    /// memory.
+    pub fn pop_mode(&mut self) -> Result<Mode, StackFault>
+        ensures { Pops (λ mode. mode) result (mode_operand self.old) self.new }
+    {
+        let item = self.pop_item()?;
+        into_int(item.element)
+            .and_then(mode_in)
             .ok_or(StackFault::Operand)
     }
 
@@ -167,6 +218,47 @@ fn code_in(number: u128) -> Option<u16>
     ensures { result ≡ code_in number }
 {
     u16::try_from(number).ok()
+}
+
+fn into_flag(element: Elem) -> Option<bool>
+    ensures { result ≡ flag_of element }
+{
+    match element {
+        Elem::Int(number) => Some(number.unsigned_abs() > 0),
+        Elem::Bool(flag) => Some(flag),
+        _ => None,
+    }
+}
+
+fn offset_in(number: i128) -> Option<i32>
+    ensures { result ≡ offset_in number }
+{
+    i32::try_from(number).ok()
+}
+
+fn limit_in(number: u128) -> Option<u32>
+    ensures { result ≡ limit_in number }
+{
+    if number <= LIMIT_MOST {
+        Some(number as u32)
+    } else {
+        None
+    }
+}
+
+fn mode_in(number: i128) -> Option<Mode>
+    ensures { result ≡ mode_in number }
+{
+    match (number.is_negative(), number.unsigned_abs()) {
+        (true, 2) => Some(Mode::WantAll),
+        (true, 1) => Some(Mode::Iterator),
+        (false, 0) => Some(Mode::Exact),
+        (false, 1) => Some(Mode::Small),
+        (false, 2) => Some(Mode::Medium),
+        (false, 3) => Some(Mode::Large),
+        (false, 4) => Some(Mode::Serial),
+        _ => None,
+    }
 }
 
 /// The bytes of an element of the kind "bytes": of a byte string, or of a Unicode string's UTF-8. It takes no memory.

@@ -1,6 +1,6 @@
 //! A machine's stack.
 
-ghost use Rattle.std.specs.Prelude.{◌≡◌, ◌==◌, ◌<◌, [], ◌∷◌, Some, length, reverse, slice_get, IfSome, OnOk, OnErr, IsOkUnless};
+ghost use Rattle.std.specs.Prelude.{◌≡◌, ◌==◌, ◌<◌, [], ◌∷◌, Some, length, take, reverse, slice_get, IfSome, OnOk, OnErr, IsOkUnless};
 ghost use Rattle.std.specs.List.{swap};
 ghost use Rattle.machine_rules.specs.StackOperations.{pushed};
 ghost use Rattle.stack_items.specs.Items.{IsItem, AreItems};
@@ -142,6 +142,13 @@ impl Stack {
         ensures { self.new ≡ [] }
     {
         self.items.clear();
+    }
+
+    // Takes off all items but so many of the oldest.
+    pub(crate) fn keep_oldest(&mut self, count: usize)
+        ensures { reverse self.new ≡ take count (reverse self.old) }
+    {
+        self.items.truncate(count);
     }
 
     // The allocator of the stack.

@@ -1,3 +1,5 @@
+pub mod Acts
 pub mod MachineModel
+pub mod Packed
 pub mod Steps
 pub mod Pushes

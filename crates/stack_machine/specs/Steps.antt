@@ -5,7 +5,7 @@ use Rattle.fdb_calls.specs.declared.Reply.{Reply}
 use Rattle.fdb_calls.specs.declared.Reply.TheVariants as reply
 use Rattle.machine_rules.specs.declared.State.{State}
 use Rattle.machine_rules.specs.declared.State.TheVariants as state
-use Rattle.machine_rules.specs.Machines.{Machine, Progress, silent, advance, resumed}
+use Rattle.machine_rules.specs.Machines.{Machine, Progress, advance, resumed}
 use Rattle.machine_rules.specs.declared.End.{End}
 use Rattle.machine_rules.specs.declared.End.TheVariants as end
 use Rattle.stack_items.specs.declared.fault.StackFault.{StackFault}
@@ -31,7 +31,7 @@ MayStep false state reply = IsDue state reply
 -- one step: it goes on, or uses the reply
 abbrev pub moved : Machine → Option Reply → Progress
 moved machine None = advance machine
-moved machine (Some reply) = silent (resumed machine reply)
+moved machine (Some reply) = resumed machine reply
 
 abbrev pub answer_in : State → Step
 answer_in state.Running = step.Again

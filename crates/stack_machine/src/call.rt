@@ -2,9 +2,13 @@
 
 ghost use Rattle.std.specs.Prelude.{◌≡◌, IfOk};
 ghost use Rattle.machine_rules.specs.Operands.{operand_by};
-ghost use Rattle.machine_rules.specs.Calls.{get_call, set_call, clear_call, clear_range_call, clear_range_starts_with_call, atomic_name, atomic_call, call_of, prefix_end, request_of, awaits_in, awaits_of};
+ghost use Rattle.machine_rules.specs.Calls.{set_call, clear_call, clear_range_call, clear_range_starts_with_call, atomic_name, atomic_call};
+ghost use Rattle.machine_rules.specs.Calls.{call_of, written_in, prefix_end, request_of, awaits_of};
 ghost use Rattle.stack_items.specs.Pops.{Pops, PopsUnlessFull};
 
+use crate::reads::{
+    pop_get, pop_get_key, pop_get_range, pop_get_range_selector, pop_get_range_starts_with,
+};
 use atomic_ops::from_name;
 use fdb_calls::{Code, Request, TxnCall};
 use key_bytes::{Bytes, Key, KeyRange};
@@ -12,71 +16,73 @@ use machine_rules::{Awaits, DatabaseOperation, Scope, TransactionOperation};
 use stack_items::{Stack, StackFault};
 use std::alloc::{AllocError, Global};
 
-/// The call that an operation makes, by what it pops.
+/// A call on the database, and what its reply is used for.
+pub type Call = (TxnCall, Awaits);
+
+/// The call that an operation makes in a scope, by what it pops.
 pub fn pop_call(
     stack: &mut Stack,
     alloc: Global,
     operation: DatabaseOperation,
-) -> Result<TxnCall, StackFault>
-    ensures { PopsUnlessFull (λ call. call) result (call_of operation stack.old) stack.new }
+    scope: Scope,
+) -> Result<Call, StackFault>
+    ensures { PopsUnlessFull (λ call. call) result (call_of operation scope stack.old) stack.new }
 {
     match operation {
         DatabaseOperation::Get => pop_get(stack),
-        DatabaseOperation::Set => pop_set(stack),
-        DatabaseOperation::Clear => pop_clear(stack),
-        DatabaseOperation::ClearRange => pop_clear_range(stack),
-        DatabaseOperation::ClearRangeStartsWith => pop_clear_range_starts_with(stack, alloc),
-        DatabaseOperation::AtomicOp => pop_atomic(stack),
+        DatabaseOperation::GetKey => pop_get_key(stack),
+        DatabaseOperation::GetRange => pop_get_range(stack),
+        DatabaseOperation::GetRangeStartsWith => pop_get_range_starts_with(stack, alloc),
+        DatabaseOperation::GetRangeSelector => pop_get_range_selector(stack),
+        DatabaseOperation::Set => pop_set(stack, scope),
+        DatabaseOperation::Clear => pop_clear(stack, scope),
+        DatabaseOperation::ClearRange => pop_clear_range(stack, scope),
+        DatabaseOperation::ClearRangeStartsWith => {
+            pop_clear_range_starts_with(stack, alloc, scope)
+        }
+        DatabaseOperation::AtomicOp => pop_atomic(stack, scope),
     }
 }
 
-fn pop_get(stack: &mut Stack) -> Result<TxnCall, StackFault>
-    ensures { PopsUnlessFull (λ call. call) result (get_call stack.old) stack.new }
-{
-    let key = stack.pop_bytes()?;
-    Ok(TxnCall::Get {
-        key,
-        snapshot: false,
-    })
-}
-
-fn pop_set(stack: &mut Stack) -> Result<TxnCall, StackFault>
-    ensures { PopsUnlessFull (λ call. call) result (set_call stack.old) stack.new }
+fn pop_set(stack: &mut Stack, scope: Scope) -> Result<Call, StackFault>
+    ensures { PopsUnlessFull (λ call. call) result (set_call scope stack.old) stack.new }
 {
     let key = stack.pop_bytes()?;
     let value = stack.pop_bytes()?;
-    Ok(TxnCall::Set { key, value })
+    Ok((TxnCall::Set { key, value }, written_in(scope)))
 }
 
-fn pop_clear(stack: &mut Stack) -> Result<TxnCall, StackFault>
-    ensures { PopsUnlessFull (λ call. call) result (clear_call stack.old) stack.new }
+fn pop_clear(stack: &mut Stack, scope: Scope) -> Result<Call, StackFault>
+    ensures { PopsUnlessFull (λ call. call) result (clear_call scope stack.old) stack.new }
 {
     let key = stack.pop_bytes()?;
-    Ok(TxnCall::Clear { key })
+    Ok((TxnCall::Clear { key }, written_in(scope)))
 }
 
-fn pop_clear_range(stack: &mut Stack) -> Result<TxnCall, StackFault>
-    ensures { PopsUnlessFull (λ call. call) result (clear_range_call stack.old) stack.new }
+fn pop_clear_range(stack: &mut Stack, scope: Scope) -> Result<Call, StackFault>
+    ensures { PopsUnlessFull (λ call. call) result (clear_range_call scope stack.old) stack.new }
 {
     let begin = stack.pop_bytes()?;
     let end = stack.pop_bytes()?;
-    Ok(TxnCall::ClearRange {
-        range: KeyRange { begin, end },
-    })
+    let range = KeyRange { begin, end };
+    Ok((TxnCall::ClearRange { range }, written_in(scope)))
 }
 
-fn pop_clear_range_starts_with(stack: &mut Stack, alloc: Global) -> Result<TxnCall, StackFault>
-    ensures { PopsUnlessFull (λ call. call) result (clear_range_starts_with_call stack.old) stack.new }
+fn pop_clear_range_starts_with(
+    stack: &mut Stack,
+    alloc: Global,
+    scope: Scope,
+) -> Result<Call, StackFault>
+    ensures { PopsUnlessFull (λ call. call) result (clear_range_starts_with_call scope stack.old) stack.new }
 {
     let begin = stack.pop_bytes()?;
     let end = prefix_end(alloc, &begin)?;
-    Ok(TxnCall::ClearRange {
-        range: KeyRange { begin, end },
-    })
+    let range = KeyRange { begin, end };
+    Ok((TxnCall::ClearRange { range }, written_in(scope)))
 }
 
-// The end of the range of the keys that begin with a prefix: the least key above them, or FF where there is none.
-fn prefix_end(alloc: Global, prefix: &Bytes) -> Result<Key, AllocError>
+/// The end of the range of the keys that begin with a prefix: the least key above them, or FF where there is none.
+pub fn prefix_end(alloc: Global, prefix: &Bytes) -> Result<Key, AllocError>
     ensures { IfOk result (λ end. end ≡ prefix_end prefix.now) }
 {
     match prefix.strinc()? {
@@ -85,13 +91,13 @@ fn prefix_end(alloc: Global, prefix: &Bytes) -> Result<Key, AllocError>
     }
 }
 
-fn pop_atomic(stack: &mut Stack) -> Result<TxnCall, StackFault>
-    ensures { PopsUnlessFull (λ call. call) result (atomic_call stack.old) stack.new }
+fn pop_atomic(stack: &mut Stack, scope: Scope) -> Result<Call, StackFault>
+    ensures { PopsUnlessFull (λ call. call) result (atomic_call scope stack.old) stack.new }
 {
     let name = pop_atomic_name(stack)?;
     let key = stack.pop_bytes()?;
     let operand = stack.pop_bytes()?;
-    Ok(TxnCall::Atomic { name, key, operand })
+    Ok((TxnCall::Atomic { name, key, operand }, written_in(scope)))
 }
 
 // Pops the name of an atomic operation; a versionstamped one is refused.
@@ -103,6 +109,16 @@ fn pop_atomic_name(stack: &mut Stack) -> Result<Bytes, StackFault>
         return Err(StackFault::Operand);
     }
     Ok(name)
+}
+
+// What the reply to a write is used for.
+fn written_in(scope: Scope) -> Awaits
+    ensures { result ≡ written_in scope }
+{
+    match scope {
+        Scope::Transaction => Awaits::Nothing,
+        Scope::Database => Awaits::NotPresent,
+    }
 }
 
 /// The request that an operation makes on the transaction of a name, by what it pops.
@@ -133,17 +149,6 @@ fn pop_on_error(stack: &mut Stack, name: Bytes) -> Result<Request, StackFault>
 {
     let code = Code(stack.pop_code()?);
     Ok(on(name, TxnCall::OnError { code }))
-}
-
-/// What the reply to a call of two forms is used for.
-pub fn awaits_in(operation: DatabaseOperation, scope: Scope) -> Awaits
-    ensures { result ≡ awaits_in operation scope }
-{
-    match (operation, scope) {
-        (DatabaseOperation::Get, _) => Awaits::Value,
-        (_, Scope::Transaction) => Awaits::Nothing,
-        (_, Scope::Database) => Awaits::NotPresent,
-    }
 }
 
 /// What the reply to an operation on the current transaction is used for.

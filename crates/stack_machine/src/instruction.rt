@@ -2,7 +2,8 @@
 
 ghost use Rattle.std.specs.Prelude.{◌≡◌, [], IfOk, IfSome, option_to_list};
 ghost use Rattle.machine_rules.specs.Operands.{bytes_of};
-ghost use Rattle.machine_rules.specs.Instructions.{stack_operation, transaction_operation, database_operation, bare_instruction, named_instruction, instruction_in, instruction_of};
+ghost use Rattle.machine_rules.specs.Instructions.{stack_operation, transaction_operation, database_operation};
+ghost use Rattle.machine_rules.specs.Instructions.{bare_instruction, named_instruction, instruction_in, instruction_of};
 ghost use Rattle.stack_machine.specs.Pushes.{PushesAnElement};
 ghost use Rattle.fdb_tuple.specs.Listed.{IsElement};
 ghost use Rattle.stack_machine.specs.Pushes.{AreElements};
@@ -59,6 +60,9 @@ fn bare_instruction(name: &[u8]) -> Option<Instruction>
     if name == b"USE_TRANSACTION".as_slice() {
         return Some(Instruction::UseTransaction);
     }
+    if name == b"LOG_STACK".as_slice() {
+        return Some(Instruction::LogStack);
+    }
     if let Some(operation) = transaction_operation(name) {
         return Some(Instruction::OnTransaction(operation));
     }
@@ -93,6 +97,22 @@ fn database_operation(name: &[u8]) -> Option<(DatabaseOperation, Scope)>
         Some((DatabaseOperation::Get, Scope::Transaction))
     } else if name == b"GET_DATABASE".as_slice() {
         Some((DatabaseOperation::Get, Scope::Database))
+    } else if name == b"GET_KEY".as_slice() {
+        Some((DatabaseOperation::GetKey, Scope::Transaction))
+    } else if name == b"GET_KEY_DATABASE".as_slice() {
+        Some((DatabaseOperation::GetKey, Scope::Database))
+    } else if name == b"GET_RANGE".as_slice() {
+        Some((DatabaseOperation::GetRange, Scope::Transaction))
+    } else if name == b"GET_RANGE_DATABASE".as_slice() {
+        Some((DatabaseOperation::GetRange, Scope::Database))
+    } else if name == b"GET_RANGE_STARTS_WITH".as_slice() {
+        Some((DatabaseOperation::GetRangeStartsWith, Scope::Transaction))
+    } else if name == b"GET_RANGE_STARTS_WITH_DATABASE".as_slice() {
+        Some((DatabaseOperation::GetRangeStartsWith, Scope::Database))
+    } else if name == b"GET_RANGE_SELECTOR".as_slice() {
+        Some((DatabaseOperation::GetRangeSelector, Scope::Transaction))
+    } else if name == b"GET_RANGE_SELECTOR_DATABASE".as_slice() {
+        Some((DatabaseOperation::GetRangeSelector, Scope::Database))
     } else if name == b"SET".as_slice() {
         Some((DatabaseOperation::Set, Scope::Transaction))
     } else if name == b"SET_DATABASE".as_slice() {

@@ -4,10 +4,15 @@
 //! step of those definitions. It runs one instruction, asks one request, uses one reply, or says how it stopped.
 #![tactic(auto)]
 
+mod act;
 mod call;
 mod errors;
 mod instruction;
 mod machine;
+mod packed;
+mod reads;
+mod registers;
+mod replies;
 
 pub use errors::Errors;
 pub use machine::{Machine, Step};
@@ -15,3 +20,5 @@ pub use machine_rules::{End, ErrorNote, State};
 
 #[cfg(test)]
 mod tests;
+#[cfg(test)]
+mod tests_registers;

@@ -4,6 +4,7 @@ ghost use Rattle.machine_rules.specs.declared.State.TheVariants.{Running};
 use super::*;
 use fdb_tuple::{Elem, Text, pack_element};
 use key_bytes::{Bytes, Pair, Pairs};
+use machine_rules::POLLS;
 use std::alloc::{AllocError, Global};
 use std::test::Fail;
 
@@ -18,7 +19,7 @@ fn machine_with(alloc: Global, name: &str) -> Result<Machine, AllocError>
         value: pack_element(alloc, &Elem::Text(Text::from_str(alloc, name)?))?,
     })?;
     let prefix = Bytes::from_slice(alloc, b"p")?;
-    Machine::new(alloc, 0, prefix, instructions)
+    Machine::new(alloc, 0, prefix, instructions, POLLS)
 }
 
 #[test]
@@ -30,7 +31,7 @@ fn an_unknown_name_stops(rt: HostRuntime) -> Result<(), Fail> {
     assert_eq!(rt; machine.errors().len(), 0);
     let step = machine.step(None)?;
     assert!(rt; matches!(step, Step::Stopped(End::BadInstruction(0))));
-    assert_eq!(rt; machine.state(), State::Stopped(End::BadInstruction(0)));
+    assert!(rt; matches!(machine.state(), State::Stopped(End::BadInstruction(0))));
     Ok(())
 }
 

@@ -9,10 +9,13 @@ use Rattle.machine_rules.specs.declared.State.{State}
 use Rattle.machine_rules.specs.declared.State.TheVariants as state
 use Rattle.std.specs.FinMap as finite
 use Rattle.version_store.specs.Versions.{at, last_of}
-use Rattle.database_rules.specs.Databases.{Database, last}
+use Rattle.database_rules.specs.Databases.{Database}
+use Rattle.database_rules.specs.Histories.{last}
 use Rattle.machine_rules.specs.Worlds.{World, HasWords, begun}
 use Rattle.machine_rules.specs.Machines.{Machine, Progress, silent}
-use Rattle.machine_rules.specs.Runs.{words_of_run, started, instructions_in, newest, run_from, is_running, has_stopped, has_ended, status_of, end_line, stack_lines, error_lines, dump}
+use Rattle.machine_rules.specs.declared.TheConstants.{POLLS}
+use Rattle.machine_rules.specs.Runs.{words_of_run, started, instructions_in, newest, run_from, is_running, has_stopped, has_ended}
+use Rattle.machine_rules.specs.Runs.{status_of, end_line, stack_lines, error_lines, dump}
 use Rattle.machine_rules.specs.Laws.{at_rest_still}
 use Rattle.line_rules.specs.Printing.{order_line}
 use Rattle.tester_run.specs.Driving.{Leads, run_of}
@@ -26,17 +29,25 @@ abbrev pub kept_map : CoreModel → Database
 kept_map core = at core.store (last_of core.store)
 
 pub kept_newest : (core : CoreModel) (world : World) → StandsFor core world → kept_map core ≡ newest world
-kept_newest core world stands = ap (at core.store) stands.keeps.last_is ∙ stands.keeps.at_is (last world.history) (omega arith)
+kept_newest core world stands = ap (at core.store) stands.keeps.last_is ∙ stands.keeps.at_is (last world.setting.history) (omega arith)
 
 -- machine 0 as it is started
 abbrev pub first_machine : Database → List ℕ → Machine
-first_machine database prefix =
-    record { number = 0; prefix = prefix; instructions = instructions_in database prefix; next = 0; name = prefix; stack = []; errors = []; state = state.Running }
+first_machine database prefix = record {
+  number = 0;
+  prefix = prefix;
+  instructions = instructions_in database prefix;
+  next = 0;
+  polls = POLLS;
+  registers = record { name = prefix; stack = []; errors = [] };
+  state = state.Running;
+}
 
 -- before any request the empty order leads to the start
 pub begins : (pairs : List (List ℕ × List ℕ)) (prefix : List ℕ) (core : CoreModel) (words : ℕ → ℕ) (machine : Machine)
     → StandsFor core (begun pairs words_of_run)
-    → HasWords (begun pairs words_of_run) words → machine ≡ first_machine (kept_map core) prefix → Leads pairs prefix core words machine []
+    → HasWords (begun pairs words_of_run) words → machine ≡ first_machine (kept_map core) prefix
+    → Leads pairs prefix core words (silent machine) []
 unfolding run_from started
 begins pairs prefix core words machine stands has_words is =
     let world : World = begun pairs words_of_run in
@@ -45,7 +56,7 @@ begins pairs prefix core words machine stands has_words is =
       stands = stands;
       has_words = has_words;
       runs =
-          ap (λ (m : Machine). Some (run_of world m)) (sym (is ∙ ap (λ (d : Database). first_machine d prefix) (kept_newest core world stands)));
+          ap (λ (m : Machine). Some (run_of world (silent m))) (sym (is ∙ ap (λ (d : Database). first_machine d prefix) (kept_newest core world stands)));
     }
 
 stopped_rests : (state : State) → has_stopped state ≡ true → is_running state ≡ false
@@ -77,14 +88,14 @@ status_alone world machine = ap (λ b. cond b 0 3) (and_true (has_ended machine.
 
 -- where the order leads to a machine that has stopped, what was rendered is what the run leaves
 pub finishes : (pairs : List (List ℕ × List ℕ)) (prefix : List ℕ) (core : CoreModel) (words : ℕ → ℕ) (machine : Machine) (rendered : Rendered)
-    → Leads pairs prefix core words machine rendered.order → has_stopped machine.state ≡ true
+    → Leads pairs prefix core words (silent machine) rendered.order → has_stopped machine.state ≡ true
     → rendered.dump.items ≡ machine_dump machine rendered.order (finite.entries (kept_map core)) → rendered.status ≡ cond (has_ended machine.state) 0 3 → Renders pairs prefix rendered
 finishes pairs prefix core words machine rendered leads stopped dump_is status_is = record {
   run = record { world = leads.world; machines = silent machine ∷ [] };
   runs = record {
     runs =
         leads.runs
-        ∙ ap (λ (p : Progress). Some (record { world = leads.world; machines = p ∷ [] })) (at_rest_still machine (stopped_rests machine.state stopped));
+        ∙ ap (λ (p : Progress). Some (record { world = leads.world; machines = p ∷ [] })) (at_rest_still (silent machine) (stopped_rests machine.state stopped));
     complete = subst (λ b. IsTrue (b && true)) (sym stopped) refl;
   };
   dump_is =

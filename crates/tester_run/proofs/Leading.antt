@@ -1,5 +1,6 @@
--- Each step of the machine leads to the same run, and each request taken leads one place further.
-use Rattle.std.proofs.Common.{◌≡◌, ◌≢◌, ℕ, ◌+◌, ◌-◌, ◌<◌, Bool, true, false, cond, List, [], ◌∷◌, length, Option, Some, None, refl, sym, ap, subst, ◌∙◌, arith}
+-- What a step of the machine, and the reply to what it asked, mean for the run.
+use Rattle.std.proofs.Common.{◌≡◌, ◌≢◌, ℕ, ◌+◌, ◌-◌, ◌<◌, Bool, true, false, cond}
+use Rattle.std.proofs.Common.{List, [], ◌∷◌, length, Option, Some, None, refl, sym, ap, subst, ◌∙◌, arith}
 use Rattle.std.specs.Prelude.{option_and_then, option_map}
 use Rattle.fdb_calls.specs.declared.Request.{Request}
 use Rattle.fdb_calls.specs.declared.Reply.{Reply}
@@ -14,89 +15,80 @@ use Rattle.machine_rules.specs.declared.State.{State}
 use Rattle.machine_rules.specs.declared.State.TheVariants as state
 use Rattle.machine_rules.specs.Worlds.{Stepped, HasWords, step as world_step}
 use Rattle.machine_rules.specs.Machines.{Machine, Progress, silent, advance, resumed}
-use Rattle.machine_rules.specs.Runs.{Run, start, at_rest, take_place, replied, run_from, is_running, has_stopped}
-use Rattle.machine_rules.specs.Laws.{is_awaiting, advance_finishes, advance_asks, advance_quiet, advance_still, advance_asks_inside, resumed_goes, at_rest_again, at_rest_stops, at_rest_asks, run_from-append}
-use Rattle.tester_run.specs.Driving.{run_of, Leads, GoesOn, GoesOnFromAsking, IsNearerThanAsking, ComesToAsk, Takes, work_left}
+use Rattle.machine_rules.specs.Runs.{Run, start, at_rest, take_place, replied, run_from, is_running}
+use Rattle.machine_rules.specs.Laws.{is_awaiting, advance_finishes, advance_asks, advance_quiet, advance_still, advance_asks_inside}
+use Rattle.machine_rules.specs.Laws.{GoesOn as HasUsed, Further, Again, resumed_goes, at_rest_advance, at_rest_still, run_from-append}
+use Rattle.tester_run.specs.Driving.{asked_by, with_asked, run_of, Leads, GoesOn, Takes, HasFinished, work_left}
 
 -- ---- what an answer of a step says
 
-ask_is : (asks : Option Request) (state : State) (request : Request) → answer_by asks state ≡ step.Ask request → asks ≡ Some request
-ask_is (Some asked) state request e = cc
-ask_is None state.Running request e = absurd cc
-ask_is None (state.Awaiting awaits) request e = absurd cc
-ask_is None (state.Stopped end) request e = absurd cc
+asked_is : (asks : Option Request) (state : State) → asked_by (answer_by asks state) ≡ asks
+asked_is (Some request) state = refl
+asked_is None state.Running = refl
+asked_is None (state.Awaiting awaits) = refl
+asked_is None (state.Stopped end) = refl
 
-again_is : (asks : Option Request) (state : State) → answer_by asks state ≡ step.Again → asks ≡ None
-again_is (Some asked) state e = absurd cc
-again_is None state e = refl
+-- the machine after a step, with what it asked, is what the step was to lead to
+pub moved_is : (old new : MachineModel) (progress : Progress) (answer : Step) → Moves old progress answer new
+    → with_asked new.machine (asked_by answer) ≡ progress
+moved_is old new progress answer moves =
+    ap (λ (m : Machine). with_asked m (asked_by answer)) moves.machine
+    ∙ ap (λ (s : Step). with_asked progress.machine (asked_by s)) moves.answer_is
+    ∙ ap (with_asked progress.machine) (asked_is progress.asks progress.machine.state)
 
-again_state : (asks : Option Request) (state : State) → answer_by asks state ≡ step.Again → is_awaiting state ≡ false
-    → is_running state ≡ true
-again_state (Some asked) state e quiet = absurd cc
-again_state None state.Running e quiet = refl
-again_state None (state.Awaiting awaits) e quiet = absurd cc
-again_state None (state.Stopped end) e quiet = absurd cc
-
-stopped_is : (asks : Option Request) (state : State) (end : End) → answer_by asks state ≡ step.Stopped end → asks ≡ None
-stopped_is (Some asked) state end e = absurd cc
-stopped_is None state end e = refl
-
-stopped_state : (asks : Option Request) (state : State) (end : End) → answer_by asks state ≡ step.Stopped end
-    → (has_stopped state ≡ true) × (is_running state ≡ false) × (is_awaiting state ≡ false)
-stopped_state (Some asked) state end e = absurd cc
-stopped_state None state.Running end e = absurd cc
-stopped_state None (state.Awaiting awaits) end e = absurd cc
-stopped_state None (state.Stopped its_end) end e = (refl, refl, refl)
+-- and so with the request that it names
+moved_asking : (old new : MachineModel) (progress : Progress) (answer : Step) (asks : Option Request) → Moves old progress answer new
+    → asked_by answer ≡ asks → progress ≡ with_asked new.machine asks
+moved_asking old new progress answer asks moves e = sym (moved_is old new progress answer moves) ∙ ap (with_asked new.machine) e
 
 -- ---- leading
 
-same_stand : (pairs : List (List ℕ × List ℕ)) (prefix : List ℕ) (core : CoreModel) (words : ℕ → ℕ) (machine after : Machine) (order : List ℕ)
-    → at_rest machine ≡ at_rest after → Leads pairs prefix core words machine order → Leads pairs prefix core words after order
-same_stand pairs prefix core words machine after order same leads = record {
+-- what comes to the same rest leads as before
+same_rest : (pairs : List (List ℕ × List ℕ)) (prefix : List ℕ) (core : CoreModel) (words : ℕ → ℕ) (before after : Progress) (order : List ℕ)
+    → at_rest before ≡ at_rest after → Leads pairs prefix core words before order → Leads pairs prefix core words after order
+same_rest pairs prefix core words before after order same leads = record {
   world = leads.world;
   stands = leads.stands;
   has_words = leads.has_words;
   runs = leads.runs ∙ ap (λ (p : Progress). Some (record { world = leads.world; machines = p ∷ [] })) same;
 }
 
--- ---- a step with no reply
-
--- what a step without a reply leaves, where it asks nothing
-pub record Quiet (before after : Machine) : Type 0 where
-  pub same : at_rest before ≡ at_rest after
-  pub silent_after : is_awaiting after.state ≡ false
-
-still_step : (old new : MachineModel) (answer : Step) → Moves old (advance old.machine) answer new → is_running old.machine.state ≡ false
-    → (answer ≡ answer_in old.machine.state) × (new.machine ≡ old.machine)
-still_step old new answer moves still =
-    let same : advance old.machine ≡ silent old.machine = advance_still old.machine still in
-    (moves.answer_is ∙ ap answer_of same, moves.machine ∙ ap (λ (p : Progress). p.machine) same)
-
-still_stopped : (state : State) → is_awaiting state ≡ false → is_running state ≡ false
-    → (answer_in state ≡ step.Again → ⊥) × ((request : Request) → answer_in state ≡ step.Ask request → ⊥)
-still_stopped state.Running e f = absurd cc
-still_stopped (state.Awaiting awaits) e f = absurd cc
-still_stopped (state.Stopped end) e f = (λ h. cc, λ request h. cc)
-
--- a step that answers Again was of a running machine, and one that asks too
-was_running : (old new : MachineModel) (answer : Step) → Moves old (advance old.machine) answer new → is_awaiting old.machine.state ≡ false
-    → (answer ≡ step.Again → is_running old.machine.state ≡ true) × ((request : Request) → answer ≡ step.Ask request → is_running old.machine.state ≡ true)
-was_running old new answer moves silent_before = by (is_running old.machine.state) refl
+-- a step without a reply leads to the same rest
+advance_rests : (machine : Machine) → at_rest (silent machine) ≡ at_rest (advance machine)
+advance_rests machine = by (is_running machine.state) refl
   where
-    by : (b : Bool) → is_running old.machine.state ≡ b
-        → (answer ≡ step.Again → is_running old.machine.state ≡ true) × ((request : Request) → answer ≡ step.Ask request → is_running old.machine.state ≡ true)
-    by true e = (λ h. e, λ request h. e)
-    by false e =
-        let told = still_step old new answer moves e in
-        let never = still_stopped old.machine.state silent_before e in
-        (λ h. absurd (never.0 (sym told.0 ∙ h)), λ request h. absurd (never.1 request (sym told.0 ∙ h)))
+    by : (b : Bool) → is_running machine.state ≡ b → at_rest (silent machine) ≡ at_rest (advance machine)
+    by true e = at_rest_advance machine e
+    by false e = ap at_rest (sym (advance_still machine e))
+
+-- so where the order led before it, it leads after it
+pub step_goes_on : (core : CoreModel) (words : ℕ → ℕ) (old new : MachineModel) (answer : Step) (asks : Option Request) (order : List ℕ)
+    → Moves old (advance old.machine) answer new → asked_by answer ≡ asks
+    → GoesOn core words (silent old.machine) order core words (with_asked new.machine asks) order
+step_goes_on core words old new answer asks order moves e pairs prefix leads =
+    same_rest pairs prefix core words (silent old.machine) (with_asked new.machine asks) order
+    (advance_rests old.machine ∙ ap at_rest (moved_asking old new (advance old.machine) answer asks moves e)) leads
+
+-- ---- a step without a reply
+
+-- where it answers otherwise than that the machine has stopped, a machine that awaits nothing runs
+runs_by : (state : State) (machine : Machine) → machine.state ≡ state → is_awaiting state ≡ false
+    → ((end : End) → answer_of (advance machine) ≢ step.Stopped end) → is_running state ≡ true
+runs_by state.Running machine is quiet goes = refl
+runs_by (state.Awaiting awaits) machine is quiet goes = absurd cc
+runs_by (state.Stopped end) machine is quiet goes =
+    absurd (goes end (ap answer_of (advance_still machine (ap is_running is)) ∙ ap answer_in is))
+
+was_running : (old new : MachineModel) (answer : Step) → Moves old (advance old.machine) answer new → is_awaiting old.machine.state ≡ false
+    → ((end : End) → answer ≢ step.Stopped end) → is_running old.machine.state ≡ true
+was_running old new answer moves quiet goes = runs_by old.machine.state old.machine refl quiet (λ end e. goes end (moves.answer_is ∙ e))
 
 -- a machine that went on by one instruction, or has stopped, has less left
 less_left : (before after : Machine) → is_running before.state ≡ true → after.instructions ≡ before.instructions
-    → (is_running after.state ≡ true → after.next ≡ before.next + 1)
-    → before.next < length before.instructions → work_left after < work_left before
+    → after.next ≡ before.next + 1 → before.next < length before.instructions → work_left after < work_left before
 less_left before after was same next inside =
-    subst (λ n. work_left after < n) (sym (ap (λ b. cond b (length before.instructions - before.next + 1) 0) was)) (by (is_running after.state) refl)
+    subst (λ n. work_left after < n) (sym (ap (λ b. cond b (length before.instructions - before.next + 1) 0) was))
+    (by (is_running after.state) refl)
   where
     counts : (i j n m : ℕ) → j ≡ i + 1 → m ≡ n → i < n → m - j + 1 < n - i + 1
     counts i j n m next same inside = omega arith
@@ -106,62 +98,80 @@ less_left before after was same next inside =
 
     by : (b : Bool) → is_running after.state ≡ b → work_left after < length before.instructions - before.next + 1
     by true e =
-        subst (λ n. n < length before.instructions - before.next + 1) (sym (ap (λ b. cond b (length after.instructions - after.next + 1) 0) e))
-        (counts before.next after.next (length before.instructions) (length after.instructions) (next e) (ap length same) inside)
+        subst (λ n. n < length before.instructions - before.next + 1)
+        (sym (ap (λ b. cond b (length after.instructions - after.next + 1) 0) e))
+        (counts before.next after.next (length before.instructions) (length after.instructions) next (ap length same) inside)
     by false e =
-        subst (λ n. n < length before.instructions - before.next + 1) (sym (ap (λ b. cond b (length after.instructions - after.next + 1) 0) e)) (above_none (length before.instructions - before.next))
+        subst (λ n. n < length before.instructions - before.next + 1)
+        (sym (ap (λ b. cond b (length after.instructions - after.next + 1) 0) e))
+        (above_none (length before.instructions - before.next))
+
+-- what a step leaves that answers Again: a machine that runs, with less left
+pub record RunsOn (before after : Machine) : Type 0 where
+  pub awaits_none : is_awaiting after.state ≡ false
+  pub nearer : work_left after < work_left before
+
+running_awaits_none : (state : State) → is_running state ≡ true → is_awaiting state ≡ false
+running_awaits_none state.Running e = refl
+running_awaits_none (state.Awaiting awaits) e = absurd cc
+running_awaits_none (state.Stopped end) e = refl
+
+-- one that asks nothing and has not stopped runs on
+again_runs : (state : State) → answer_by None state ≡ step.Again → is_awaiting state ≡ false → is_running state ≡ true
+again_runs state.Running e quiet = refl
+again_runs (state.Awaiting awaits) e quiet = absurd cc
+again_runs (state.Stopped end) e quiet = absurd cc
 
 pub turn_again : (old new : MachineModel) (answer : Step) → Moves old (advance old.machine) answer new
-    → is_awaiting old.machine.state ≡ false → answer ≡ step.Again
-    → Quiet old.machine new.machine × (work_left new.machine < work_left old.machine)
-turn_again old new answer moves silent_before e =
-    let was = (was_running old new answer moves silent_before).0 e in
-    let told : answer_of (advance old.machine) ≡ step.Again = sym moves.answer_is ∙ e in
-    let quiet = advance_quiet old.machine was (again_is (advance old.machine).asks (advance old.machine).machine.state told) in
-    let runs = again_state (advance old.machine).asks (advance old.machine).machine.state told quiet in
-    let finishes = advance_finishes old.machine was runs in (
-      record {
-        same = at_rest_again old.machine was runs ∙ ap at_rest (sym moves.machine);
-        silent_after = ap (λ (m : Machine). is_awaiting m.state) moves.machine ∙ quiet;
-      },
-      less_left old.machine new.machine was (ap (λ (m : Machine). m.instructions) moves.machine ∙ finishes.instructions)
-          (λ h. ap (λ (m : Machine). m.next) moves.machine ∙ finishes.next) finishes.inside,
-    )
+    → is_awaiting old.machine.state ≡ false → answer ≡ step.Again → RunsOn old.machine new.machine
+turn_again old new answer moves quiet e =
+    let was = was_running old new answer moves quiet (λ end h. absurd (let k : step.Again ≡ step.Stopped end = sym e ∙ h in cc)) in
+    let silent_is : advance old.machine ≡ silent new.machine =
+    moved_asking old new (advance old.machine) answer None moves (ap asked_by e) in
+    let asks_none = ap (λ (p : Progress). p.asks) silent_is in
+    let awaits_none : is_awaiting new.machine.state ≡ false =
+    ap (λ (m : Machine). is_awaiting m.state) moves.machine ∙ advance_quiet old.machine was asks_none in
+    let told : answer_by None new.machine.state ≡ step.Again = ap answer_of (sym silent_is) ∙ sym moves.answer_is ∙ e in
+    let runs : is_running (advance old.machine).machine.state ≡ true =
+    ap (λ (m : Machine). is_running m.state) (sym moves.machine) ∙ again_runs new.machine.state told awaits_none in
+    let finishes = advance_finishes old.machine was runs in
+    record {
+      awaits_none = awaits_none;
+      nearer = less_left old.machine new.machine was (ap (λ (m : Machine). m.instructions) moves.machine ∙ finishes.instructions)
+          (ap (λ (m : Machine). m.next) moves.machine ∙ finishes.next) finishes.inside;
+    }
 
-pub turn_stopped : (old new : MachineModel) (answer : Step) (end : End) → Moves old (advance old.machine) answer new
-    → is_awaiting old.machine.state ≡ false → answer ≡ step.Stopped end → Quiet old.machine new.machine
-turn_stopped old new answer end moves silent_before e = by (is_running old.machine.state) refl
-  where
-    by : (b : Bool) → is_running old.machine.state ≡ b → Quiet old.machine new.machine
-    by true was =
-        let told : answer_of (advance old.machine) ≡ step.Stopped end = sym moves.answer_is ∙ e in
-        let asks = stopped_is (advance old.machine).asks (advance old.machine).machine.state end told in
-        let states = stopped_state (advance old.machine).asks (advance old.machine).machine.state end told in
-        record {
-          same = at_rest_stops old.machine was states.1 asks ∙ ap at_rest (sym moves.machine);
-          silent_after = ap (λ (m : Machine). is_awaiting m.state) moves.machine ∙ states.2;
-        }
-    by false still =
-        let told = still_step old new answer moves still in
-        record {
-          same = ap at_rest (sym told.1);
-          silent_after = ap (λ (m : Machine). is_awaiting m.state) told.1 ∙ silent_before;
-        }
+-- what a step leaves that asks: a machine at the same of its instructions, which awaits the reply
+pub record ComesToAsk (before after : Machine) : Type 0 where
+  pub was_running : is_running before.state ≡ true
+  pub awaits : is_awaiting after.state ≡ true
+  pub instructions : after.instructions ≡ before.instructions
+  pub next : after.next ≡ before.next
+  pub inside : before.next < length before.instructions
 
 pub turn_asks : (old new : MachineModel) (answer : Step) (request : Request) → Moves old (advance old.machine) answer new
-    → is_awaiting old.machine.state ≡ false → answer ≡ step.Ask request
-    → ComesToAsk old.machine new.machine request × (is_awaiting new.machine.state ≡ true)
-turn_asks old new answer request moves silent_before e =
-    let was = (was_running old new answer moves silent_before).1 request e in
-    let told : answer_of (advance old.machine) ≡ step.Ask request = sym moves.answer_is ∙ e in
-    let asks = ask_is (advance old.machine).asks (advance old.machine).machine.state request told in
-    (record { was_running = was; asks = asks; machine = moves.machine }, ap (λ (m : Machine). is_awaiting m.state) moves.machine ∙ advance_asks old.machine request asks)
+    → is_awaiting old.machine.state ≡ false → answer ≡ step.Ask request → ComesToAsk old.machine new.machine
+turn_asks old new answer request moves quiet e =
+    let asking_is : advance old.machine ≡ with_asked new.machine (Some request) =
+    moved_asking old new (advance old.machine) answer (Some request) moves (ap asked_by e) in
+    let asks = ap (λ (p : Progress). p.asks) asking_is in
+    let at = advance_asks_inside old.machine request asks in
+    record {
+      was_running = was_running old new answer moves quiet
+          (λ end h. absurd (let k : step.Ask request ≡ step.Stopped end = sym e ∙ h in cc));
+      awaits = ap (λ (m : Machine). is_awaiting m.state) moves.machine ∙ advance_asks old.machine request asks;
+      instructions = ap (λ (m : Machine). m.instructions) moves.machine ∙ at.instructions;
+      next = ap (λ (m : Machine). m.next) moves.machine ∙ at.next;
+      inside = at.inside;
+    }
 
--- a machine that stands as before leads as before
-pub quiet_goes_on : (core : CoreModel) (words : ℕ → ℕ) (before after : Machine) (order : List ℕ) → Quiet before after
-    → GoesOn core words before order core words after order
-quiet_goes_on core words before after order quiet pairs prefix leads =
-    same_stand pairs prefix core words before after order quiet.same leads
+-- the instruction at which it asked is finished: a machine that runs, with less left
+pub asked_nearer : (before asking after : Machine) → ComesToAsk before asking → HasFinished asking after → RunsOn before after
+asked_nearer before asking after comes finished = record {
+  awaits_none = running_awaits_none after.state finished.runs;
+  nearer = less_left before after comes.was_running (finished.instructions ∙ comes.instructions)
+      (finished.next ∙ ap (λ n. n + 1) comes.next) comes.inside;
+}
 
 -- ---- a reply
 
@@ -170,14 +180,18 @@ stands_after : (given : Reply) (core : CoreModel) (words : ℕ → ℕ) (stepped
     → (stepped.reply ≡ given) × StandsFor core stepped.world × HasWords stepped.world words
 stands_after reply.Done core words stepped is answers = answers
 stands_after (reply.Value value) core words stepped is answers = answers
+stands_after (reply.KeyIs key) core words stepped is answers = answers
+stands_after (reply.PairsAre pairs) core words stepped is answers = answers
 stands_after (reply.Fault code) core words stepped is answers = answers
 stands_after reply.NoMemory core words stepped is answers = absurd (is refl)
 
 one_place : (run : Run) (progress : Progress) (request : Request) → progress.asks ≡ Some request
-    → take_place 0 (record { world = run.world; machines = progress ∷ [] }) ≡ Some (replied (record { world = run.world; machines = progress ∷ [] }) 0 progress.machine (world_step run.world request))
+    → take_place 0 (record { world = run.world; machines = progress ∷ [] })
+    ≡ Some (replied (record { world = run.world; machines = progress ∷ [] }) 0 progress.machine (world_step run.world request))
 unfolding take_place
 one_place run progress request e =
-    ap (λ (asks : Option Request). option_map (λ request. replied (record { world = run.world; machines = progress ∷ [] }) 0 progress.machine (world_step run.world request)) asks) e
+    let one : Run = record { world = run.world; machines = progress ∷ [] } in
+    ap (λ (asks : Option Request). option_map (λ request. replied one 0 progress.machine (world_step run.world request)) asks) e
 
 run_from-one_place : (run : Run) → run_from (0 ∷ []) run ≡ take_place 0 run
 unfolding run_from
@@ -187,19 +201,24 @@ run_from-one_place run = by (take_place 0 run)
     by None = refl
     by (Some next) = refl
 
+awaiting_not_running : (state : State) → is_awaiting state ≡ true → is_running state ≡ false
+awaiting_not_running state.Running e = absurd cc
+awaiting_not_running (state.Awaiting awaits) e = refl
+awaiting_not_running (state.Stopped end) e = absurd cc
+
 -- a request that is taken is one more place of the order
-pub taken_goes_on : (core core_after : CoreModel) (words words_after : ℕ → ℕ) (asking after : Machine) (order order_after : List ℕ) (request : Request)
-    → Takes core words asking order request core_after words_after after order_after
-    → GoesOnFromAsking core words asking order request core_after words_after after order_after
-taken_goes_on core core_after words words_after asking after order order_after request takes before comes pairs prefix leads =
-    let progress : Progress = record { machine = (advance before).machine; asks = Some request } in
-    let run : Run = record { world = leads.world; machines = progress ∷ [] } in
-    let asked : at_rest before ≡ progress = at_rest_asks before request comes.was_running comes.asks in
+pub taken_goes_on : (core core_after : CoreModel) (words words_after : ℕ → ℕ) (machine : Machine) (progress : Progress)
+    (order order_after : List ℕ) (request : Request)
+    → Takes core words machine order request core_after words_after progress order_after
+    → GoesOn core words (with_asked machine (Some request)) order core_after words_after progress order_after
+taken_goes_on core core_after words words_after machine progress order order_after request takes pairs prefix leads =
+    let asking : Progress = with_asked machine (Some request) in
+    let run : Run = record { world = leads.world; machines = asking ∷ [] } in
+    let rests : at_rest asking ≡ asking = at_rest_still asking (awaiting_not_running machine.state takes.awaits) in
     let stepped = world_step leads.world request in
-    let answered = stands_after takes.given core_after words_after stepped takes.is_given (takes.answers leads.world leads.stands leads.has_words) in
-    let machine_is : resumed (advance before).machine stepped.reply ≡ after =
-    ap (resumed (advance before).machine) answered.0 ∙ ap (λ (m : Machine). resumed m takes.given) (sym comes.machine)
-    ∙ sym takes.machine_is in
+    let answered = stands_after takes.given core_after words_after stepped takes.is_given
+    (takes.answers leads.world leads.stands leads.has_words) in
+    let progress_is : resumed machine stepped.reply ≡ progress = ap (resumed machine) answered.0 ∙ sym takes.progress_is in
     record {
       world = stepped.world;
       stands = answered.1;
@@ -207,25 +226,29 @@ taken_goes_on core core_after words words_after asking after order order_after r
       runs = ap (λ o. run_from o (start pairs prefix)) takes.order_is
           ∙ run_from-append order (0 ∷ []) (start pairs prefix)
           ∙ ap (option_and_then (run_from (0 ∷ []))) leads.runs
-          ∙ run_from-one_place (run_of leads.world before)
-          ∙ ap (λ (p : Progress). take_place 0 (record { world = leads.world; machines = p ∷ [] })) asked
-          ∙ one_place run progress request refl
-          ∙ ap (λ m. Some (run_of stepped.world m)) machine_is;
+          ∙ run_from-one_place (run_of leads.world asking)
+          ∙ ap (λ (p : Progress). take_place 0 (record { world = leads.world; machines = p ∷ [] })) rests
+          ∙ one_place run asking request refl
+          ∙ ap (λ p. Some (run_of stepped.world p)) progress_is;
     }
 
--- what the machine has left after its reply
-pub replied_nearer : (asking after : Machine) (request : Request) (given : Reply) → after ≡ resumed asking given
-    → IsNearerThanAsking asking request after
-replied_nearer asking after request given is before comes =
-    let inside = advance_asks_inside before request comes.asks in
-    let awaits : is_awaiting asking.state ≡ true = ap (λ (m : Machine). is_awaiting m.state) comes.machine ∙ advance_asks before request comes.asks in
-    let goes = resumed_goes asking given awaits in
-    less_left before after comes.was_running
-    (ap (λ (m : Machine). m.instructions) is ∙ goes.instructions ∙ ap (λ (m : Machine). m.instructions) comes.machine ∙ inside.instructions)
-    (λ h. ap (λ (m : Machine). m.next) is ∙ goes.next ∙ ap (λ (m : Machine). m.next + 1) comes.machine ∙ ap (λ n. n + 1) inside.next)
-    inside.inside
+-- the machine has used its reply
+pub taken_used : (old new : MachineModel) (given : Reply) (answer : Step) (asks : Option Request)
+    → Moves old (resumed old.machine given) answer new → asked_by answer ≡ asks → is_awaiting old.machine.state ≡ true
+    → (with_asked new.machine asks ≡ resumed old.machine given) × HasUsed old.machine (with_asked new.machine asks)
+taken_used old new given answer asks moves e awaits =
+    let is : resumed old.machine given ≡ with_asked new.machine asks =
+    moved_asking old new (resumed old.machine given) answer asks moves e in
+    (sym is, subst (HasUsed old.machine) is (resumed_goes old.machine given awaits))
 
-pub replied_silent : (asking after : Machine) (given : Reply) → is_awaiting asking.state ≡ true → after ≡ resumed asking given
-    → is_awaiting after.state ≡ false
-replied_silent asking after given awaits is =
-    ap (λ (m : Machine). is_awaiting m.state) is ∙ ap is_awaiting (resumed_goes asking given awaits).state
+-- one that asks on stands at the same instruction, and has fewer items
+pub record AsksOn (before after : Machine) : Type 0 where
+  pub instructions : after.instructions ≡ before.instructions
+  pub next : after.next ≡ before.next
+  pub awaits : is_awaiting after.state ≡ true
+  pub fewer : length after.registers.stack < length before.registers.stack
+
+pub used_asks : (before after : Machine) (request : Request) → HasUsed before (with_asked after (Some request)) → AsksOn before after
+used_asks before after request (Further instructions next runs silent_is) = absurd cc
+used_asks before after request (Again instructions next awaits asked asks_is fewer) =
+    record { instructions = instructions; next = next; awaits = awaits; fewer = fewer }

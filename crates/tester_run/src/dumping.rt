@@ -40,7 +40,7 @@ fn add_end_line(to: &mut Vec<u8>, machine: &Machine) -> Result<(), AllocError>
 {
     match machine.state() {
         State::Running | State::Awaiting(_) => Ok(()),
-        State::Stopped(end) => add_end(to, machine, end),
+        State::Stopped(end) => add_end(to, machine, *end),
     }
 }
 

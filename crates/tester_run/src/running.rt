@@ -12,6 +12,7 @@ use client_core::Core;
 use dump_text::Order;
 use fdb_tuple::{Elem, pack_element};
 use key_bytes::{Bytes, Key, Pairs};
+use machine_rules::POLLS;
 use outside::ListWords;
 use stack_machine::{End, Machine, State};
 use std::alloc::{AllocError, Global};
@@ -55,9 +56,8 @@ fn start(alloc: Global, core: &Core, prefix: &[u8]) -> Result<Machine, AllocErro
       prefix = prefix.now;
       instructions = instructions_in (at core.now.store (last_of core.now.store)) prefix.now;
       next = 0;
-      name = prefix.now;
-      stack = [];
-      errors = [];
+      polls = POLLS;
+      registers = record { name = prefix.now; stack = []; errors = [] };
       state = Running;
     }) }
     ensures ready { IfOk result (λ machine. machine.is_out_of_memory ≡ false) }
@@ -66,7 +66,7 @@ fn start(alloc: Global, core: &Core, prefix: &[u8]) -> Result<Machine, AllocErro
     let end = range_end(alloc, prefix, 0xff)?;
     let instructions = core.pairs_between(&begin, &end)?;
     let prefix = Bytes::from_slice(alloc, prefix)?;
-    Machine::new(alloc, 0, prefix, instructions)
+    Machine::new(alloc, 0, prefix, instructions, POLLS)
 }
 
 // An end of the range of the tuples that begin with a prefix: the packed prefix, and one byte more.

@@ -1,55 +1,253 @@
--- Changes: the touched keys in their order, and what they make of a map.
-use Rattle.std.proofs.Common.{◌≡◌, ℕ, true, false, cond, List, [], ◌∷◌, ◌++◌, Option, Some, None, IsTrue, T, refl, sym, ap, ◌∙◌}
+-- The changes of a commit, made from segment to segment of the keys.
+use Rattle.std.proofs.Common.{◌≡◌, ℕ, ◌<◌, Bool, true, false, cond, not, List, [], ◌∷◌, ◌++◌, length, Option, Some, None, refl, sym, ap, ◌∙◌, true≢false}
+use Rattle.std.proofs.lemmas.Bool.{not-true, not-false}
+use Rattle.std.proofs.lemmas.List.Elements.{All-nil, All-push}
 use Rattle.std.proofs.lemmas.Map.Lookups.{exact_bytes}
-use Rattle.std.proofs.lemmas.Map.Views.{tells_apart}
-use Rattle.std.specs.Cmp.Lexicographic.{nat_list_cmp_total}
+use Rattle.std.specs.Prelude.{bytes_eq}
+use Rattle.std.specs.declared.cmp.Ordering.{Ordering}
+use Rattle.std.specs.declared.cmp.Ordering.TheVariants.{Less, Equal, Greater}
+use Rattle.std.specs.Cmp.Lexicographic.{nat_list_cmp_total, texts_ties}
 use Rattle.std.specs.FinMap as finite
-use Rattle.std.specs.FinMap.Entries.{find, below_all, is_sorted}
-use Rattle.std.specs.List.Sorted.{IsStrictlySortedBy}
-use Rattle.std.specs.Map.{keys_of}
-use Rattle.std.specs.Option.{unwrap_or}
-use Rattle.std.specs.Ordering.{is_lt, eq_by_cmp}
-use Rattle.database_rules.specs.Databases.{Database}
-use Rattle.key_bytes.specs.Keys.{key_cmp}
+use Rattle.std.specs.List.{filter}
+use Rattle.std.specs.Option.{option_map_or}
+use Rattle.std.specs.Ordering.{is_eq, is_lt, ordering_reverse}
+use Rattle.key_bytes.specs.Keys.{after, key_cmp, key_le, key_lt}
+use Rattle.key_bytes.proofs.Orders.{above_not_below, below_after, irreflexive, le_lt, lt_after, lt_le, lt_trans}
+use Rattle.key_map.proofs.Spans.{last-append}
+use Rattle.database_rules.specs.Databases.{Database, Mutation, do_all}
+use Rattle.database_rules.specs.KeyByKey.{is_modified_by}
+use Rattle.database_rules.specs.States.{KeyState, Unmodified, Decided, Depends, is_unmodified, state_under, value_in}
+use Rattle.database_rules.proofs.KeyByKey.{get-put}
+use Rattle.database_rules.proofs.States.{get-under}
 use Rattle.version_store.specs.Changed.{is_above, changed, changed_by}
-use Rattle.txn_core.specs.Touched.{Touched, stands_at}
-use Rattle.txn_core.proofs.Firsts.{left_of, right_of, find_below}
+use Rattle.write_map.specs.Pending.{is_single_state}
+use Rattle.ryw_view.specs.Segments.{IsSegment}
+use Rattle.ryw_view.specs.Walks.{is_inside, IsFirstMet}
+use Rattle.ryw_view.proofs.Firsts.{has_got}
+use Rattle.ryw_view.proofs.Lists.{fewer}
+use Rattle.ryw_view.proofs.Segments.{before_outside, inside_before}
+use Rattle.txn_core.specs.Changing.{LeadUpTo}
+use Rattle.txn_core.proofs.Modified.{state_modified}
 
--- of keys that rise each is above those before it
-pub above_earlier : (earlier : List (List ℕ × Option (List ℕ))) (key : List ℕ) (value : Option (List ℕ)) (later : List (List ℕ × Option
-    (List ℕ)))
-    → IsStrictlySortedBy key_cmp (keys_of (earlier ++ (key, value) ∷ later)) → IsTrue (is_above earlier key)
-unfolding IsStrictlySortedBy
-above_earlier [] key value later rising = refl
-above_earlier (c ∷ []) key value later rising = ap is_lt rising.0.0
-above_earlier (c ∷ d ∷ cs) key value later rising = above_earlier (d ∷ cs) key value later rising.1
+abbrev pub ChangeList : Type 0
+ChangeList = List (List ℕ × Option (List ℕ))
 
-get-changed_by : (change : List ℕ × Option (List ℕ)) (database : Database) (q : List ℕ)
-    → finite.get (changed_by change database) q ≡ cond (eq_by_cmp key_cmp q change.0) change.1 (finite.get database q)
-get-changed_by change database q = by_value change.1
+-- ---- one change more
+
+get-changed_by : (key : List ℕ) (value : Option (List ℕ)) (database : Database) (q : List ℕ)
+    → finite.get (changed_by (key, value) database) q ≡ cond (bytes_eq q key) value (finite.get database q)
+get-changed_by key None database q = get-put database key None q
+get-changed_by key (Some value) database q = get-put database key (Some value) q
+
+changed-push : (changes : ChangeList) (change : List ℕ × Option (List ℕ)) (database : Database)
+    → changed (changes ++ change ∷ []) database ≡ changed_by change (changed changes database)
+changed-push [] change database = refl
+changed-push (c ∷ changes) change database = changed-push changes change (changed_by c database)
+
+above-push : (changes : ChangeList) (change : List ℕ × Option (List ℕ)) (q : List ℕ)
+    → is_above (changes ++ change ∷ []) q ≡ key_lt change.0 q
+above-push changes change q = ap (λ end. option_map_or (λ c. key_lt c.0 q) end true) (last-append changes change)
+
+-- a key above another is not below the next key, and the other way round
+after_above : (q key : List ℕ) → key_lt key q ≡ true → key_lt q (after key) ≡ false
+after_above q key above = lt_after q key ∙ ap not above
+
+above_after : (q key : List ℕ) → key_lt q (after key) ≡ false → key_lt key q ≡ true
+above_after q key behind = not-false (key_lt key q) (sym (lt_after q key) ∙ behind)
+
+-- ---- the walk
+
+nothing_below : (q : List ℕ) → key_lt q [] ≡ false
+nothing_below [] = refl
+nothing_below (byte ∷ q) = refl
+
+module _ (mutations : List Mutation) (database : Database) where
+  abbrev made : List ℕ → Option (List ℕ)
+  made q = finite.get (do_all mutations database) q
+
+  -- no change leads up to the least key
+  pub led_first : LeadUpTo mutations database (Some []) []
+  led_first = record {
+    only = All-nil (λ change. is_modified_by mutations change.0 ≡ true);
+    leads = λ q. ap (λ b. cond b (made q) (finite.get database q)) (sym (nothing_below q));
+    above = λ q _. refl;
+  }
+
+  -- without an edge they lead to the whole map
+  pub led_all : (changes : ChangeList) → LeadUpTo mutations database None changes → changed changes database ≡ do_all mutations database
+  led_all changes led = finite.same_map nat_list_cmp_total exact_bytes _ _ led.leads
+
+  module _ (changes : ChangeList) (from : List ℕ) (led : LeadUpTo mutations database (Some from) changes) where
+    -- over keys that the mutations leave as they are
+    pub led_past : (edge : Option (List ℕ)) → ((q : List ℕ) → is_inside edge false q ≡ false → key_lt q from ≡ false)
+        → ((q : List ℕ) → key_le from q ≡ true → is_inside edge false q ≡ true → finite.get database q ≡ made q)
+        → LeadUpTo mutations database edge changes
+    led_past edge beyond same = record {
+      only = led.only;
+      leads = λ q. led.leads q ∙ by q (is_inside edge false q) (key_lt q from) refl refl;
+      above = λ q outside. led.above q (beyond q outside);
+    }
+      where
+        by : (q : List ℕ) (inside below : Bool) → is_inside edge false q ≡ inside → key_lt q from ≡ below
+            → cond below (made q) (finite.get database q) ≡ cond inside (made q) (finite.get database q)
+        by q true true in_it is_below = refl
+        by q true false in_it is_not = same q (ap not is_not) in_it
+        by q false true out is_below = absurd (true≢false (sym is_below ∙ beyond q out))
+        by q false false out is_not = refl
+
+    -- over keys that they leave, and one more key
+    pub led_over : (key : List ℕ) (value : Option (List ℕ)) → key_le from key ≡ true
+        → ((q : List ℕ) → key_le from q ≡ true → key_lt q key ≡ true → finite.get database q ≡ made q) → value ≡ made key
+        → is_unmodified (state_under mutations key) ≡ false
+        → LeadUpTo mutations database (Some (after key)) (changes ++ (key, value) ∷ [])
+    led_over key value onward same is other = record {
+      only = All-push (λ change. is_modified_by mutations change.0 ≡ true) changes (key, value) led.only (state_modified mutations key other);
+      leads = λ q.
+          ap (λ m. finite.get m q) (changed-push changes (key, value) database)
+          ∙ get-changed_by key value (changed changes database) q
+          ∙ by_order q (key_cmp q key) refl;
+      above = λ q behind. above-push changes (key, value) q ∙ above_after q key behind;
+    }
+      where
+        below : (q : List ℕ) → key_lt q key ≡ true → (b : Bool) → key_lt q from ≡ b
+            → cond b (made q) (finite.get database q) ≡ made q
+        below q lower true is_below = refl
+        below q lower false is_not = same q (ap not is_not) lower
+
+        by_order : (q : List ℕ) (o : Ordering) → key_cmp q key ≡ o
+            → cond (bytes_eq q key) value (finite.get (changed changes database) q)
+            ≡ cond (key_lt q (after key)) (made q) (finite.get database q)
+        by_order q Less order =
+            let lower : key_lt q key ≡ true = ap is_lt order in
+            ap (λ b. cond b value (finite.get (changed changes database) q)) (texts_ties q key ∙ ap is_eq order)
+            ∙ led.leads q
+            ∙ below q lower (key_lt q from) refl
+            ∙ ap (λ b. cond b (made q) (finite.get database q)) (sym (lt_after q key ∙ ap not (above_not_below q key lower)))
+        by_order q Equal order =
+            let same_key : q ≡ key = exact_bytes q key order in
+            ap (λ b. cond b value (finite.get (changed changes database) q)) (texts_ties q key ∙ ap is_eq order)
+            ∙ is
+            ∙ ap made (sym same_key)
+            ∙ ap (λ b. cond b (made q) (finite.get database q))
+            (sym (lt_after q key ∙ ap not (ap (key_lt key) same_key ∙ irreflexive key)))
+        by_order q Greater order =
+            let higher : key_lt key q ≡ true = ap is_lt (nat_list_cmp_total.antisymm key q ∙ ap ordering_reverse order) in
+            ap (λ b. cond b value (finite.get (changed changes database) q)) (texts_ties q key ∙ ap is_eq order)
+            ∙ led.leads q
+            ∙ ap (λ b. cond b (made q) (finite.get database q))
+            (above_not_below from q (le_lt from key q (not-true (key_lt key from) onward) higher))
+            ∙ ap (λ b. cond b (made q) (finite.get database q)) (sym (after_above q key higher))
+
+-- ---- a segment
+
+module _ (mutations : List Mutation) (database : Database) (begin : List ℕ) (edge : Option (List ℕ))
+    (segment : IsSegment mutations begin begin false edge) where
+  abbrev made_of : List ℕ → Option (List ℕ)
+  made_of q = finite.get (do_all mutations database) q
+
+  state_at : (state : KeyState) → state_under mutations begin ≡ state → (q : List ℕ) → key_le begin q ≡ true
+      → is_inside edge false q ≡ true → state_under mutations q ≡ state
+  state_at state is q on inside = sym (segment.alike q on inside).states ∙ is
+
+  made_at : (state : KeyState) → state_under mutations begin ≡ state → (q : List ℕ) → key_le begin q ≡ true
+      → is_inside edge false q ≡ true → made_of q ≡ value_in state (finite.get database q)
+  made_at state is q on inside =
+      get-under mutations database q ∙ ap (λ s. value_in s (finite.get database q)) (state_at state is q on inside)
+
+  outside_behind : (key : List ℕ) → is_inside edge false key ≡ true → (q : List ℕ) → is_inside edge false q ≡ false
+      → key_lt key q ≡ true
+  outside_behind key inside q outside = before_outside edge false key q inside outside
+
+  module _ (changes : ChangeList) (led : LeadUpTo mutations database (Some begin) changes) where
+    -- keys that no mutation changes
+    pub led_unmodified : state_under mutations begin ≡ Unmodified → LeadUpTo mutations database edge changes
+    led_unmodified is =
+        led_past mutations database changes begin led edge
+        (λ q outside. above_not_below begin q (outside_behind begin segment.inside q outside))
+        (λ q on inside. sym (made_at Unmodified is q on inside))
+
+    single_modified : (state : KeyState) → is_single_state state ≡ true → is_unmodified state ≡ false
+    single_modified Unmodified single = absurd (true≢false (sym single))
+    single_modified (Decided value) single = refl
+    single_modified (Depends operations) single = refl
+
+    -- one key alone
+    pub led_single : (state : KeyState) → state_under mutations begin ≡ state → is_single_state state ≡ true
+        → (value : Option (List ℕ)) → value ≡ value_in state (finite.get database begin)
+        → LeadUpTo mutations database edge (changes ++ (begin, value) ∷ [])
+    led_single state state_is single_state value is =
+        led_past mutations database (changes ++ (begin, value) ∷ []) (after begin)
+        (led_over mutations database changes begin led begin value (ap not (irreflexive begin))
+        (λ q on lower. absurd (true≢false (sym lower ∙ not-true (key_lt q begin) on)))
+        (is ∙ sym (made_at state state_is begin (ap not (irreflexive begin)) segment.inside))
+        (ap is_unmodified state_is ∙ single_modified state single_state))
+        edge
+        (λ q outside. after_above q begin (outside_behind begin segment.inside q outside))
+        (λ q on inside. absurd (apart q (not-true (key_lt q (after begin)) on) inside))
+      where
+        single : is_single_state (state_under mutations begin) ≡ true
+        single = ap is_single_state state_is ∙ single_state
+
+        apart : (q : List ℕ) → key_lt q (after begin) ≡ false → is_inside edge false q ≡ true → ⊥
+        apart q behind inside =
+            let higher : key_lt begin q ≡ true = above_after q begin behind in
+            true≢false
+            (sym higher ∙ ap (key_lt begin) (segment.single single q (ap not (above_not_below begin q higher)) inside)
+            ∙ irreflexive begin)
+
+-- ---- a segment whose keys have no value
+
+-- the keys that are stored from its begin up to a key are removed
+pub record IsCleared (mutations : List Mutation) (database : Database) (begin from : List ℕ) (edge : Option (List ℕ))
+    (changes : ChangeList) : Type 0 where
+  pub led : LeadUpTo mutations database (Some from) changes
+  pub onward : (q : List ℕ) → key_le from q ≡ true → key_le begin q ≡ true
+  pub beyond : (q : List ℕ) → is_inside edge false q ≡ false → key_lt q from ≡ false
+
+module _ (mutations : List Mutation) (database : Database) (begin : List ℕ) (edge : Option (List ℕ))
+    (segment : IsSegment mutations begin begin false edge) (is : state_under mutations begin ≡ Decided None) where
+  pub cleared_first : (changes : ChangeList) → LeadUpTo mutations database (Some begin) changes
+      → IsCleared mutations database begin begin edge changes
+  cleared_first changes led = record {
+    led = led;
+    onward = λ q on. on;
+    beyond = λ q outside. above_not_below begin q (outside_behind mutations database begin edge segment begin segment.inside q outside);
+  }
+
+  none_at : (q : List ℕ) → key_le begin q ≡ true → is_inside edge false q ≡ true → finite.get (do_all mutations database) q ≡ None
+  none_at q on inside = made_at mutations database begin edge segment (Decided None) is q on inside
+
+  module _ (changes : ChangeList) (from : List ℕ) (cleared : IsCleared mutations database begin from edge changes) where
+    pub cleared_more : (key value : List ℕ) → IsFirstMet database from false edge (Some (key, value))
+        → IsCleared mutations database begin (after key) edge (changes ++ (key, None) ∷ [])
+    cleared_more key value (met, inside) = record {
+      led = led_over mutations database changes from cleared.led key None met.onward
+          (λ q on lower. met.gap q on lower ∙ sym (none_at q (cleared.onward q on) (inside_before edge false q key lower inside)))
+          (sym (none_at key (cleared.onward key met.onward) inside))
+          (ap is_unmodified (state_at mutations database begin edge segment (Decided None) is key (cleared.onward key met.onward) inside));
+      onward = λ q on. cleared.onward q
+          (ap not (above_not_below from q
+          (le_lt from key q (not-true (key_lt key from) met.onward) (above_after q key (not-true (key_lt q (after key)) on)))));
+      beyond = λ q outside. after_above q key (outside_behind mutations database begin edge segment key inside q outside);
+    }
+
+    pub cleared_all : IsFirstMet database from false edge None → LeadUpTo mutations database edge changes
+    cleared_all none = led_past mutations database changes from cleared.led edge cleared.beyond
+        (λ q on inside. none q on inside ∙ sym (none_at q (cleared.onward q on) inside))
+
+-- the keys that are left
+abbrev pub left_from : Database → List ℕ → List (List ℕ × List ℕ)
+left_from database from = filter (λ e. key_le from e.0) (finite.entries database)
+
+pub fewer_left : (database : Database) (from : List ℕ) (edge : Option (List ℕ)) (key value : List ℕ)
+    → IsFirstMet database from false edge (Some (key, value))
+    → length (left_from database (after key)) < length (left_from database from)
+fewer_left database from edge key value (met, inside) =
+    fewer (λ e. key_le from e.0) (λ e. key_le (after key) e.0) stricter (finite.entries database) (key, value)
+    (has_got database from false key value met.there) met.onward (ap not (below_after key))
   where
-    by_value : (value : Option (List ℕ))
-        → finite.get (changed_by (change.0, value) database) q ≡ cond (eq_by_cmp key_cmp q change.0) value (finite.get database q)
-    by_value (Some value) = finite.get-insert nat_list_cmp_total database change.0 value q
-    by_value None = finite.get-remove nat_list_cmp_total database change.0 q
-
-get-changed : (changes : List (List ℕ × Option (List ℕ))) → T (is_sorted key_cmp changes) → (database : Database) (q : List ℕ)
-    → finite.get (changed changes database) q ≡ unwrap_or (find key_cmp q changes) (finite.get database q)
-get-changed [] sorted database q = refl
-get-changed (c ∷ cs) sorted database q =
-    get-changed cs (right_of (below_all key_cmp c.0 cs) (is_sorted key_cmp cs) sorted) (changed_by c database) q
-    ∙ ap (unwrap_or (find key_cmp q cs)) (get-changed_by c database q)
-    ∙ elim (eq_by_cmp key_cmp q c.0) as (λ b. eq_by_cmp key_cmp q c.0 ≡ b → unwrap_or (find key_cmp q cs) (cond b c.1 (finite.get database q)) ≡ unwrap_or (cond b (Some c.1) (find key_cmp q cs)) (finite.get database q)) [
-      | true ↦ λ same. ap (λ o. unwrap_or o c.1)
-          (ap (λ k. find key_cmp k cs) (tells_apart exact_bytes q c.0 same) ∙ find_below c.0 cs
-          (left_of (below_all key_cmp c.0 cs) (is_sorted key_cmp cs) sorted))
-      | false ↦ λ other. refl
-    ] refl
-
--- the changes of the touched keys lead to the map that has at each key what stands there
-pub changed_is : (touched : Touched) (database after : Database) → ((q : List ℕ) → stands_at touched database q ≡ finite.get after q)
-    → changed (finite.entries touched) database ≡ after
-changed_is touched database after stands = finite.same_map nat_list_cmp_total exact_bytes _ _ (λ q.
-    get-changed (finite.entries touched) (finite.entries_sorted touched) database q
-    ∙ ap (λ o. unwrap_or o (finite.get database q)) (sym (finite.get-entries touched q))
-    ∙ stands q)
+    stricter : (e : List ℕ × List ℕ) → key_le from e.0 ≡ false → key_le (after key) e.0 ≡ false
+    stricter e low =
+        ap not
+        (lt_trans e.0 key (after key)
+        (lt_le e.0 from key (not-false (key_lt e.0 from) low) (not-true (key_lt key from) met.onward)) (below_after key))

@@ -1,10 +1,8 @@
-pub mod Alike
-pub mod Changes
-pub mod KeyByKey
-pub mod Firsts
-pub mod Stored
-pub mod Touched
-pub mod States
+pub mod Standing
+pub mod Answering
+pub mod Views
 pub mod Judging
+pub mod Changes
+pub mod Stored
+pub mod States
 pub mod Modified
-pub mod OutOfMemory

@@ -6,8 +6,12 @@ use Rattle.fdb_calls.specs.declared.Reply.{Reply}
 use Rattle.fdb_calls.specs.declared.Reply.TheVariants as reply
 use Rattle.txn_core.specs.declared.answer.Answer.{Answer}
 
--- no life was drawn, and the reply is this of a value, or the fault; want of memory has no answer
+-- no life was drawn, and the reply is the fault; want of memory has no answer
+abbrev pub IsToldBy : TrFault → Answer → Type 0
+IsToldBy (fault.Code code) answer = (answer.reply ≡ reply.Fault code) × (answer.drew_life ≡ false)
+IsToldBy fault.NoMemory answer = ⊥
+
+-- no life was drawn, and the reply is this of a value, or the fault
 abbrev pub Tells : {A : Type 0} → (A → Reply) → Result A TrFault → Answer → Type 0
 Tells replied (Ok value) answer = (answer.reply ≡ replied value) × (answer.drew_life ≡ false)
-Tells replied (Err (fault.Code code)) answer = (answer.reply ≡ reply.Fault code) × (answer.drew_life ≡ false)
-Tells replied (Err fault.NoMemory) answer = ⊥
+Tells replied (Err refusal) answer = IsToldBy refusal answer

@@ -1,8 +1,7 @@
-pub mod Mutations
-pub mod KeyByKey
-pub mod Seen
 pub mod Stands
 pub mod StandLaws
+pub mod Accesses
 pub mod Judging
+pub mod Logging
 pub mod Answering
-pub mod Touched
+pub mod Changing

@@ -1,12 +1,28 @@
 -- What a transaction of the code, and a store, stand for.
-use Rattle.std.specs.Prelude.{◌≡◌, ℕ, ◌≤◌, ◌⊎◌, List, ◌++◌, length, if◌then◌else◌}
-use Rattle.database_rules.specs.Databases.{Mutation, History, at, last}
+use Rattle.std.specs.Prelude.{◌≡◌, ℕ, ◌≤◌, ◌⊎◌, Bool, List, length, nat_lt, Option, if◌then◌else◌}
+use Rattle.key_bytes.specs.declared.range.KeyRange.{KeyRange}
+use Rattle.database_rules.specs.declared.Phase.{Phase}
+use Rattle.database_rules.specs.Databases.{Mutation}
+use Rattle.database_rules.specs.Histories.{Setting, grown_by, at, last}
 use Rattle.database_rules.specs.States.{covers, state_under, all_filled, unreadable}
-use Rattle.database_rules.specs.Transactions.{Transaction, is_read_only, with_version}
+use Rattle.database_rules.specs.Transactions.{Transaction, writes_of, is_read_only, with_version}
 use Rattle.fdb_calls.specs.Calling.{Called}
 use Rattle.version_store.specs.Versions.{Versions, last_of}
 use Rattle.version_store.specs.Versions as versions
 use Rattle.txn_core.specs.declared.answer.Answer.{Answer}
+
+-- what the code keeps of a transaction: no answer of a read, and mutations and ranges in whatever form
+pub record Kept : Type 0 where
+  pub life : ℕ
+  pub version : Option ℕ
+  pub mutations : List Mutation
+  pub read_ranges : List KeyRange
+  pub size : ℕ
+  pub phase : Phase
+
+-- it had no mutation in this life
+abbrev pub is_bare : Kept → Bool
+is_bare kept = nat_lt (length kept.mutations) 1
 
 -- Two lists of mutations agree: the same keys are unreadable under both, and each key has the same state under both,
 -- those with a versionstamp left out, and with any one versionstamp filled in.
@@ -18,10 +34,10 @@ pub record SameMutations (kept mutations : List Mutation) : Type 0 where
 
 -- A transaction of the code stands for each one that its mutations and its fields agree with: the mutations agree, it had a
 -- mutation in this life exactly where the other had one, and its other fields are the same; ranges are read by which
--- keys they have.
-pub record StandsFor (kept transaction : Transaction) : Type 0 where
-  pub mutations : SameMutations kept.mutations transaction.mutations
-  pub writes : is_read_only kept ≡ is_read_only transaction
+-- keys they have. What the other's reads were answered is not compared.
+pub record StandsFor (kept : Kept) (transaction : Transaction) : Type 0 where
+  pub mutations : SameMutations kept.mutations (writes_of transaction)
+  pub writes : is_bare kept ≡ is_read_only transaction
   pub life : kept.life ≡ transaction.life
   pub version : kept.version ≡ transaction.version
   pub reads : (key : List ℕ) → covers kept.read_ranges key ≡ covers transaction.read_ranges key
@@ -29,24 +45,17 @@ pub record StandsFor (kept transaction : Transaction) : Type 0 where
   pub phase : kept.phase ≡ transaction.phase
 
 -- a store has the map of a history at each of its versions
-pub record Keeps (store : Versions) (history : History) : Type 0 where
-  pub last_is : last_of store ≡ last history
-  pub at_is : (version : ℕ) → version ≤ last history → versions.at store version ≡ at history version
+pub record Keeps (store : Versions) (setting : Setting) : Type 0 where
+  pub last_is : last_of store ≡ last setting.history
+  pub at_is : (version : ℕ) → version ≤ last setting.history → versions.at store version ≡ at setting.history version
 
 -- a transaction still stands as it did, or as it did but for its version, which was taken
-abbrev pub StandsStill : (Transaction → Type 0) → History → Transaction → Type 0
-StandsStill stands history transaction = stands transaction ⊎ stands (with_version history transaction)
+abbrev pub StandsStill : (Transaction → Type 0) → Setting → Transaction → Type 0
+StandsStill stands setting transaction = stands transaction ⊎ stands (with_version setting transaction)
 
 -- a call was answered as is said, and the transaction and the store stand for what it left
-pub record Answers (answer : Answer) (kept : Transaction) (store : Versions) (history : History) (called : Called) : Type 0 where
+pub record Answers (answer : Answer) (kept : Kept) (store : Versions) (setting : Setting) (called : Called) : Type 0 where
   pub reply : answer.reply ≡ called.reply
   pub lives : (if answer.drew_life then 1 else 0) ≡ called.lives
   pub stands : StandsFor kept called.transaction
-  pub keeps : Keeps store (history ++ called.commits)
-
--- a commit was answered and left the transaction as is said, and the store stands for the history that it left
-pub record Does (answer : Answer) (kept : Transaction) (store : Versions) (history : History) (called : Called) : Type 0 where
-  pub reply : answer.reply ≡ called.reply
-  pub lives : (if answer.drew_life then 1 else 0) ≡ called.lives
-  pub transaction : kept ≡ called.transaction
-  pub keeps : Keeps store (history ++ called.commits)
+  pub keeps : Keeps store (grown_by setting called.commits)

@@ -1,13 +1,13 @@
 //! What a call was answered.
 
-ghost use Rattle.std.specs.Prelude.{◌≡◌, true, false, IfOk, OnErr};
+ghost use Rattle.std.specs.Prelude.{◌≡◌, true, false, Err, IfOk, OnErr};
 ghost use Rattle.fdb_calls.specs.declared.fault.TrFault.TheVariants as fault;
 ghost use Rattle.fdb_calls.specs.declared.Reply.TheVariants as reply;
-ghost use Rattle.txn_core.specs.Answering.{Tells};
+ghost use Rattle.txn_core.specs.Answering.{IsToldBy, Tells};
 
 use database_rules::Code;
 use fdb_calls::{Reply, TrFault};
-use key_bytes::Bytes;
+use key_bytes::{Bytes, Key, Pairs};
 use std::alloc::AllocError;
 
 /// What a call was answered, and whether it began a new life, whose number was handed in.
@@ -54,27 +54,58 @@ impl Answer {
         }
     }
 
-    // What a read was answered; want of memory is no answer.
-    pub(crate) fn of_read(read: Result<Option<Bytes>, TrFault>) -> Result<Answer, AllocError>
+    // What a refused call was answered; want of memory is no answer.
+    fn of_fault(refusal: TrFault) -> Result<Answer, AllocError>
+        ensures ok { IfOk result (λ answer. IsToldBy refusal answer) }
+        ensures err { OnErr result (refusal ≡ fault.NoMemory) }
+    {
+        match refusal {
+            TrFault::Code(code) => Ok(Answer::refused(code)),
+            TrFault::NoMemory => Err(AllocError),
+        }
+    }
+
+    // What a read of a value was answered.
+    pub(crate) fn of_value(read: Result<Option<Bytes>, TrFault>) -> Result<Answer, AllocError>
         ensures ok { IfOk result (Tells reply.Value read) }
         ensures err { OnErr result (read ≡ Err fault.NoMemory) }
     {
         match read {
             Ok(value) => Ok(Answer::new(Reply::Value(value))),
-            Err(TrFault::Code(code)) => Ok(Answer::refused(code)),
-            Err(TrFault::NoMemory) => Err(AllocError),
+            Err(fault) => Answer::of_fault(fault),
         }
     }
 
-    // What a write was answered; want of memory is no answer.
+    // What a read of a key was answered.
+    pub(crate) fn of_key(read: Result<Key, TrFault>) -> Result<Answer, AllocError>
+        ensures ok { IfOk result (Tells reply.KeyIs read) }
+        ensures err { OnErr result (read ≡ Err fault.NoMemory) }
+    {
+        match read {
+            Ok(key) => Ok(Answer::new(Reply::KeyIs(key))),
+            Err(fault) => Answer::of_fault(fault),
+        }
+    }
+
+    // What a read of pairs was answered.
+    pub(crate) fn of_pairs(read: Result<Pairs, TrFault>) -> Result<Answer, AllocError>
+        ensures ok { IfOk result (Tells reply.PairsAre read) }
+        ensures err { OnErr result (read ≡ Err fault.NoMemory) }
+    {
+        match read {
+            Ok(pairs) => Ok(Answer::new(Reply::PairsAre(pairs))),
+            Err(fault) => Answer::of_fault(fault),
+        }
+    }
+
+    // What a write was answered.
     pub(crate) fn of_write(written: Result<(), TrFault>) -> Result<Answer, AllocError>
         ensures ok { IfOk result (Tells (λ _. reply.Done) written) }
         ensures err { OnErr result (written ≡ Err fault.NoMemory) }
     {
         match written {
             Ok(()) => Ok(Answer::done()),
-            Err(TrFault::Code(code)) => Ok(Answer::refused(code)),
-            Err(TrFault::NoMemory) => Err(AllocError),
+            Err(fault) => Answer::of_fault(fault),
         }
     }
 }

@@ -1,15 +1,14 @@
-//! The code of the first check of a call that fails.
+//! The code of the first check of a call that fails. None of these takes memory.
 
-ghost use Rattle.std.specs.Prelude.{◌≡◌, ◌<◌, [], option_map, IfOk, IfErr, OnOk};
-ghost use Rattle.database_rules.specs.Atomics.{atomic_named};
+ghost use Rattle.std.specs.Prelude.{◌≡◌, ◌<◌, [], ◌∷◌, option_map, IfOk, IfErr, OnOk};
 ghost use Rattle.database_rules.specs.Transactions as rules;
 ghost use Rattle.database_rules.specs.Transactions.{number_of};
+ghost use Rattle.database_rules.specs.declared.TheConstants as constants;
 
-use crate::txn::Txn;
 use database_rules::{
-    AtomicOp, Code, INVALID_MUTATION_TYPE, INVERTED_RANGE, KEY_LIMIT, KEY_OUTSIDE_LEGAL_RANGE,
-    KEY_TOO_LARGE, Phase, SIZE_LIMIT, TRANSACTION_CANCELLED, TRANSACTION_TOO_LARGE,
-    USED_DURING_COMMIT, VALUE_LIMIT, VALUE_TOO_LARGE,
+    AtomicOp, Code, EXACT_MODE_WITHOUT_LIMITS, INVALID_MUTATION_TYPE, INVERTED_RANGE, KEY_LIMIT,
+    KEY_OUTSIDE_LEGAL_RANGE, KEY_TOO_LARGE, Phase, SIZE_LIMIT, TRANSACTION_CANCELLED,
+    TRANSACTION_TOO_LARGE, USED_DURING_COMMIT, VALUE_LIMIT, VALUE_TOO_LARGE,
 };
 use key_bytes::{KeyRange, is_below};
 
@@ -39,84 +38,116 @@ fn key_code(key: &[u8], value: &[u8]) -> Option<Code>
     }
 }
 
-impl Txn {
-    // The code of the first check of a read or a clear of `key` that fails. It takes no memory.
-    #[tactic(auto, unfolding(database_rules::specs::Transactions::one_key_code))]
-    pub(crate) fn one_key_code(&self, key: &[u8]) -> Option<Code>
-        ensures { option_map number_of result ≡ rules.one_key_code self.now key.now }
-    {
-        if let Some(code) = phase_code(self.phase) {
-            Some(code)
-        } else if !is_below(key, &[0xff]) {
-            Some(Code(KEY_OUTSIDE_LEGAL_RANGE))
-        } else {
-            None
-        }
-    }
+// Whether an end of a range is greater than FF.
+pub(crate) fn is_end_outside(end: &[u8]) -> bool
+    ensures { result ≡ rules.is_end_outside end.now }
+{
+    is_below(&[0xff], end)
+}
 
-    // The code of the first check of a set that fails. It takes no memory.
-    #[tactic(auto, unfolding(database_rules::specs::Transactions::set_code))]
-    pub(crate) fn set_code(&self, key: &[u8], value: &[u8]) -> Option<Code>
-        ensures { option_map number_of result ≡ rules.set_code self.now key.now value.now }
-    {
-        if let Some(code) = phase_code(self.phase) {
-            Some(code)
-        } else {
-            key_code(key, value)
-        }
+// The code of the first check of a read that fails before its version is taken, by whether one of its keys is outside and
+// whether it lacks a limit.
+pub(crate) fn read_code(phase: Phase, is_outside: bool, lacks_limit: bool) -> Option<Code>
+    ensures { option_map number_of result ≡ rules.first_failing (rules.after_phase phase
+        ((is_outside, constants.KEY_OUTSIDE_LEGAL_RANGE) ∷ (lacks_limit, constants.EXACT_MODE_WITHOUT_LIMITS) ∷ [])) }
+{
+    if let Some(code) = phase_code(phase) {
+        Some(code)
+    } else if is_outside {
+        Some(Code(KEY_OUTSIDE_LEGAL_RANGE))
+    } else if lacks_limit {
+        Some(Code(EXACT_MODE_WITHOUT_LIMITS))
+    } else {
+        None
     }
+}
 
-    // The code of the first check of a clear of a range that fails. It takes no memory.
-    #[tactic(auto, unfolding(database_rules::specs::Transactions::clear_range_code))]
-    pub(crate) fn clear_range_code(&self, range: &KeyRange) -> Option<Code>
-        ensures { option_map number_of result ≡ rules.clear_range_code self.now range.now.begin range.now.end }
-    {
-        if let Some(code) = phase_code(self.phase) {
-            Some(code)
-        } else if is_below(&[0xff], range.begin.as_slice())
-            || is_below(&[0xff], range.end.as_slice())
-        {
-            Some(Code(KEY_OUTSIDE_LEGAL_RANGE))
-        } else if range.end.cmp(&range.begin).is_lt() {
-            Some(Code(INVERTED_RANGE))
-        } else {
-            None
-        }
+// The code of the first check of a set that fails.
+#[tactic(auto, unfolding(database_rules::specs::Transactions::set_code))]
+pub(crate) fn set_code(phase: Phase, key: &[u8], value: &[u8]) -> Option<Code>
+    ensures { option_map number_of result ≡ rules.set_code phase key.now value.now }
+{
+    if let Some(code) = phase_code(phase) {
+        Some(code)
+    } else {
+        key_code(key, value)
     }
+}
 
-    // The mutation of this name, or the code of the first check of an atomic operation that fails. It takes no memory.
-    #[tactic(auto, unfolding(database_rules::specs::Transactions::atomic_code))]
-    pub(crate) fn atomic_op(
-        &self,
-        name: &[u8],
-        key: &[u8],
-        operand: &[u8],
-    ) -> Result<AtomicOp, Code>
-        ensures op { IfOk result (λ op. atomic_named name.now ≡ Some op) }
-        ensures ok { OnOk result (rules.atomic_code self.now name.now key.now operand.now ≡ None) }
-        ensures err { IfErr result (λ code. rules.atomic_code self.now name.now key.now operand.now ≡ Some code.0) }
-    {
-        if let Some(code) = phase_code(self.phase) {
-            return Err(code);
-        }
-        let op = atomic_ops::from_name(name).ok_or(Code(INVALID_MUTATION_TYPE))?;
-        match key_code(key, operand) {
-            Some(code) => Err(code),
-            None => Ok(op),
-        }
+// The code of the first check of a clear of one key that fails.
+#[tactic(auto, unfolding(database_rules::specs::Transactions::clear_code))]
+pub(crate) fn clear_code(phase: Phase, key: &[u8]) -> Option<Code>
+    ensures { option_map number_of result ≡ rules.clear_code phase key.now }
+{
+    if let Some(code) = phase_code(phase) {
+        Some(code)
+    } else if !is_below(key, &[0xff]) {
+        Some(Code(KEY_OUTSIDE_LEGAL_RANGE))
+    } else {
+        None
     }
+}
 
-    // The code of the first check of a commit that fails. It takes no memory.
-    #[tactic(auto, unfolding(database_rules::specs::Transactions::commit_code))]
-    pub(crate) fn commit_code(&self) -> Option<Code>
-        ensures { option_map number_of result ≡ rules.commit_code self.now }
-    {
-        if let Some(code) = phase_code(self.phase) {
-            Some(code)
-        } else if !self.mutations.is_empty() && SIZE_LIMIT < self.size {
-            Some(Code(TRANSACTION_TOO_LARGE))
-        } else {
-            None
-        }
+// The code of the first check of a clear of a range that fails.
+#[tactic(auto, unfolding(database_rules::specs::Transactions::clear_range_code))]
+pub(crate) fn clear_range_code(phase: Phase, range: &KeyRange) -> Option<Code>
+    ensures { option_map number_of result ≡ rules.clear_range_code phase range.now.begin range.now.end }
+{
+    if let Some(code) = phase_code(phase) {
+        Some(code)
+    } else if is_end_outside(range.begin.as_slice()) || is_end_outside(range.end.as_slice()) {
+        Some(Code(KEY_OUTSIDE_LEGAL_RANGE))
+    } else if range.end.cmp(&range.begin).is_lt() {
+        Some(Code(INVERTED_RANGE))
+    } else {
+        None
+    }
+}
+
+// The atomic operation of a name, if there is one; those with a versionstamp have no name yet.
+fn operation_named(name: &[u8]) -> Option<AtomicOp>
+    ensures { result ≡ rules.operation_named name.now }
+{
+    let op = atomic_ops::from_name(name)?;
+    if op.is_versionstamped() {
+        None
+    } else {
+        Some(op)
+    }
+}
+
+// The atomic operation of this name, or the code of the first check of it that fails.
+#[tactic(auto, unfolding(database_rules::specs::Transactions::atomic_code))]
+pub(crate) fn atomic_op(
+    phase: Phase,
+    name: &[u8],
+    key: &[u8],
+    operand: &[u8],
+) -> Result<AtomicOp, Code>
+    ensures op { IfOk result (λ op. rules.operation_named name.now ≡ Some op) }
+    ensures ok { OnOk result (rules.atomic_code phase name.now key.now operand.now ≡ None) }
+    ensures err { IfErr result (λ code. rules.atomic_code phase name.now key.now operand.now ≡ Some code.0) }
+{
+    if let Some(code) = phase_code(phase) {
+        return Err(code);
+    }
+    let op = operation_named(name).ok_or(Code(INVALID_MUTATION_TYPE))?;
+    match key_code(key, operand) {
+        Some(code) => Err(code),
+        None => Ok(op),
+    }
+}
+
+// The code of the first check of a commit that fails, by whether there is nothing to write, and the size.
+#[tactic(auto, unfolding(database_rules::specs::Transactions::commit_code))]
+pub(crate) fn commit_code(phase: Phase, is_read_only: bool, size: u64) -> Option<Code>
+    ensures { option_map number_of result ≡ rules.commit_code phase is_read_only size }
+{
+    if let Some(code) = phase_code(phase) {
+        Some(code)
+    } else if !is_read_only && SIZE_LIMIT < size {
+        Some(Code(TRANSACTION_TOO_LARGE))
+    } else {
+        None
     }
 }

@@ -1,26 +1,25 @@
 //! A transaction over a store of versions: its calls, one at a time.
 //!
-//! A `Txn` keeps its writes and the fields of a transaction of the definitions (`database_rules`,
-//! `specs/Transactions.antt`), and stands for each transaction that its mutations and its fields agree with
+//! A `Txn` keeps its pending mutations (`write_map`) and the fields of a transaction of the definitions (`database_rules`,
+//! `specs/Transactions.antt`) but for what its reads were answered, and stands for each transaction that these agree with
 //! (`specs/Stands.antt`). For every transaction for which it stands before a call, and every history that the store
 //! keeps, the call is answered as `fdb_calls` says (`specs/Calling.antt`), and it stands for the transaction after the
-//! call. `TxnOn` has the calls by their names (`Tr`), and the parts of a commit; `Txn::call` takes a call of a request.
+//! call. Reads are answered from a view (`ryw_view`) of the store under the pending mutations. `TxnOn` has the calls by their names (`Tr`), and the parts of a commit; `Txn::call` takes a call of a request.
 #![tactic(auto)]
 
 mod answer;
+mod changing;
 mod codes;
 mod committing;
 mod lives;
-mod mutation;
+mod logging;
 mod reading;
-mod touching;
 mod txn;
 mod txn_on;
 mod verdict;
 mod writing;
 
 pub use answer::Answer;
-pub use mutation::Mutation;
 pub use txn::Txn;
 pub use txn_on::TxnOn;
 pub use verdict::Verdict;

@@ -1,150 +1,199 @@
-//! Reads: the value of a key at the transaction's version, after its own writes.
+//! Reads: each is refused by its code, or answered from what the transaction sees at its version.
 
-ghost use Rattle.std.specs.Prelude.{◌≡◌, IfOk, map, min, option_copied};
+ghost use Rattle.std.specs.Prelude.{◌≡◌, Bool, false, [], min, IfOk};
 ghost use Rattle.std.specs.FinMap as finite;
-ghost use Rattle.database_rules.specs.Atomics.{atom};
-ghost use Rattle.database_rules.specs.Databases.{History};
-ghost use Rattle.database_rules.specs.Transactions as rules;
-ghost use Rattle.fdb_calls.specs.declared.Reply.TheVariants as reply;
-ghost use Rattle.fdb_calls.specs.Answers.{Answered};
-ghost use Rattle.fdb_calls.specs.Calling.{get_called};
+ghost use Rattle.database_rules.specs.States.{seen, unreadable};
+ghost use Rattle.database_rules.specs.Histories.{Setting};
+ghost use Rattle.database_rules.specs.Modes.{lacks_limit};
+ghost use Rattle.database_rules.specs.Reads as read;
+ghost use Rattle.database_rules.specs.Selecting.{select};
+ghost use Rattle.database_rules.specs.Slices.{slice};
 ghost use Rattle.version_store.specs.Versions.{at, last_of};
-ghost use Rattle.txn_core.specs.Mutations.{mutation_of, mutations_of};
-ghost use Rattle.txn_core.specs.KeyByKey.{at_key, at_keys};
-ghost use Rattle.txn_core.specs.Seen.{seen_value};
+ghost use Rattle.txn_core.specs.Accesses.{Reads, seen_by, version_of};
 ghost use Rattle.txn_core.specs.Stands.{Keeps};
 
-use crate::mutation::Mutation;
+use crate::codes::{is_end_outside, read_code};
 use crate::txn::Txn;
-use database_rules::AtomicOp;
+use database_rules::{Code, Mode, Selector};
 use fdb_calls::TrFault;
-use key_bytes::{Bytes, Key};
-use std::alloc::{AllocError, Global};
+use key_bytes::{Bytes, Key, KeyRange, Pairs, is_below};
+use range_read::{RangeFault, all, lacks_limit, resolve};
+use ryw_view::{View, ViewFault};
+use std::alloc::AllocError;
 use version_store::Store;
 
-// What a read has seen of a key so far: no value, a value of the store or of a write, or what an atomic operation made.
-#[derive(Drop)]
-pub(crate) enum Seen<'a> {
-    Nothing,
-    Lent(&'a [u8]),
-    Made(Bytes),
+// How a range is read: up to a limit, in order or reversed, in a streaming mode.
+#[derive(Clone, Copy)]
+pub(crate) struct Manner {
+    pub(crate) limit: u32,
+    pub(crate) reverse: bool,
+    pub(crate) mode: Mode,
 }
 
-impl<'a> Seen<'a> {
-    fn of(value: Option<&'a [u8]>) -> Seen<'a>
-        ensures { seen_value result ≡ option_copied value.entry }
+impl Manner {
+    pub(crate) fn new(limit: u32, reverse: bool, mode: Mode) -> Manner
+        ensures { result ≡ record { limit = limit; reverse = reverse; mode = mode } }
     {
-        match value {
-            Some(bytes) => Seen::Lent(bytes),
-            None => Seen::Nothing,
+        Manner {
+            limit,
+            reverse,
+            mode,
         }
-    }
-
-    fn made(value: Option<Bytes>) -> Seen<'a>
-        ensures { seen_value result ≡ value }
-    {
-        match value {
-            Some(bytes) => Seen::Made(bytes),
-            None => Seen::Nothing,
-        }
-    }
-
-    fn as_slice(&self) -> Option<&[u8]>
-        ensures { option_copied result ≡ seen_value self.now }
-    {
-        match self {
-            Seen::Nothing => None,
-            Seen::Lent(bytes) => Some(bytes),
-            Seen::Made(bytes) => Some(bytes.as_slice()),
-        }
-    }
-
-    // The value, which is copied where it was only lent.
-    fn into_value(self, alloc: Global) -> Result<Option<Bytes>, AllocError>
-        ensures { IfOk result (λ value. value ≡ seen_value self.entry) }
-    {
-        match self {
-            Seen::Nothing => Ok(None),
-            Seen::Lent(bytes) => Ok(Some(Bytes::from_slice(alloc, bytes)?)),
-            Seen::Made(bytes) => Ok(Some(bytes)),
-        }
-    }
-
-    // What is seen after an atomic operation on the key.
-    #[tactic(auto, using(crate::proofs::KeyByKey::versionstamped_same))]
-    fn after_atomic(
-        self,
-        alloc: Global,
-        op: AtomicOp,
-        operand: &Bytes,
-    ) -> Result<Seen<'a>, AllocError>
-        ensures { IfOk result (λ seen. seen_value seen ≡ atom op (seen_value self.entry) operand.now) }
-    {
-        if op.is_versionstamped() {
-            return Ok(self);
-        }
-        let value = atomic_ops::apply(alloc, op, self.as_slice(), operand.as_slice())?;
-        Ok(Seen::made(value))
-    }
-
-    // What is seen after a write.
-    fn after(self, alloc: Global, mutation: &'a Mutation, key: &Key) -> Result<Seen<'a>, AllocError>
-        ensures { IfOk result (λ seen. seen_value seen ≡ at_key (mutation_of mutation.now) key.now (seen_value self.entry)) }
-    {
-        if !mutation.touches(key) {
-            return Ok(self);
-        }
-        match mutation {
-            Mutation::Set { value, .. } => Ok(Seen::Lent(value.as_slice())),
-            Mutation::Clear { .. } | Mutation::ClearRange { .. } => Ok(Seen::Nothing),
-            Mutation::Atomic { op, operand, .. } => self.after_atomic(alloc, *op, operand),
-        }
-    }
-}
-
-// The value of a key in the store at a version, or at the last one where there is no such version.
-pub(crate) fn stored<'a>(store: &'a Store, version: u64, key: &Key) -> Option<&'a [u8]>
-    ensures { option_copied result ≡ finite.get (at store.now (min version (last_of store.now))) key.now }
-{
-    match store.get_at(key, version.min(store.last())) {
-        Ok(value) => value,
-        Err(_) => None,
     }
 }
 
 impl Txn {
-    // The value of a key that the transaction sees at a version: that of the store, after the transaction's writes.
-    fn value(&self, store: &Store, version: u64, key: &Key) -> Result<Option<Bytes>, AllocError>
-        ensures { IfOk result (λ value. value
-            ≡ at_keys self.now.mutations key.now (finite.get (at store.now (min version (last_of store.now))) key.now)) }
+    // The version of its reads: the one that was taken, or else the last one.
+    pub(crate) fn read_version(&self, store: &Store) -> u64
+        ensures { result ≡ version_of self.now store.now }
     {
-        let alloc = self.allocator();
-        let mut seen = Seen::of(stored(store, version, key));
-        for mutation in self.mutations.as_slice() {
-            seen = seen.after(alloc, mutation, key)?;
-        }
-        seen.into_value(alloc)
+        self.version.unwrap_or(store.last())
     }
 
-    // The value of a key that the transaction sees. A refused read changes nothing, and another takes the version; after
-    // want of memory the transaction is unchanged.
-    pub(crate) fn get(&mut self, store: &Store, key: &Key) -> Result<Option<Bytes>, TrFault>
-        ensures { (history : History) → Keeps store.now history
-            → Answered reply.Value result (λ t. self.new ≡ t) self.old (get_called history self.old key.now) }
+    // What it sees of a store.
+    fn view<'a>(&'a self, store: &'a Store) -> View<'a>
+        ensures shows { seen result.edits.now.mutations (at result.store.now result.version) ≡ seen_by self.now store.now }
+        ensures readable { unreadable result.edits.now.mutations ≡ [] }
     {
-        if let Some(code) = self.one_key_code(key.as_slice()) {
+        let version = self.read_version(store).min(store.last());
+        View {
+            edits: &self.edits,
+            store,
+            version,
+        }
+    }
+
+    // The value of a key that it sees.
+    fn value(&self, store: &Store, key: &Key) -> Result<Option<Bytes>, AllocError>
+        ensures { IfOk result (λ value. value ≡ finite.get (seen_by self.now store.now) key.now) }
+    {
+        match self.view(store).get(key) {
+            Ok(value) => Ok(value),
+            // No mutation makes a key unreadable yet.
+            Err(ViewFault::Unreadable) => unreachable!(),
+            Err(ViewFault::NoMemory) => Err(AllocError),
+        }
+    }
+
+    // The pairs of a range that it sees.
+    fn pairs(&self, store: &Store, range: &KeyRange, manner: Manner) -> Result<Pairs, AllocError>
+        requires { lacks_limit manner.mode manner.limit ≡ false }
+        ensures { IfOk result (λ pairs. pairs ≡ slice (seen_by self.now store.now) range.now.begin range.now.end manner.limit manner.reverse) }
+    {
+        let alloc = self.allocator();
+        match all(
+            alloc,
+            &self.view(store),
+            range,
+            manner.limit,
+            manner.reverse,
+            manner.mode,
+        ) {
+            Ok(pairs) => Ok(pairs),
+            Err(RangeFault::NoLimit | RangeFault::NoMemory) => Err(AllocError),
+        }
+    }
+
+    // The key that a selector means among those that it sees.
+    fn key(&self, store: &Store, selector: &Selector) -> Result<Key, AllocError>
+        ensures { IfOk result (λ key. key ≡ select (seen_by self.now store.now) selector.now) }
+    {
+        resolve(self.allocator(), &self.view(store), selector)
+    }
+
+    // The pairs between the keys that two selectors mean.
+    fn pairs_between(
+        &self,
+        store: &Store,
+        begin: &Selector,
+        end: &Selector,
+        manner: Manner,
+    ) -> Result<Pairs, AllocError>
+        requires { lacks_limit manner.mode manner.limit ≡ false }
+        ensures { IfOk result (λ pairs. pairs ≡ slice (seen_by self.now store.now) (select (seen_by self.now store.now) begin.now)
+            (select (seen_by self.now store.now) end.now) manner.limit manner.reverse) }
+    {
+        let begin = self.key(store, begin)?;
+        let end = self.key(store, end)?;
+        self.pairs(store, &KeyRange { begin, end }, manner)
+    }
+}
+
+// Each read takes the version, unless a check refuses it before that, or memory runs out: then it changes nothing.
+impl Txn {
+    // The value of a key (`fdb_transaction_get`).
+    pub(crate) fn get(&mut self, store: &Store, key: &Key) -> Result<Option<Bytes>, TrFault>
+        ensures { (setting : Setting) (snapshot : Bool) → Keeps store.now setting
+            → Reads read.ValueIs result self.old self.new setting false snapshot (read.Get key.now) }
+    {
+        if let Some(code) = read_code(self.phase, !is_below(key.as_slice(), &[0xff]), false) {
             return Err(TrFault::Code(code));
         }
-        let version = self.read_version(store);
-        let value = self.value(store, version, key)?;
-        self.version = Some(version);
+        let value = self.value(store, key)?;
+        self.version = Some(self.read_version(store));
         Ok(value)
     }
 
-    // The version of its reads: the one that was taken, or else the last one.
-    pub(crate) fn read_version(&self, store: &Store) -> u64
-        ensures { (history : History) → Keeps store.now history → result ≡ rules.version_in history self.now }
+    // The key that a selector means (`fdb_transaction_get_key`).
+    pub(crate) fn get_key(&mut self, store: &Store, selector: &Selector) -> Result<Key, TrFault>
+        ensures { (setting : Setting) (snapshot : Bool) → Keeps store.now setting
+            → Reads read.KeyIs result self.old self.new setting false snapshot (read.GetKey selector.now) }
     {
-        self.version.unwrap_or(store.last())
+        if let Some(code) = read_code(self.phase, is_end_outside(selector.key.as_slice()), false) {
+            return Err(TrFault::Code(code));
+        }
+        let key = self.key(store, selector)?;
+        self.version = Some(self.read_version(store));
+        Ok(key)
+    }
+
+    // The pairs of a range (`fdb_transaction_get_range`).
+    pub(crate) fn get_key_range(
+        &mut self,
+        store: &Store,
+        range: &KeyRange,
+        manner: Manner,
+    ) -> Result<Pairs, TrFault>
+        ensures { (setting : Setting) (snapshot : Bool) → Keeps store.now setting
+            → Reads read.PairsAre result self.old self.new setting (lacks_limit manner.mode manner.limit) snapshot
+            (read.GetKeyRange range.now.begin range.now.end manner.limit manner.reverse) }
+    {
+        let is_outside = is_end_outside(range.begin.as_slice())
+            || is_end_outside(range.end.as_slice());
+        if let Some(code) = read_code(
+            self.phase,
+            is_outside,
+            lacks_limit(manner.mode, manner.limit),
+        ) {
+            return Err(TrFault::Code(code));
+        }
+        let pairs = self.pairs(store, range, manner)?;
+        self.version = Some(self.read_version(store));
+        Ok(pairs)
+    }
+
+    // The pairs between the keys that two selectors mean (`fdb_transaction_get_range`).
+    pub(crate) fn get_range(
+        &mut self,
+        store: &Store,
+        begin: &Selector,
+        end: &Selector,
+        manner: Manner,
+    ) -> Result<Pairs, TrFault>
+        ensures { (setting : Setting) (snapshot : Bool) → Keeps store.now setting
+            → Reads read.PairsAre result self.old self.new setting (lacks_limit manner.mode manner.limit) snapshot
+            (read.GetRange begin.now end.now manner.limit manner.reverse) }
+    {
+        let is_outside = is_end_outside(begin.key.as_slice()) || is_end_outside(end.key.as_slice());
+        if let Some(code) = read_code(
+            self.phase,
+            is_outside,
+            lacks_limit(manner.mode, manner.limit),
+        ) {
+            return Err(TrFault::Code(code));
+        }
+        let pairs = self.pairs_between(store, begin, end, manner)?;
+        self.version = Some(self.read_version(store));
+        Ok(pairs)
     }
 }

@@ -1,7 +1,7 @@
 use super::*;
-use database_rules::{AtomicOp, Code, Tried};
+use database_rules::{AtomicOp, Code, Mode, Selector, Tried};
 use fdb_calls::{Reply, Tr, TrFault, TxnCall};
-use key_bytes::{Bytes, KeyRange};
+use key_bytes::{Bytes, KeyRange, Pair, Pairs};
 use std::alloc::{AllocError, Global};
 use std::test::Fail;
 use version_store::Store;
@@ -26,6 +26,9 @@ fn new_session(alloc: Global) -> Session {
 #[derive(Clone, Copy)]
 enum Say {
     Get(&'static [u8]),
+    GetKey(&'static [u8], bool, i32),
+    Range(&'static [u8], &'static [u8], u32, bool, Mode),
+    Between(&'static [u8], &'static [u8]),
     Set(&'static [u8], &'static [u8]),
     Clear(&'static [u8]),
     ClearRange(&'static [u8], &'static [u8]),
@@ -43,14 +46,21 @@ enum Told<'a> {
     NewLife,
     Nothing,
     Value(&'a [u8]),
+    Key(&'a [u8]),
+    Pairs,
     Fault(u16),
     NoMemory,
 }
 
-// A call that is answered so; or a transaction of the next life in the place of this one, at this version.
+// A key with its value.
+type Entry = (&'static [u8], &'static [u8]);
+
+// A call that is answered so, or by these pairs; or a transaction of the next life in the place of this one, at this
+// version.
 #[derive(Clone, Copy)]
 enum Row {
     Call(Say, Told<'static>),
+    Pairs(Say, &'static [Entry]),
     Next(u64),
 }
 
@@ -60,6 +70,8 @@ fn tell(answer: &Answer) -> Told<'_> {
         Reply::Done => Told::Done,
         Reply::Value(None) => Told::Nothing,
         Reply::Value(Some(value)) => Told::Value(value.as_slice()),
+        Reply::KeyIs(key) => Told::Key(key.as_slice()),
+        Reply::PairsAre(_) => Told::Pairs,
         Reply::Fault(code) => Told::Fault(code.0),
         Reply::NoMemory => Told::NoMemory,
     }
@@ -84,12 +96,62 @@ fn append_of(alloc: Global, key: &[u8], operand: &[u8]) -> Result<TxnCall, Alloc
     Ok(TxnCall::Atomic { name, key, operand })
 }
 
+fn selector_of(
+    alloc: Global,
+    key: &[u8],
+    or_equal: bool,
+    offset: i32,
+) -> Result<Selector, AllocError> {
+    let key = Bytes::from_slice(alloc, key)?;
+    Ok(Selector {
+        key,
+        or_equal,
+        offset,
+    })
+}
+
+// The pairs from the first key that is not below the one up to the first that is not below the other.
+fn between(alloc: Global, begin: &[u8], end: &[u8]) -> Result<TxnCall, AllocError> {
+    let begin = selector_of(alloc, begin, false, 1)?;
+    let end = selector_of(alloc, end, false, 1)?;
+    Ok(TxnCall::GetRange {
+        begin,
+        end,
+        limit: 0,
+        reverse: false,
+        mode: Mode::Small,
+        snapshot: true,
+    })
+}
+
+fn get_key_of(
+    alloc: Global,
+    key: &[u8],
+    or_equal: bool,
+    offset: i32,
+) -> Result<TxnCall, AllocError> {
+    let selector = selector_of(alloc, key, or_equal, offset)?;
+    Ok(TxnCall::GetKey {
+        selector,
+        snapshot: false,
+    })
+}
+
 fn call_of(alloc: Global, say: Say) -> Result<TxnCall, AllocError> {
     Ok(match say {
         Say::Get(key) => TxnCall::Get {
             key: Bytes::from_slice(alloc, key)?,
             snapshot: false,
         },
+        Say::GetKey(key, or_equal, offset) => get_key_of(alloc, key, or_equal, offset)?,
+        Say::Range(begin, end, limit, reverse, mode) => TxnCall::GetKeyRange {
+            range: range_of(alloc, begin, end)?,
+            limit,
+            reverse,
+            mode,
+            snapshot: false,
+        },
+        Say::Between(begin, end) => between(alloc, begin, end)?,
         Say::Set(key, value) => set_of(alloc, key, value)?,
         Say::Clear(key) => TxnCall::Clear {
             key: Bytes::from_slice(alloc, key)?,
@@ -121,16 +183,41 @@ impl Session {
         Ok(tell(&answer) == wanted)
     }
 
+    // Whether a call is answered by these pairs.
+    fn is_read(&mut self, say: Say, wanted: &[Entry]) -> Result<bool, AllocError> {
+        let call = call_of(self.alloc, say)?;
+        let answer = self.answer(&call)?;
+        Ok(match &answer.reply {
+            Reply::PairsAre(pairs) => are(pairs, wanted),
+            _ => false,
+        })
+    }
+
     // Whether a row holds.
     fn is_so(&mut self, row: Row) -> Result<bool, AllocError> {
         match row {
             Row::Call(say, wanted) => self.is_answered(say, wanted),
+            Row::Pairs(say, wanted) => self.is_read(say, wanted),
             Row::Next(version) => {
                 self.txn = Txn::at_last(self.alloc, 1, &self.store);
                 Ok(self.store.last() == version)
             }
         }
     }
+}
+
+fn is_entry(pair: &Pair, entry: &Entry) -> bool {
+    pair.key.as_slice() == entry.0 && pair.value.as_slice() == entry.1
+}
+
+// Whether pairs are these.
+fn are(pairs: &Pairs, wanted: &[Entry]) -> bool {
+    let pairs = pairs.as_slice();
+    pairs.len() == wanted.len()
+        && pairs
+            .iter()
+            .zip(wanted)
+            .all(|(pair, entry)| is_entry(pair, entry))
 }
 
 // The place of the first row that does not hold of a new transaction over an empty store.
@@ -200,6 +287,91 @@ const CLEARED: &[Row] = &[
 #[test]
 fn a_range_is_cleared_without_its_end(rt: HostRuntime) -> Result<(), Fail> {
     assert_eq!(rt; first_wrong(rt.alloc(), CLEARED)?, None);
+    Ok(())
+}
+
+const CLEARED_KEYS: &[Row] = &[
+    Row::Call(Say::Set(b"a", b"1"), Told::Done),
+    Row::Call(Say::Set(b"b", b"2"), Told::Done),
+    Row::Call(Say::Set(b"c", b"3"), Told::Done),
+    Row::Call(Say::Set(b"d", b"4"), Told::Done),
+    Row::Call(Say::Set(b"e", b"5"), Told::Done),
+    Row::Call(Say::Commit, Told::Done),
+    Row::Next(1),
+    Row::Call(Say::Clear(b"a"), Told::Done),
+    Row::Call(Say::Clear(b"z"), Told::Done),
+    Row::Call(Say::Set(b"bb", b"0"), Told::Done),
+    Row::Call(Say::ClearRange(b"b", b"d"), Told::Done),
+    Row::Call(Say::Append(b"c", b"9"), Told::Done),
+    Row::Call(Say::Append(b"d", b"8"), Told::Done),
+    Row::Call(Say::Append(b"d", b"7"), Told::Done),
+    Row::Call(Say::Append(b"e", b"6"), Told::Done),
+    Row::Call(Say::Clear(b"e"), Told::Done),
+    Row::Call(Say::Append(b"f", b"6"), Told::Done),
+    Row::Call(Say::Commit, Told::Done),
+    Row::Next(2),
+    Row::Pairs(
+        Say::Range(b"", b"\xff", 0, false, Mode::WantAll),
+        &[(b"c", b"9"), (b"d", b"487"), (b"f", b"6")],
+    ),
+];
+
+#[test]
+fn a_commit_removes_cleared_keys_and_does_atomic_operations(rt: HostRuntime) -> Result<(), Fail> {
+    assert_eq!(rt; first_wrong(rt.alloc(), CLEARED_KEYS)?, None);
+    Ok(())
+}
+
+const PENDING_RANGE: &[Row] = &[
+    Row::Call(Say::Set(b"a", b"1"), Told::Done),
+    Row::Call(Say::Set(b"c", b"3"), Told::Done),
+    Row::Call(Say::Set(b"e", b"5"), Told::Done),
+    Row::Call(Say::Set(b"g", b"7"), Told::Done),
+    Row::Call(Say::Commit, Told::Done),
+    Row::Next(1),
+    Row::Call(Say::Set(b"d", b"4"), Told::Done),
+    Row::Call(Say::Clear(b"e"), Told::Done),
+    Row::Call(Say::Set(b"c", b"9"), Told::Done),
+    Row::Pairs(
+        Say::Range(b"a", b"h", 2, true, Mode::Iterator),
+        &[(b"g", b"7"), (b"d", b"4")],
+    ),
+    Row::Pairs(Say::Between(b"b", b"d"), &[(b"c", b"9")]),
+    Row::Pairs(Say::Range(b"h", b"a", 0, false, Mode::WantAll), &[]),
+    Row::Call(
+        Say::Range(b"a", b"h", 0, false, Mode::Exact),
+        Told::Fault(2210),
+    ),
+    Row::Call(
+        Say::Range(b"a", b"\xff\x00", 0, false, Mode::Exact),
+        Told::Fault(2004),
+    ),
+];
+
+#[test]
+fn ranges_are_read_under_the_pending_writes(rt: HostRuntime) -> Result<(), Fail> {
+    assert_eq!(rt; first_wrong(rt.alloc(), PENDING_RANGE)?, None);
+    Ok(())
+}
+
+const SELECTORS: &[Row] = &[
+    Row::Call(Say::GetKey(b"d", false, 0), Told::Key(b"")),
+    Row::Call(Say::GetKey(b"d", false, 1), Told::Key(b"\xff")),
+    Row::Call(Say::Set(b"b", b""), Told::Done),
+    Row::Call(Say::Set(b"d", b""), Told::Done),
+    Row::Call(Say::Set(b"f", b""), Told::Done),
+    Row::Call(Say::GetKey(b"d", false, 0), Told::Key(b"b")),
+    Row::Call(Say::GetKey(b"d", true, 0), Told::Key(b"d")),
+    Row::Call(Say::GetKey(b"d", false, 1), Told::Key(b"d")),
+    Row::Call(Say::GetKey(b"d", true, 1), Told::Key(b"f")),
+    Row::Call(Say::GetKey(b"d", false, 1000), Told::Key(b"\xff")),
+    Row::Call(Say::GetKey(b"d", false, -3), Told::Key(b"")),
+    Row::Call(Say::GetKey(b"\xff\x00", false, 0), Told::Fault(2004)),
+];
+
+#[test]
+fn selectors_mean_keys_among_the_pending_writes(rt: HostRuntime) -> Result<(), Fail> {
+    assert_eq!(rt; first_wrong(rt.alloc(), SELECTORS)?, None);
     Ok(())
 }
 
@@ -296,7 +468,7 @@ fn judged(alloc: Global) -> Result<(Verdict, Verdict), TrFault> {
     Ok((before, on.judge()?))
 }
 
-// How many keys two writes change.
+// How many keys two writes change: the key that is cleared isn't there.
 fn changed_keys(alloc: Global) -> Result<usize, TrFault> {
     let (store, mut txn) = (Store::new(alloc), Txn::new(alloc, 0));
     let mut on = TxnOn {
@@ -313,7 +485,7 @@ fn a_commit_is_judged_by_its_parts(rt: HostRuntime) -> Result<(), Fail> {
         judged(rt.alloc()),
         Ok((Verdict::ReadOnly, Verdict::Commits))
     );
-    assert_eq!(rt; changed_keys(rt.alloc()), Ok(2));
+    assert_eq!(rt; changed_keys(rt.alloc()), Ok(1));
     Ok(())
 }
 
@@ -364,4 +536,78 @@ fn a_life_ends_by_reset_cancel_and_errors(rt: HostRuntime) {
         judged_after_cancel(rt.alloc()),
         Err(TrFault::Code(Code(1025)))
     );
+}
+
+// The entries of a log: one that can be written, and where asked one that is too long.
+fn entries_of(alloc: Global, too_long: bool) -> Result<Pairs, AllocError> {
+    let mut entries = Pairs::new(alloc);
+    entries.push(pair_of(alloc, b"1", b"x")?)?;
+    if too_long {
+        entries.push(pair_of(alloc, &[b'2'; 10_000], b"y")?)?;
+    }
+    Ok(entries)
+}
+
+fn pair_of(alloc: Global, key: &[u8], value: &[u8]) -> Result<Pair, AllocError> {
+    let key = Bytes::from_slice(alloc, key)?;
+    let value = Bytes::from_slice(alloc, value)?;
+    Ok(Pair { key, value })
+}
+
+// What the writes of entries under a prefix come to, and the value under the prefix and the first key after them.
+fn logged(alloc: Global, too_long: bool) -> Result<(Result<(), TrFault>, Option<Bytes>), TrFault> {
+    let prefix = Bytes::from_slice(alloc, b"L")?;
+    let entries = entries_of(alloc, too_long)?;
+    let (store, mut txn) = (Store::new(alloc), Txn::new(alloc, 0));
+    let written = txn.log(&prefix, &entries);
+    let mut on = TxnOn {
+        txn: &mut txn,
+        store: &store,
+    };
+    Ok((written, on.get(b"L1", false)?))
+}
+
+fn is_logged(alloc: Global, too_long: bool, wanted: Result<(), TrFault>) -> Result<bool, TrFault> {
+    let (written, value) = logged(alloc, too_long)?;
+    let value = value.as_ref().map(|value| value.as_slice());
+    Ok(written == wanted && value == Some(b"x".as_slice()))
+}
+
+#[test]
+fn entries_are_logged_until_one_is_refused(rt: HostRuntime) {
+    assert_eq!(rt; is_logged(rt.alloc(), false, Ok(())), Ok(true));
+    let too_large = Err(TrFault::Code(Code(2102)));
+    assert_eq!(rt; is_logged(rt.alloc(), true, too_large), Ok(true));
+}
+
+// What a transaction on a store reads by its three calls for more than one key, and by that of any transaction.
+fn counts_read(alloc: Global) -> Result<[usize; 4], TrFault> {
+    let range = range_of(alloc, b"a", b"z")?;
+    let first = selector_of(alloc, b"", false, 1)?;
+    let end = selector_of(alloc, b"l", false, 1)?;
+    let (store, mut txn) = (Store::new(alloc), Txn::new(alloc, 0));
+    let mut on = TxnOn {
+        txn: &mut txn,
+        store: &store,
+    };
+    on.set(b"k", b"v")?;
+    on.set(b"l", b"w")?;
+    let key = on.get_key(&first, true)?.as_slice().len();
+    let selected = on
+        .get_range(&first, &end, 0, true, Mode::Serial, false)?
+        .len();
+    let ranged = on
+        .get_key_range(&range, 1, false, Mode::Exact, false)?
+        .len();
+    Ok([
+        key,
+        selected,
+        ranged,
+        on.range(&range, 0, true, false)?.len(),
+    ])
+}
+
+#[test]
+fn a_transaction_on_a_store_reads_keys_and_ranges(rt: HostRuntime) {
+    assert_eq!(rt; counts_read(rt.alloc()), Ok([1, 1, 1, 2]));
 }

@@ -1,24 +1,29 @@
 //! A transaction on a store, by its calls.
 
-ghost use Rattle.std.specs.Prelude.{◌≡◌, ℕ, true, false, List, IfOk, OnOk};
+ghost use Rattle.std.specs.Prelude.{◌≡◌, ℕ, false, not, List, IfOk, OnOk};
 ghost use Rattle.std.specs.List.{All};
 ghost use Rattle.database_rules.specs.declared.Phase.TheVariants as phase;
-ghost use Rattle.database_rules.specs.Databases.{History, do_all};
+ghost use Rattle.database_rules.specs.Atomics.{is_versionstamped};
+ghost use Rattle.database_rules.specs.Databases.{do_all};
+ghost use Rattle.database_rules.specs.Histories.{Setting};
+ghost use Rattle.database_rules.specs.Modes.{lacks_limit};
+ghost use Rattle.database_rules.specs.Reads as read;
 ghost use Rattle.database_rules.specs.States.{state_under, is_unmodified};
-ghost use Rattle.database_rules.specs.Transactions.{Transaction, with_phase};
+ghost use Rattle.database_rules.specs.Transactions.{Transaction, writes_of, with_phase};
 ghost use Rattle.fdb_calls.specs.declared.Reply.TheVariants as reply;
 ghost use Rattle.fdb_calls.specs.Answers.{Answered};
-ghost use Rattle.fdb_calls.specs.Calling.{get_called, set_called, clear_called, clear_range_called, atomic_called};
+ghost use Rattle.fdb_calls.specs.Calling.{read_called, set_called, clear_called, clear_range_called, atomic_called};
 ghost use Rattle.version_store.specs.Changed.{changed};
 ghost use Rattle.version_store.specs.Versions.{at, last_of};
 ghost use Rattle.txn_core.specs.Judging.{Judged, IsLow};
 ghost use Rattle.txn_core.specs.Stands.{StandsFor, Keeps};
 
+use crate::reading::Manner;
 use crate::txn::Txn;
 use crate::verdict::Verdict;
-use database_rules::{AtomicOp, Tried};
+use database_rules::{AtomicOp, Mode, Selector, Tried};
 use fdb_calls::{Tr, TrFault};
-use key_bytes::{Bytes, KeyRange};
+use key_bytes::{Bytes, Key, KeyRange, Pairs};
 use std::alloc::AllocError;
 use version_store::{Changes, Store};
 
@@ -33,8 +38,8 @@ impl TxnOn<'_> {
     /// The checks of a commit, the first that fails by its code; then whether there is anything to write. A transaction
     /// that commits takes its version. It takes no memory.
     pub fn judge(&mut self) -> Result<Verdict, TrFault>
-        ensures verdict { (history : History) (t : Transaction) → StandsFor self.old.txn.now t → Keeps self.old.store.now history
-            → Judged result (StandsFor self.new.txn.now) history t }
+        ensures verdict { (setting : Setting) (t : Transaction) → StandsFor self.old.txn.now t → Keeps self.old.store.now setting
+            → Judged result (StandsFor self.new.txn.now) setting t }
         ensures active { OnOk result (self.new.txn.now.phase ≡ phase.Active) }
         ensures same_txn { self.new.txn.ghost_name ≡ self.old.txn.ghost_name }
         ensures same_store { self.new.store ≡ self.old.store }
@@ -47,9 +52,9 @@ impl TxnOn<'_> {
     pub fn changes(&self, _stamp: &[u8; 10]) -> Result<Changes, AllocError>
         ensures leads { IfOk result (λ changes. (t : Transaction) → StandsFor self.now.txn.now t
             → changed changes (at self.now.store.now (last_of self.now.store.now))
-            ≡ do_all t.mutations (at self.now.store.now (last_of self.now.store.now))) }
+            ≡ do_all (writes_of t) (at self.now.store.now (last_of self.now.store.now))) }
         ensures only { IfOk result (λ changes. (t : Transaction) → StandsFor self.now.txn.now t
-            → All (λ change. is_unmodified (state_under t.mutations change.0) ≡ false) changes) }
+            → All (λ change. is_unmodified (state_under (writes_of t) change.0) ≡ false) changes) }
     {
         self.txn.changes(self.store)
     }
@@ -66,18 +71,83 @@ impl TxnOn<'_> {
     }
 }
 
+impl TxnOn<'_> {
+    /// The key that `selector` means among those that the transaction sees (`fdb_transaction_get_key`). Whether by snapshot
+    /// changes no answer.
+    pub fn get_key(&mut self, selector: &Selector, snapshot: bool) -> Result<Key, TrFault>
+        ensures answer { (setting : Setting) (t : Transaction) → StandsFor self.old.txn.now t → Keeps self.old.store.now setting
+            → Answered reply.KeyIs result (StandsFor self.new.txn.now) t (read_called setting t false snapshot (read.GetKey selector.now)) }
+        ensures same_txn { self.new.txn.ghost_name ≡ self.old.txn.ghost_name }
+        ensures same_store { self.new.store ≡ self.old.store }
+    {
+        self.txn.get_key(self.store, selector)
+    }
+
+    /// The pairs between the keys that two selectors mean, up to `limit`, or all where it is 0, in the order of their keys, or
+    /// in the other order where `reverse` holds (`fdb_transaction_get_range`). 2210 where the mode is `Exact` and the limit
+    /// is 0; else the mode changes nothing.
+    pub fn get_range(
+        &mut self,
+        begin: &Selector,
+        end: &Selector,
+        limit: u32,
+        reverse: bool,
+        mode: Mode,
+        snapshot: bool,
+    ) -> Result<Pairs, TrFault>
+        ensures answer { (setting : Setting) (t : Transaction) → StandsFor self.old.txn.now t → Keeps self.old.store.now setting
+            → Answered reply.PairsAre result (StandsFor self.new.txn.now) t
+            (read_called setting t (lacks_limit mode limit) snapshot (read.GetRange begin.now end.now limit reverse)) }
+        ensures same_txn { self.new.txn.ghost_name ≡ self.old.txn.ghost_name }
+        ensures same_store { self.new.store ≡ self.old.store }
+    {
+        let manner = Manner::new(limit, reverse, mode);
+        self.txn.get_range(self.store, begin, end, manner)
+    }
+
+    /// The same between two keys.
+    pub fn get_key_range(
+        &mut self,
+        range: &KeyRange,
+        limit: u32,
+        reverse: bool,
+        mode: Mode,
+        snapshot: bool,
+    ) -> Result<Pairs, TrFault>
+        ensures answer { (setting : Setting) (t : Transaction) → StandsFor self.old.txn.now t → Keeps self.old.store.now setting
+            → Answered reply.PairsAre result (StandsFor self.new.txn.now) t
+            (read_called setting t (lacks_limit mode limit) snapshot (read.GetKeyRange range.now.begin range.now.end limit reverse)) }
+        ensures same_txn { self.new.txn.ghost_name ≡ self.old.txn.ghost_name }
+        ensures same_store { self.new.store ≡ self.old.store }
+    {
+        let manner = Manner::new(limit, reverse, mode);
+        self.txn.get_key_range(self.store, range, manner)
+    }
+}
+
 impl Tr for TxnOn<'_> {
     ghost use Rattle.std.proofs.Common.{refl, ◌∙◌};
 
-    ghost stands = { λ on history t. StandsFor on.txn.now t × Keeps on.store.now history };
+    ghost stands = { λ on setting t. StandsFor on.txn.now t × Keeps on.store.now setting };
 
-    ghost takes = { λ op. true };
+    ghost takes = { λ op. not (is_versionstamped op) };
 
     ghost same = { λ one two. (one.txn.ghost_name ≡ two.txn.ghost_name) × (one.store.now ≡ two.store.now) };
 
     fn get(&mut self, key: &[u8], _snapshot: bool) -> Result<Option<Bytes>, TrFault> {
         let key = Bytes::from_slice(self.txn.allocator(), key)?;
         self.txn.get(self.store, &key)
+    }
+
+    fn range(
+        &mut self,
+        range: &KeyRange,
+        limit: u32,
+        reverse: bool,
+        _snapshot: bool,
+    ) -> Result<Pairs, TrFault> {
+        let manner = Manner::new(limit, reverse, Mode::WantAll);
+        self.txn.get_key_range(self.store, range, manner)
     }
 
     fn set(&mut self, key: &[u8], value: &[u8]) -> Result<(), TrFault> {

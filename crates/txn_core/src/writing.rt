@@ -1,18 +1,16 @@
 //! Writes: each is refused by its code, or kept.
 
-ghost use Rattle.std.specs.Prelude.{◌≡◌, ◌≤◌, OnOk, OnErr};
+ghost use Rattle.std.specs.Prelude.{◌≡◌, false, Some, IfOk, OnOk, OnErr};
+ghost use Rattle.database_rules.specs.Atomics.{is_versionstamped};
 ghost use Rattle.database_rules.specs.Databases as database;
 ghost use Rattle.database_rules.specs.Transactions as rules;
-ghost use Rattle.fdb_calls.specs.declared.Reply.TheVariants as reply;
-ghost use Rattle.fdb_calls.specs.Answers.{Answered};
-ghost use Rattle.fdb_calls.specs.Calling.{set_called, clear_called, clear_range_called, atomic_called, named_atomic_called};
-ghost use Rattle.txn_core.specs.Mutations.{mutation_of};
+ghost use Rattle.txn_core.specs.Accesses.{StandsOn, StandsWritten, Writes, WritesNamed};
 
-use crate::mutation::Mutation;
+use crate::codes::{atomic_op, clear_code, clear_range_code, set_code};
 use crate::txn::Txn;
 use database_rules::{AtomicOp, SIZE_LIMIT};
 use fdb_calls::TrFault;
-use key_bytes::{Bytes, KeyRange};
+use key_bytes::KeyRange;
 use std::alloc::AllocError;
 
 // The size after some bytes more, counted no further than one past its limit.
@@ -22,81 +20,88 @@ fn grown(size: u64, bytes: u64) -> u64
     size.saturating_add(bytes).min(SIZE_LIMIT + 1)
 }
 
-// Each write is exact: a refused one changes nothing, and after want of memory the transaction is unchanged too.
+// The additions: each keeps a mutation that no check refuses, and counts its bytes. After a refusal all is as before.
 impl Txn {
-    // Keeps a write that no check refuses. After a refusal the transaction is unchanged.
-    fn add(&mut self, mutation: Mutation) -> Result<(), AllocError>
-        ensures ok { OnOk result (self.new ≡ rules.with_mutation self.old (mutation_of mutation)) }
-        ensures err { OnErr result (self.new ≡ self.old) }
+    fn add_set(&mut self, key: &[u8], value: &[u8]) -> Result<(), AllocError>
+        ensures ok { OnOk result (StandsWritten self.old self.new (database.Set key.now value.now)) }
+        ensures err { OnErr result (StandsOn self.old self.new) }
     {
-        let bytes = mutation.bytes();
-        self.mutations.push(mutation)?;
+        self.edits.set(key, value)?;
+        self.size = grown(self.size, key.len() as u64 + value.len() as u64);
+        Ok(())
+    }
+
+    fn add_clear(&mut self, key: &[u8]) -> Result<(), AllocError>
+        ensures ok { OnOk result (StandsWritten self.old self.new (database.Clear key.now)) }
+        ensures err { OnErr result (StandsOn self.old self.new) }
+    {
+        self.edits.clear(key)?;
+        self.size = grown(self.size, 2 * key.len() as u64 + 1);
+        Ok(())
+    }
+
+    fn add_clear_range(&mut self, range: &KeyRange) -> Result<(), AllocError>
+        ensures ok { OnOk result (StandsWritten self.old self.new (database.ClearRange range.now.begin range.now.end)) }
+        ensures err { OnErr result (StandsOn self.old self.new) }
+    {
+        self.edits.clear_range(range)?;
+        let bytes = range.begin.as_slice().len() as u64 + range.end.as_slice().len() as u64;
         self.size = grown(self.size, bytes);
         Ok(())
     }
 
-    // Keeps an atomic operation that no check refuses. After a refusal the transaction is unchanged.
     fn add_atomic(&mut self, op: AtomicOp, key: &[u8], operand: &[u8]) -> Result<(), AllocError>
-        ensures ok { OnOk result (self.new ≡ rules.with_mutation self.old (database.Atomic op key.now operand.now)) }
-        ensures err { OnErr result (self.new ≡ self.old) }
+        requires { is_versionstamped op ≡ false }
+        ensures ok { OnOk result (StandsWritten self.old self.new (database.Atomic op key.now operand.now)) }
+        ensures err { OnErr result (StandsOn self.old self.new) }
     {
-        let alloc = self.allocator();
-        let key = Bytes::from_slice(alloc, key)?;
-        let operand = Bytes::from_slice(alloc, operand)?;
-        self.add(Mutation::Atomic { op, key, operand })
+        self.edits.atomic(op, key, operand)?;
+        self.size = grown(self.size, key.len() as u64 + operand.len() as u64);
+        Ok(())
     }
+}
 
+impl Txn {
     // A set.
     pub(crate) fn set(&mut self, key: &[u8], value: &[u8]) -> Result<(), TrFault>
-        ensures { Answered (λ _. reply.Done) result (λ t. self.new ≡ t) self.old (set_called self.old key.now value.now) }
+        ensures { Writes result self.old self.new (rules.set_code self.old.phase key.now value.now) (database.Set key.now value.now) }
     {
-        if let Some(code) = self.set_code(key, value) {
+        if let Some(code) = set_code(self.phase, key, value) {
             return Err(TrFault::Code(code));
         }
-        let alloc = self.allocator();
-        let key = Bytes::from_slice(alloc, key)?;
-        let value = Bytes::from_slice(alloc, value)?;
-        self.add(Mutation::Set { key, value })?;
-        Ok(())
+        Ok(self.add_set(key, value)?)
     }
 
     // A clear of one key.
     pub(crate) fn clear(&mut self, key: &[u8]) -> Result<(), TrFault>
-        ensures { Answered (λ _. reply.Done) result (λ t. self.new ≡ t) self.old (clear_called self.old key.now) }
+        ensures { Writes result self.old self.new (rules.clear_code self.old.phase key.now) (database.Clear key.now) }
     {
-        if let Some(code) = self.one_key_code(key) {
+        if let Some(code) = clear_code(self.phase, key) {
             return Err(TrFault::Code(code));
         }
-        let key = Bytes::from_slice(self.allocator(), key)?;
-        self.add(Mutation::Clear { key })?;
-        Ok(())
+        Ok(self.add_clear(key)?)
     }
 
     // A clear of a range.
     pub(crate) fn clear_range(&mut self, range: &KeyRange) -> Result<(), TrFault>
-        ensures { Answered (λ _. reply.Done) result (λ t. self.new ≡ t) self.old
-            (clear_range_called self.old range.now.begin range.now.end) }
+        ensures { Writes result self.old self.new (rules.clear_range_code self.old.phase range.now.begin range.now.end)
+            (database.ClearRange range.now.begin range.now.end) }
     {
-        if let Some(code) = self.clear_range_code(range) {
+        if let Some(code) = clear_range_code(self.phase, range) {
             return Err(TrFault::Code(code));
         }
-        let range = KeyRange {
-            begin: range.begin.copy()?,
-            end: range.end.copy()?,
-        };
-        self.add(Mutation::ClearRange { range })?;
-        Ok(())
+        Ok(self.add_clear_range(range)?)
     }
 
-    // An atomic operation.
+    // An atomic operation without a versionstamp.
     pub(crate) fn atomic(&mut self, op: AtomicOp, key: &[u8], operand: &[u8]) -> Result<(), TrFault>
-        ensures { Answered (λ _. reply.Done) result (λ t. self.new ≡ t) self.old (atomic_called self.old op key.now operand.now) }
+        requires { is_versionstamped op ≡ false }
+        ensures { Writes result self.old self.new (rules.set_code self.old.phase key.now operand.now) (database.Atomic op key.now operand.now) }
     {
-        if let Some(code) = self.set_code(key, operand) {
+        if let Some(code) = set_code(self.phase, key, operand) {
             return Err(TrFault::Code(code));
         }
-        self.add_atomic(op, key, operand)?;
-        Ok(())
+        Ok(self.add_atomic(op, key, operand)?)
     }
 
     // An atomic operation by its name.
@@ -106,10 +111,10 @@ impl Txn {
         key: &[u8],
         operand: &[u8],
     ) -> Result<(), TrFault>
-        ensures { Answered (λ _. reply.Done) result (λ t. self.new ≡ t) self.old
-            (named_atomic_called self.old name.now key.now operand.now) }
+        ensures { WritesNamed result self.old self.new (rules.atomic_code self.old.phase name.now key.now operand.now)
+            (rules.operation_named name.now) key.now operand.now }
     {
-        match self.atomic_op(name, key, operand) {
+        match atomic_op(self.phase, name, key, operand) {
             Ok(op) => Ok(self.add_atomic(op, key, operand)?),
             Err(code) => Err(TrFault::Code(code)),
         }

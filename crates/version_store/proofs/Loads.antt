@@ -1,6 +1,6 @@
 -- Loading: each value is a chain of its own, and of two heads of one key the later stays.
-use Rattle.std.proofs.Common.{◌≡◌, ℕ, ◌+◌, Bool, true, false, cond, List, [], ◌∷◌, ◌++◌, map, Option, Some, None, slice_index_or, refl, sym, ap, subst, ◌∙◌, arith}
-use Rattle.std.proofs.lemmas.List.{map-append, append_assoc}
+use Rattle.std.proofs.Common.{◌≡◌, ℕ, suc, ◌+◌, ◌<◌, Bool, true, false, cond, List, [], ◌∷◌, ◌++◌, length, take, drop, get_or, map, Option, Some, None, slice_index_or, slice_set, refl, sym, ap, subst, ◌∙◌, arith}
+use Rattle.std.proofs.lemmas.List.{map-append, append_assoc, length-take-le, take_more_set, drop-set-lt, drop_more}
 use Rattle.std.proofs.lemmas.List.Elements.{All-nil, All-cons, All-head, All-tail, All-append, All-weaker}
 use Rattle.std.proofs.lemmas.Map.Lookups.{exact_bytes}
 use Rattle.std.proofs.lemmas.Map.Made.{IfSome-update_all}
@@ -10,14 +10,17 @@ use Rattle.std.specs.FinMap as finite
 use Rattle.std.specs.Map.{update, update_all}
 use Rattle.std.specs.Option.{IfSome, option_map, option_and_then}
 use Rattle.std.specs.Ordering.{eq_by_cmp}
+use Rattle.key_bytes.specs.declared.pairs.Pair.{Pair}
+use Rattle.key_bytes.specs.Entries.{entries_of}
 use Rattle.key_bytes.specs.Keys.{key_cmp}
 use Rattle.key_map.specs.Inserted.{inserted}
 use Rattle.key_map.proofs.Finite.{get-map_of, map_of-collected}
-use Rattle.database_rules.specs.Databases.{Database, do_one, do_all, set_of}
+use Rattle.database_rules.specs.Databases.{Database, do_one, do_all}
+use Rattle.database_rules.specs.Histories.{set_of}
 use Rattle.version_store.specs.declared.chains.Node.{Node}
 use Rattle.version_store.specs.declared.chains.Head.{Head}
 use Rattle.version_store.specs.Chains.{Slots, before_older, spelled, chain_of, chains_of, head_of, database_of, IsThere, IsUpTo, IsWhole, IsSoundHead, Sound}
-use Rattle.version_store.specs.Loading.{first_chain, first_chains, AreSoundHeads}
+use Rattle.version_store.specs.Loading.{first_chain, first_chains, first_head, heads_from, AreSoundHeads}
 use Rattle.version_store.specs.Versions.{holding, database_at}
 use Rattle.version_store.proofs.Spans.{present_of, and_then-chain_of, get-database_of}
 
@@ -35,6 +38,37 @@ module _ (slots : Slots) (place older : ℕ) (value : List ℕ)
     short = omega arith;
     versions = subst (IsUpTo 1) (sym chain_of-placed) (omega arith);
   }
+
+pub length-heads_from : (place : ℕ) (pairs : List Pair) → length (heads_from place pairs) ≡ length pairs
+length-heads_from place [] = refl
+length-heads_from place (pair ∷ pairs) = ap suc (length-heads_from (place + 1) pairs)
+
+heads_from-pushed : (place : ℕ) (pairs : List Pair) (pair : Pair)
+    → heads_from place (pairs ++ pair ∷ []) ≡ heads_from place pairs ++ (pair.key, first_head (place + length pairs)) ∷ []
+heads_from-pushed place [] pair = ap (λ n. (pair.key, first_head n) ∷ []) (omega arith)
+heads_from-pushed place (first ∷ pairs) pair =
+    ap (λ heads. (first.key, first_head place) ∷ heads) (heads_from-pushed (place + 1) pairs pair)
+    ∙ ap (λ n. (first.key, first_head place) ∷ heads_from (place + 1) pairs ++ (pair.key, first_head n) ∷ []) (omega arith)
+
+-- a pair whose value was taken: before it the heads are as they were, and then comes its own
+module _ (pairs : List Pair) (place : ℕ) (inside : place < length pairs) (taken : Pair) where
+  pub heads_from-taken : heads_from 0 (take (place + 1) (slice_set pairs place taken))
+      ≡ heads_from 0 (take place pairs) ++ (taken.key, first_head place) ∷ []
+  heads_from-taken =
+      ap (heads_from 0) (take_more_set pairs place taken inside)
+      ∙ heads_from-pushed 0 (take place pairs) taken
+      ∙ ap (λ n. heads_from 0 (take place pairs) ++ (taken.key, first_head n) ∷ [])
+      (omega (arith, length-take-le place pairs (omega (arith, inside))))
+
+  -- it was the first of the pairs that were left
+  pub entries_of-left : (d : Pair) → taken.key ≡ (get_or pairs place d).key
+      → entries_of (drop place pairs)
+      ≡ (taken.key, (get_or pairs place d).value) ∷ entries_of (drop (place + 1) (slice_set pairs place taken))
+  entries_of-left d same =
+      ap entries_of (drop_more pairs place d inside)
+      ∙ ap (λ key. (key, (get_or pairs place d).value) ∷ entries_of (drop (place + 1) pairs)) (sym same)
+      ∙ ap (λ left. (taken.key, (get_or pairs place d).value) ∷ entries_of left)
+      (sym (drop-set-lt (place + 1) pairs place taken (omega arith)))
 
 -- chains that stay one by one stay all
 module _ (slots slots' : Slots) (nodes nodes' : ℕ)

@@ -1,22 +1,29 @@
 //! Loading pairs as the first version.
 
-ghost use Rattle.std.specs.Prelude.{◌≡◌, IfOk, OnOk};
+ghost use Rattle.std.specs.Prelude.{◌≡◌, ◌+◌, ◌^◌, ◌<◌, [], length, IfOk, OnOk};
 ghost use Rattle.std.specs.BTreeMap.{IsFromIterResult};
 ghost use Rattle.std.specs.FinMap as finite;
+ghost use Rattle.std.specs.Iterator.{YieldsFirst, item_count};
+ghost use Rattle.key_bytes.specs.Entries.{entries_of};
 ghost use Rattle.key_bytes.specs.Keys.{key_cmp};
-ghost use Rattle.database_rules.specs.Databases.{loaded, do_all};
+ghost use Rattle.database_rules.specs.Databases.{do_all};
+ghost use Rattle.database_rules.specs.Histories.{loaded};
 ghost use Rattle.slab.specs.Slab.{slab_len};
 ghost use Rattle.version_store.specs.declared.chains.Head.{Head};
 ghost use Rattle.version_store.specs.Chains.{chain_of, chains_of, database_of, IsSoundHead, Sound};
-ghost use Rattle.version_store.specs.Loading.{first_chain, first_chains, AreSoundHeads};
+ghost use Rattle.version_store.specs.Loading.{first_chain, first_chains, first_head, heads_from, AreSoundHeads};
 
 use crate::chains::{Head, MOST_NODES, Node};
-use key_bytes::{Bytes, Pairs};
+use key_bytes::{Bytes, Pair, Pairs};
 use slab::Slab;
 use std::alloc::{AllocError, Global};
 use std::collections::BTreeMap;
+use std::marker::Model;
+use std::mem;
+use std::vec::IntoIter;
 
-// The head of each key: of two values of one key the later is its chain.
+// The head of each key: of two values of one key the later is its chain. The values move first, and then the keys, so
+// that no list stands between the pairs and the tree but the one that the tree is made of.
 pub(crate) fn load_heads(
     alloc: Global,
     nodes: &mut Slab<Node>,
@@ -27,31 +34,40 @@ pub(crate) fn load_heads(
     ensures first { IfOk result (λ tree. database_of 1 nodes.new.slots tree.entries
         ≡ do_all (loaded pairs).mutations finite.empty) }
 {
-    let heads = place_all(alloc, nodes, pairs)?;
-    sorted(alloc, heads)
-}
-
-// Puts each value into the nodes, and answers each key with the head of its chain.
-fn place_all(
-    alloc: Global,
-    nodes: &mut Slab<Node>,
-    pairs: Pairs,
-) -> Result<Vec<(Bytes, Head)>, AllocError>
-    ensures chains { IfOk result (λ heads. chains_of nodes.new.slots heads.items ≡ first_chains pairs) }
-    ensures sound { IfOk result (λ heads. AreSoundHeads nodes.new.slots (slab_len nodes.new) heads.items) }
-{
-    let mut heads = Vec::with_capacity(alloc, pairs.len())?;
-    for pair in pairs.into_vec() {
-        let head = place(nodes, pair.value)?;
-        heads.push((pair.key, head))?;
+    if pairs.len() > MOST_NODES {
+        return Err(AllocError);
     }
-    Ok(heads)
+    let mut pairs = pairs.into_vec();
+    place_all(alloc, nodes, pairs.as_mut_slice())?;
+    sorted(alloc, pairs)
 }
 
-// Puts a value into the nodes, as a chain of its own. A place that 32 bits don't hold is refused like want of memory.
-fn place(nodes: &mut Slab<Node>, value: Bytes) -> Result<Head, AllocError>
-    ensures chain { IfOk result (λ head. chain_of nodes.new.slots head ≡ first_chain value) }
-    ensures sound { IfOk result (IsSoundHead nodes.new.slots (slab_len nodes.new) 1) }
+// Moves each value into the nodes, as a chain of its own: that of the pair at a place goes to the same place.
+fn place_all(alloc: Global, nodes: &mut Slab<Node>, pairs: &mut [Pair]) -> Result<(), AllocError>
+    ensures len { length pairs.new ≡ length pairs.old }
+    ensures chains { OnOk result (chains_of nodes.new.slots (heads_from 0 pairs.new) ≡ first_chains (entries_of pairs.old)) }
+    ensures sound { OnOk result (AreSoundHeads nodes.new.slots (slab_len nodes.new) (heads_from 0 pairs.new)) }
+{
+    for place in 0..pairs.len() {
+        let value = take_value(alloc, &mut pairs[place]);
+        place_at(nodes, place, value)?;
+    }
+    Ok(())
+}
+
+// Takes the value of a pair out of it, and leaves the empty one.
+fn take_value(alloc: Global, pair: &mut Pair) -> Bytes
+    ensures value { result ≡ pair.old.value }
+    ensures key { pair.new.key ≡ pair.old.key }
+{
+    mem::replace(&mut pair.value, Bytes::new(alloc))
+}
+
+// Puts a value into the nodes at this place, as a chain of its own. A place that isn't the next one is refused like want
+// of memory.
+fn place_at(nodes: &mut Slab<Node>, place: usize, value: Bytes) -> Result<(), AllocError>
+    ensures chain { OnOk result (chain_of nodes.new.slots (first_head place) ≡ first_chain value) }
+    ensures sound { OnOk result (IsSoundHead nodes.new.slots (slab_len nodes.new) 1 (first_head place)) }
     ensures others { OnOk result ((head : Head) → IsSoundHead nodes.old.slots (slab_len nodes.old) 1 head
         → IsSoundHead nodes.new.slots (slab_len nodes.new) 1 head
         × (chain_of nodes.new.slots head ≡ chain_of nodes.old.slots head)) }
@@ -61,18 +77,60 @@ fn place(nodes: &mut Slab<Node>, value: Bytes) -> Result<Head, AllocError>
         value: Some(value),
         older: 0,
     })?;
-    if newest >= MOST_NODES {
+    if newest != place {
         return Err(AllocError);
     }
-    Ok(Head {
-        newest: newest as u32,
-        len: 1,
-    })
+    Ok(())
 }
 
-// The last head of each key.
-fn sorted(alloc: Global, heads: Vec<(Bytes, Head)>) -> Result<BTreeMap<Bytes, Head>, AllocError>
-    ensures { IfOk result (IsFromIterResult key_cmp heads.items) }
+// The last head of each key, where the value of the pair at a place is at the same place of the nodes.
+fn sorted(alloc: Global, pairs: Vec<Pair>) -> Result<BTreeMap<Bytes, Head>, AllocError>
+    requires { length pairs.items < 2 ^ 32 }
+    ensures { IfOk result (IsFromIterResult key_cmp (heads_from 0 pairs.items)) }
 {
-    heads.into_iter().collect(alloc)
+    let heads = Heads {
+        left: pairs.into_iter(),
+        place: 0,
+    };
+    heads.collect(alloc)
+}
+
+// The keys of pairs with their heads, where the first one's value is at a place, and the others follow.
+#[derive(Drop)]
+struct Heads {
+    left: IntoIter<Pair>,
+    place: u32,
+}
+
+impl Model for Heads {
+    ghost use Rattle.std.specs.Prelude.{◌≡◌, ℕ, ◌+◌, ◌^◌, ◌<◌, List, length};
+    ghost use Rattle.std.specs.Vec.Iter.{into_iter_items, into_iter_len};
+    ghost use Rattle.version_store.specs.declared.chains.Head.{Head};
+    ghost use Rattle.version_store.specs.Loading.{heads_from};
+
+    ghost Value = { List (List ℕ × Head) };
+
+    ghost view = { λ heads. heads_from heads.place (into_iter_items heads.left) };
+
+    ghost invariant = { λ heads. (into_iter_len heads.left ≡ length (into_iter_items heads.left))
+        × (heads.place + into_iter_len heads.left < 2 ^ 32) };
+}
+
+impl Iterator for Heads {
+    type Item = (Bytes, Head);
+
+    ghost next_gives = { YieldsFirst (λ rest. rest) };
+
+    ghost remaining = { item_count (λ rest. rest) };
+
+    fn next(&mut self) -> Option<(Bytes, Head)> {
+        let pair = self.left.next()?;
+        let newest = self.place;
+        self.place += 1;
+        Some((pair.key, Head { newest, len: 1 }))
+    }
+
+    fn size_hint(&self) -> (usize, Option<usize>) {
+        self.left.size_hint()
+    }
 }

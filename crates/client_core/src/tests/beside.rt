@@ -1,124 +1,154 @@
-//! The core beside the plain program, over requests drawn from a fixed seed.
+//! The core beside the plain program, over lists of requests drawn from a fixed seed.
 
+use super::draws::Draws;
 use super::plain::Plain;
 use super::*;
 
-// How many requests are drawn.
-const ROUNDS: usize = 600;
+// How many lists are drawn, and how many requests each has.
+const LISTS: usize = 300;
 
-// Numbers drawn one after another (xorshift).
-#[derive(Drop)]
-struct Draws {
-    state: u64,
-}
+const REQUESTS: usize = 20;
 
-impl Draws {
-    // A number below `end`, or 0.
-    fn below(&mut self, end: u64) -> u64 {
-        self.state ^= self.state << 13;
-        self.state ^= self.state >> 7;
-        self.state ^= self.state << 17;
-        self.state.checked_rem(end).unwrap_or(0)
-    }
-
-    fn pick(&mut self, texts: &[&'static [u8]]) -> &'static [u8] {
-        let place = self.below(texts.len() as u64) as usize;
-        texts.get(place).copied().unwrap_or(b"")
-    }
-}
-
-const KEYS: [&'static [u8]; 9] = [b"", b"a", b"a\0", b"b", b"bb", b"c", b"d", b"\xfe", b"\xff"];
-
-const VALUES: [&'static [u8]; 4] = [b"", b"1", b"22", b"\0\xff"];
-
-const ERRORS: [u16; 5] = [1007, 1020, 1025, 1037, 2101];
-
-fn drawn_say(draws: &mut Draws) -> Say {
-    let (key, other) = (draws.pick(&KEYS), draws.pick(&KEYS));
-    let text = draws.pick(&VALUES);
-    let code = ERRORS.get(draws.below(5) as usize).copied().unwrap_or(0);
-    match draws.below(24) {
-        0..=6 => Say::Get(key),
-        7..=12 => Say::Set(key, text),
-        13..=14 => Say::Clear(key),
-        15..=16 => Say::ClearRange(key, other),
-        17 => Say::Atomic(b"NO_SUCH", key, text),
-        18..=20 => Say::Commit,
-        21 => Say::OnError(code),
-        22 => Say::Reset,
-        _ => Say::Cancel,
-    }
-}
-
-fn drawn_ask(draws: &mut Draws) -> Ask {
-    let say = drawn_say(draws);
-    let name = draws.pick(&[P, Q, R]);
-    match draws.below(16) {
-        0 => Ask::New(name),
-        1..=3 => Ask::Database(say),
-        _ => Ask::On(name, say),
-    }
-}
-
-// The core, the plain program, and what is drawn for both.
+// The core and the plain program.
 #[derive(Drop)]
 struct Beside {
     core: Core,
     plain: Plain,
-    draws: Draws,
 }
 
-fn new_beside(alloc: Global) -> Result<Beside, AllocError> {
-    let core = new_core(alloc)?;
-    let plain = Plain::new(alloc, core.dump_pairs()?)?;
-    let draws = Draws {
-        state: 0x9e37_79b9_7f4a_7c15,
-    };
-    Ok(Beside { core, plain, draws })
+fn new_beside(alloc: Global, loaded: &[Loaded]) -> Result<Beside, AllocError> {
+    let core = core_of(alloc, loaded)?;
+    let plain = Plain::new(alloc, pairs_of(alloc, loaded)?)?;
+    Ok(Beside { core, plain })
+}
+
+fn are_same_pairs(one: &[Pair], other: &[Pair]) -> bool {
+    if one.len() != other.len() {
+        return false;
+    }
+    for (pair, next) in one.iter().zip(other) {
+        if pair.key != next.key || pair.value != next.value {
+            return false;
+        }
+    }
+    true
+}
+
+fn are_same(one: &Reply, other: &Reply) -> bool {
+    match (one, other) {
+        (Reply::PairsAre(pairs), Reply::PairsAre(others)) => {
+            are_same_pairs(pairs.as_slice(), others.as_slice())
+        }
+        _ => tell(one) == tell(other),
+    }
+}
+
+// What was answered: faults by their codes, keys, and pairs, where there are some.
+#[derive(Drop)]
+struct Answers {
+    faults: Vec<u16>,
+    values: usize,
+    keys: usize,
+    pairs: usize,
+}
+
+impl Answers {
+    fn add(&mut self, reply: &Reply) -> Result<(), AllocError> {
+        match reply {
+            Reply::Fault(code) => self.faults.push(code.0)?,
+            Reply::Value(Some(_)) => self.values = self.values.saturating_add(1),
+            Reply::KeyIs(key) if !key.is_empty() => self.keys = self.keys.saturating_add(1),
+            Reply::PairsAre(pairs) if !pairs.is_empty() => {
+                self.pairs = self.pairs.saturating_add(1);
+            }
+            _ => {}
+        }
+        Ok(())
+    }
+
+    fn has(&self, code: u16) -> bool {
+        for other in self.faults.as_slice() {
+            if *other == code {
+                return true;
+            }
+        }
+        false
+    }
 }
 
 // Whether both answer a request alike.
 fn is_answered_alike(
-    core: &mut Core,
-    plain: &mut Plain,
+    beside: &mut Beside,
     request: &Request,
+    answers: &mut Answers,
 ) -> Result<bool, AllocError> {
-    let wanted = plain.take(request)?;
-    let reply = apply(core, request);
-    Ok(tell(&reply) == tell(&wanted))
+    let wanted = beside.plain.take(request)?;
+    answers.add(&wanted)?;
+    let reply = apply(&mut beside.core, request);
+    Ok(are_same(&reply, &wanted))
 }
 
 // Whether the last version has the same number and the same pairs.
-fn is_alike(alloc: Global, core: &Core, plain: &Plain) -> Result<bool, AllocError> {
-    let wanted = spelled(alloc, &plain.pairs()?)?;
-    let found = shown(alloc, core)?;
-    Ok(found == wanted && core.last() == plain.last() as u64)
-}
-
-// Draws a request: whether both answer it alike, and are alike after it.
-fn goes_on_alike(alloc: Global, beside: &mut Beside) -> Result<bool, AllocError> {
-    let request = request_of(alloc, drawn_ask(&mut beside.draws))?;
+fn is_alike(beside: &Beside) -> Result<bool, AllocError> {
+    let wanted = beside.plain.pairs()?;
+    let found = beside.core.dump_pairs()?;
     Ok(
-        is_answered_alike(&mut beside.core, &mut beside.plain, &request)?
-            && is_alike(alloc, &beside.core, &beside.plain)?,
+        are_same_pairs(found.as_slice(), wanted.as_slice())
+            && beside.core.last() == beside.plain.last() as u64,
     )
 }
 
-// The first round in which the two differ, and the last version.
-fn first_difference(alloc: Global) -> Result<(Option<usize>, u64), AllocError> {
-    let mut beside = new_beside(alloc)?;
-    for round in 0..ROUNDS {
-        if !goes_on_alike(alloc, &mut beside)? {
-            return Ok((Some(round), beside.core.last()));
+// The place of the first request of a drawn list that the two answer otherwise, or after which they differ.
+fn first_difference(
+    alloc: Global,
+    draws: &mut Draws,
+    answers: &mut Answers,
+) -> Result<Option<usize>, AllocError> {
+    let mut beside = new_beside(alloc, draws.loaded())?;
+    for place in 0..REQUESTS {
+        let request = request_of(alloc, draws.ask())?;
+        if !is_answered_alike(&mut beside, &request, answers)? || !is_alike(&beside)? {
+            return Ok(Some(place));
         }
     }
-    Ok((None, beside.core.last()))
+    Ok(None)
+}
+
+// The first list in which the two differ, and the place of its request there; and what was answered.
+fn compared(alloc: Global) -> Result<(Option<(usize, usize)>, Answers), AllocError> {
+    let mut draws = Draws::new();
+    let mut answers = Answers {
+        faults: Vec::new(alloc),
+        values: 0,
+        keys: 0,
+        pairs: 0,
+    };
+    for list in 0..LISTS {
+        if let Some(place) = first_difference(alloc, &mut draws, &mut answers)? {
+            return Ok((Some((list, place)), answers));
+        }
+    }
+    Ok((None, answers))
+}
+
+// The codes of faults that a request can be answered with, a code that is only handed in not among them.
+const FAULTS: &[u16] = &[1025, 2004, 2005, 2017, 2018, 2101, 2102, 2103, 2210];
+
+// The first code that no request was answered with.
+fn first_missing(answers: &Answers) -> Option<u16> {
+    for code in FAULTS {
+        if !answers.has(*code) {
+            return Some(*code);
+        }
+    }
+    None
 }
 
 #[test]
 fn is_the_plain_program(rt: HostRuntime) -> Result<(), Fail> {
-    let (round, last) = first_difference(rt.alloc())?;
-    assert_eq!(rt; round, None);
-    assert!(rt; last > 20);
+    let (difference, answers) = compared(rt.alloc())?;
+    assert_eq!(rt; difference, None);
+    assert_eq!(rt; first_missing(&answers), None);
+    assert!(rt; answers.values > 0 && answers.keys > 0 && answers.pairs > 0);
     Ok(())
 }

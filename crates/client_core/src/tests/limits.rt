@@ -2,51 +2,48 @@
 
 use super::*;
 
-/// So many bytes `a`.
-pub fn long(alloc: Global, len: usize) -> Result<Bytes, AllocError> {
-    let mut items = Vec::new(alloc);
-    items.resize(len, b'a')?;
-    Bytes::from_vec(items)
-}
-
-pub fn long_range(alloc: Global, begin: usize, end: usize) -> Result<KeyRange, AllocError> {
-    let begin = long(alloc, begin)?;
-    let end = long(alloc, end)?;
-    Ok(KeyRange { begin, end })
-}
-
-pub fn long_set(alloc: Global, key: usize, value: usize) -> Result<TxnCall, AllocError> {
-    let key = long(alloc, key)?;
-    let value = long(alloc, value)?;
-    Ok(TxnCall::Set { key, value })
-}
-
-pub fn long_add(alloc: Global, key: usize, operand: usize) -> Result<TxnCall, AllocError> {
-    let name = Bytes::from_slice(alloc, b"ADD")?;
-    let key = long(alloc, key)?;
-    let operand = long(alloc, operand)?;
-    Ok(TxnCall::Atomic { name, key, operand })
-}
-
 const LONG: &[Row] = &[
     (Ask::On(P, Say::LongSet(10_000, 0)), Told::Done, 1),
-    (Ask::On(P, Say::LongAdd(10_000, 0)), Told::Done, 1),
+    (
+        Ask::On(P, Say::LongAtomic(b"ADD", 10_000, 0)),
+        Told::Done,
+        1,
+    ),
     (Ask::On(P, Say::LongSet(10_001, 0)), Told::Fault(2102), 1),
-    (Ask::On(P, Say::LongAdd(10_001, 0)), Told::Fault(2102), 1),
+    (
+        Ask::On(P, Say::LongAtomic(b"ADD", 10_001, 0)),
+        Told::Fault(2102),
+        1,
+    ),
     (Ask::On(P, Say::LongSet(0, 100_000)), Told::Done, 1),
-    (Ask::On(P, Say::LongAdd(0, 100_000)), Told::Done, 1),
+    (
+        Ask::On(P, Say::LongAtomic(b"ADD", 0, 100_000)),
+        Told::Done,
+        1,
+    ),
     (Ask::On(P, Say::LongSet(0, 100_001)), Told::Fault(2103), 1),
-    (Ask::On(P, Say::LongAdd(0, 100_001)), Told::Fault(2103), 1),
+    (
+        Ask::On(P, Say::LongAtomic(b"ADD", 0, 100_001)),
+        Told::Fault(2103),
+        1,
+    ),
     (
         Ask::On(P, Say::LongSet(10_001, 100_001)),
         Told::Fault(2102),
         1,
     ),
     (
-        Ask::On(P, Say::LongAdd(10_001, 100_001)),
+        Ask::On(P, Say::LongAtomic(b"ADD", 10_001, 100_001)),
         Told::Fault(2102),
         1,
     ),
+    (Ask::LongLog(4_000, 6_000, 100_000), Told::Done, 2),
+    (Ask::LongLog(4_000, 6_001, 0), Told::Fault(2102), 2),
+    (Ask::LongLog(0, 10_001, 0), Told::Fault(2102), 2),
+    (Ask::LongLog(0, 0, 100_001), Told::Fault(2103), 2),
+    (Ask::LongLog(1, 10_000, 100_001), Told::Fault(2102), 2),
+    (Ask::Database(Say::Get(b"1")), Told::Nothing, 2),
+    (Ask::Database(Say::Get(b"a1")), Told::Nothing, 2),
 ];
 
 #[test]
@@ -64,6 +61,7 @@ const ENDS: &[Row] = &[
     (Ask::On(P, Say::Clear(b"\xfe\xff")), Told::Done, 1),
     (Ask::On(P, Say::Clear(b"\xff")), Told::Fault(2004), 1),
     (Ask::On(P, Say::ClearRange(b"", b"\xff")), Told::Done, 1),
+    (Ask::On(P, Say::ClearRange(b"a", b"\xff")), Told::Done, 1),
     (
         Ask::On(P, Say::ClearRange(b"", b"\xff\0")),
         Told::Fault(2004),
@@ -88,6 +86,16 @@ const ENDS: &[Row] = &[
     ),
     (
         Ask::On(P, Say::Atomic(b"ADDS", b"n", b"")),
+        Told::Fault(2018),
+        1,
+    ),
+    (
+        Ask::On(P, Say::Atomic(b"SET_VERSIONSTAMPED_KEY", b"n", b"")),
+        Told::Fault(2018),
+        1,
+    ),
+    (
+        Ask::On(P, Say::Atomic(b"SET_VERSIONSTAMPED_VALUE", b"n", b"")),
         Told::Fault(2018),
         1,
     ),
@@ -186,5 +194,55 @@ fn a_range_counts_its_ends_and_a_clear_its_key_twice(rt: HostRuntime) -> Result<
         first_wrong_after(rt.alloc(), 99, CLEARS_ARE_TOO_LARGE)?,
         None
     );
+    Ok(())
+}
+
+// Logs of 10000000 bytes, and of 10000100.
+const FULL_LOGS: &[Row] = &[
+    (Ask::FullLog(b"", 100), Told::Done, 2),
+    (Ask::FullLog(b"a", 100), Told::Fault(2101), 2),
+    (Ask::Database(Say::Get(b"a")), Told::Value(b"2"), 2),
+];
+
+#[test]
+fn a_log_of_more_than_10_000_000_bytes_is_too_large(rt: HostRuntime) -> Result<(), Fail> {
+    let (wrong, _text) = outcome(rt.alloc(), FULL_LOGS)?;
+    assert_eq!(rt; wrong, None);
+    Ok(())
+}
+
+// A value of 99999 bytes takes one byte more, and no two.
+const APPENDS: &[Row] = &[
+    (Ask::On(P, Say::LongSet(1, 99_999)), Told::Done, 1),
+    (Ask::On(P, Say::Atomic(APPEND, b"a", b"aa")), Told::Done, 1),
+    (
+        Ask::On(P, Say::LongAtomic(COMPARE, 1, 100_000)),
+        Told::Done,
+        1,
+    ),
+    (
+        Ask::On(P, Say::LongAtomic(COMPARE, 1, 99_999)),
+        Told::Done,
+        1,
+    ),
+    (Ask::On(P, Say::Get(b"a")), Told::Nothing, 1),
+    (Ask::On(P, Say::LongSet(1, 99_999)), Told::Done, 1),
+    (Ask::On(P, Say::Atomic(APPEND, b"a", b"a")), Told::Done, 1),
+    (
+        Ask::On(P, Say::LongAtomic(COMPARE, 1, 100_000)),
+        Told::Done,
+        1,
+    ),
+    (Ask::On(P, Say::Get(b"a")), Told::Nothing, 1),
+];
+
+const APPEND: &[u8] = b"APPEND_IF_FITS";
+
+const COMPARE: &[u8] = b"COMPARE_AND_CLEAR";
+
+#[test]
+fn a_value_is_appended_to_where_the_two_fit(rt: HostRuntime) -> Result<(), Fail> {
+    let (wrong, _text) = outcome(rt.alloc(), APPENDS)?;
+    assert_eq!(rt; wrong, None);
     Ok(())
 }

@@ -1,5 +1,5 @@
 use Rattle.std.proofs.Common.{◌-◌, ap, ◌∙◌, arith}
-use Rattle.range_read.specs.Slices.{slice}
+use Rattle.database_rules.specs.Slices.{slice}
 use Rattle.range_read.proofs.Joined.{got_some, joined_smaller, joined_whole}
 use Rattle.range_read.proofs.tests.by_pages.Goals as goal
 

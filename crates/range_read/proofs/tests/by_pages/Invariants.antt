@@ -1,5 +1,5 @@
 use Rattle.std.proofs.Common.{◌≡◌, ◌≤◌, ◌++◌, length}
-use Rattle.range_read.specs.Slices.{slice}
+use Rattle.database_rules.specs.Slices.{slice}
 use Rattle.range_read.proofs.tests.by_pages.Given as goal
 
 -- what was read, followed by what is left, is the slice

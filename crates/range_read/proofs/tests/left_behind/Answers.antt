@@ -2,7 +2,7 @@ use Rattle.std.proofs.Common.{◌-◌, slice_get, sym, ap, ◌∙◌}
 use Rattle.key_bytes.specs.Entries.{entry_of}
 use Rattle.key_bytes.specs.Keys.{after}
 use Rattle.range_read.specs.Walks.{begin_behind, end_behind}
-use Rattle.range_read.specs.Slices.{last_key}
+use Rattle.range_read.specs.Left.{last_key}
 use Rattle.range_read.proofs.Pages.{last_at}
 use Rattle.range_read.proofs.tests.left_behind.Goals as goal
 

@@ -3,7 +3,7 @@ use Rattle.std.proofs.lemmas.Result.{IfOk-weaker}
 use Rattle.std.specs.FinMap as finite
 use Rattle.std.specs.List.{filter}
 use Rattle.key_bytes.specs.Keys.{key_lt}
-use Rattle.key_map.specs.Ends.{first, last}
+use Rattle.key_map.specs.Ends.{first}
 use Rattle.range_read.proofs.Lists.{first-reverse, filter-reverse}
 use Rattle.range_read.proofs.walking.step.Goals as goal
 
@@ -12,6 +12,6 @@ returns-then-down g c =
     let es = finite.entries (g.V.OrderedView.map c.args.view.now) in
     rw c.if-down.true
     (IfOk-weaker c.prev.result _ _ (λ _ is.
-    is ∙ ap (λ k. last (filter (λ e. key_lt e.0 k) es)) c.as_slice.ensures
+    is
     ∙ sym (first-reverse (filter (λ e. key_lt e.0 c.args.from.now) es))
     ∙ ap first (sym (filter-reverse (λ e. key_lt e.0 c.args.from.now) es))) c.prev.ensures)

@@ -22,3 +22,9 @@ invariant_of-result c = λ still. record {
   few_commits = omega arith;
   few_lives = omega arith;
 }
+
+pub returns-clause-begun : goal.returns-clause-begun
+returns-clause-begun c words =
+    begun_stands _ c.args.pairs words
+    (first_kept c.in_ok-store.store c.args.pairs c.in_ok-store.ensures.last c.in_ok-store.ensures.empty c.in_ok-store.ensures.first)
+    c.new.ensures refl

@@ -1,16 +1,17 @@
-use Rattle.std.proofs.Common.{◌∙◌, ap, sym, Some}
-use Rattle.database_rules.specs.Transactions.{Transaction, one_key_code}
-use Rattle.fdb_calls.specs.declared.Reply.TheVariants as reply
-use Rattle.txn_core.proofs.Stored.{seen_is_view, read_called}
+use Rattle.std.proofs.Common.{rules, false}
+use Rattle.database_rules.specs.Reads as read
+use Rattle.database_rules.specs.Reads.{answer}
+use Rattle.database_rules.specs.Transactions.{read_code}
+use Rattle.txn_core.proofs.Views.{read_answered_same, read_refused_same}
 use Rattle.txn_core.proofs.txn.Txn.get.Goals as goal
 
+pub returns-in-Some : goal.returns-in-Some
+unfolding read_code
+returns-in-Some c setting snapshot keeps t stands =
+    read_refused_same c.in-Some.code c.args.self.now setting t (false) snapshot (read.Get c.args.key.now) stands (search rules)
+
 pub returns : goal.returns
-returns c history keeps =
-    let taken = c.read_version-version.ensures history keeps in
-    let seen = seen_is_view c.args.store.now history c.args.self.now c.read_version-version.result c.args.key.now c.in_ok-value.value keeps taken (c.in_ok-value.ensures {u = tt}) in
-    let called = read_called history c.args.self.now c.args.key.now (c.in_default.ensures ∙ ap (λ k. one_key_code c.args.self.now k) c.as_slice.ensures) in (
-      ap reply.Value seen ∙ sym called.0,
-      ap (λ (t : Transaction). record t { version = Some c.read_version-version.result }) c.self.view_is
-          ∙ ap (λ n. record c.args.self.now { version = Some n }) taken
-          ∙ sym called.1,
-    )
+unfolding read_code answer
+returns c setting snapshot keeps t stands =
+    read_answered_same (read.ValueIs c.in_ok-value.value) c.args.self.now _ c.args.store.now setting t (false) snapshot (read.Get c.args.key.now) stands keeps
+    (search rules) (search rules) (search rules)

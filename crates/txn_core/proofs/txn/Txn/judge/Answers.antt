@@ -1,10 +1,13 @@
-use Rattle.std.proofs.Common.{ap, sym, ◌∙◌}
-use Rattle.database_rules.specs.Transactions.{Transaction}
+use Rattle.std.proofs.Common.{rules, ap, ◌∙◌}
+use Rattle.txn_core.specs.Stands.{Kept, is_bare}
 use Rattle.txn_core.proofs.Judging.{active_of}
 use Rattle.txn_core.proofs.txn.Txn.judge.Goals as goal
 
 pub returns-then-is_empty-clause-active : goal.returns-then-is_empty-clause-active
-returns-then-is_empty-clause-active c = active_of c.args.self.now (sym c.in_default.ensures)
+returns-then-is_empty-clause-active c =
+    active_of c.args.self.now.phase (is_bare c.args.self.now) c.args.self.now.size (search rules)
 
 pub returns-clause-active : goal.returns-clause-active
-returns-clause-active c = ap (λ (t : Transaction). t.phase) c.self.view_is ∙ active_of c.args.self.now (sym c.in_default.ensures)
+returns-clause-active c =
+    ap (λ (kept : Kept). kept.phase) c.self.view_is
+    ∙ active_of c.args.self.now.phase (is_bare c.args.self.now) c.args.self.now.size (search rules)

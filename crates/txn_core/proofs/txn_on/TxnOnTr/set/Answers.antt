@@ -1,9 +1,11 @@
+use Rattle.std.proofs.Common.{ap}
+use Rattle.database_rules.specs.Databases.{Set}
+use Rattle.database_rules.specs.Transactions.{set_code}
 use Rattle.fdb_calls.specs.declared.Reply.TheVariants as reply
-use Rattle.txn_core.proofs.Alike.{answered_alike, set_called_alike}
+use Rattle.txn_core.proofs.Answering.{answered_on, writes_answered}
 use Rattle.txn_core.proofs.txn_on.TxnOnTr.set.Goals as goal
 
 pub returns-clause-answer : goal.returns-clause-answer
-returns-clause-answer c history t stands =
-    let kept = c.args.self.now.txn.now in
-    answered_alike (λ _. reply.Done) c.set.result c.set.new.self kept t c.args.self.now.store.now history _ _
-    (set_called_alike kept t c.args.key.now c.args.value.now stands.0) stands.0 stands.1 c.set.ensures
+returns-clause-answer c setting t stands =
+    answered_on (λ _. reply.Done) c.set.result c.set.new.self c.args.self.now.store.now setting t _ stands.1
+    (writes_answered c.set.result c.args.self.now.txn.now c.set.new.self t _ _ (Set c.args.key.now c.args.value.now) (ap (λ now. set_code now c.args.key.now c.args.value.now) stands.0.phase) stands.0 c.set.ensures)

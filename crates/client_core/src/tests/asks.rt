@@ -1,0 +1,243 @@
+//! Requests, as a test writes them.
+
+use super::*;
+
+/// The parts of a selector: its key, whether a key that equals it counts, and the offset.
+pub type Place = (&'static [u8], bool, i32);
+
+/// A call. The long ones have keys and values of so many bytes.
+#[derive(Clone, Copy)]
+pub enum Say {
+    Get(&'static [u8]),
+    GetKey(Place),
+    GetRange(Place, Place, u32, bool, Mode),
+    GetKeyRange(&'static [u8], &'static [u8], u32, bool, Mode),
+    Set(&'static [u8], &'static [u8]),
+    LongSet(usize, usize),
+    Clear(&'static [u8]),
+    LongClear(usize),
+    ClearRange(&'static [u8], &'static [u8]),
+    LongClearRange(usize, usize),
+    Atomic(&'static [u8], &'static [u8], &'static [u8]),
+    LongAtomic(&'static [u8], usize, usize),
+    Commit,
+    OnError(u16),
+    Reset,
+    Cancel,
+}
+
+/// A request. The long log has one entry more, whose prefix, key and value have so many bytes; the full one has the
+/// value of 100000 bytes under its prefix, so many times.
+#[derive(Clone, Copy)]
+pub enum Ask {
+    New(&'static [u8]),
+    On(&'static [u8], Say),
+    Database(Say),
+    Log(&'static [u8], &'static [Loaded]),
+    LongLog(usize, usize, usize),
+    FullLog(&'static [u8], usize),
+}
+
+pub fn bytes_of(alloc: Global, bytes: &[u8]) -> Result<Bytes, AllocError> {
+    Bytes::from_slice(alloc, bytes)
+}
+
+/// So many bytes `a`.
+pub fn long(alloc: Global, len: usize) -> Result<Bytes, AllocError> {
+    let mut items = Vec::new(alloc);
+    items.resize(len, b'a')?;
+    Bytes::from_vec(items)
+}
+
+pub fn range_of(alloc: Global, begin: &[u8], end: &[u8]) -> Result<KeyRange, AllocError> {
+    let begin = bytes_of(alloc, begin)?;
+    let end = bytes_of(alloc, end)?;
+    Ok(KeyRange { begin, end })
+}
+
+fn selector_of(alloc: Global, place: Place) -> Result<Selector, AllocError> {
+    let (key, or_equal, offset) = place;
+    Ok(Selector {
+        key: bytes_of(alloc, key)?,
+        or_equal,
+        offset,
+    })
+}
+
+fn get_of(key: Bytes) -> TxnCall {
+    TxnCall::Get {
+        key,
+        snapshot: false,
+    }
+}
+
+fn get_key_of(alloc: Global, place: Place) -> Result<TxnCall, AllocError> {
+    let selector = selector_of(alloc, place)?;
+    Ok(TxnCall::GetKey {
+        selector,
+        snapshot: true,
+    })
+}
+
+fn get_range_of(
+    alloc: Global,
+    begin: Place,
+    end: Place,
+    limit: u32,
+    reverse: bool,
+    mode: Mode,
+) -> Result<TxnCall, AllocError> {
+    let begin = selector_of(alloc, begin)?;
+    let end = selector_of(alloc, end)?;
+    Ok(TxnCall::GetRange {
+        begin,
+        end,
+        limit,
+        reverse,
+        mode,
+        snapshot: false,
+    })
+}
+
+fn get_key_range_of(range: KeyRange, limit: u32, reverse: bool, mode: Mode) -> TxnCall {
+    TxnCall::GetKeyRange {
+        range,
+        limit,
+        reverse,
+        mode,
+        snapshot: false,
+    }
+}
+
+fn set_of(key: Bytes, value: Result<Bytes, AllocError>) -> Result<TxnCall, AllocError> {
+    let value = value?;
+    Ok(TxnCall::Set { key, value })
+}
+
+fn clear_of(key: Bytes) -> TxnCall {
+    TxnCall::Clear { key }
+}
+
+fn long_range(alloc: Global, begin: usize, end: usize) -> Result<KeyRange, AllocError> {
+    let begin = long(alloc, begin)?;
+    let end = long(alloc, end)?;
+    Ok(KeyRange { begin, end })
+}
+
+fn clear_range_of(range: KeyRange) -> TxnCall {
+    TxnCall::ClearRange { range }
+}
+
+fn atomic_of(name: Bytes, key: Bytes, operand: Bytes) -> TxnCall {
+    TxnCall::Atomic { name, key, operand }
+}
+
+fn short_atomic(
+    alloc: Global,
+    name: &[u8],
+    key: &[u8],
+    operand: &[u8],
+) -> Result<TxnCall, AllocError> {
+    let name = bytes_of(alloc, name)?;
+    let key = bytes_of(alloc, key)?;
+    Ok(atomic_of(name, key, bytes_of(alloc, operand)?))
+}
+
+fn long_atomic(
+    alloc: Global,
+    name: &[u8],
+    key: usize,
+    operand: usize,
+) -> Result<TxnCall, AllocError> {
+    let name = bytes_of(alloc, name)?;
+    let key = long(alloc, key)?;
+    Ok(atomic_of(name, key, long(alloc, operand)?))
+}
+
+fn read_of(alloc: Global, say: Say) -> Result<TxnCall, AllocError> {
+    match say {
+        Say::Get(key) => Ok(get_of(bytes_of(alloc, key)?)),
+        Say::GetKey(place) => get_key_of(alloc, place),
+        Say::GetRange(begin, end, limit, reverse, mode) => {
+            get_range_of(alloc, begin, end, limit, reverse, mode)
+        }
+        Say::GetKeyRange(begin, end, limit, reverse, mode) => {
+            let range = range_of(alloc, begin, end)?;
+            Ok(get_key_range_of(range, limit, reverse, mode))
+        }
+        _ => write_of(alloc, say),
+    }
+}
+
+fn write_of(alloc: Global, say: Say) -> Result<TxnCall, AllocError> {
+    match say {
+        Say::Set(key, value) => set_of(bytes_of(alloc, key)?, bytes_of(alloc, value)),
+        Say::LongSet(key, value) => set_of(long(alloc, key)?, long(alloc, value)),
+        Say::Clear(key) => Ok(clear_of(bytes_of(alloc, key)?)),
+        Say::LongClear(key) => Ok(clear_of(long(alloc, key)?)),
+        Say::ClearRange(begin, end) => Ok(clear_range_of(range_of(alloc, begin, end)?)),
+        Say::LongClearRange(begin, end) => Ok(clear_range_of(long_range(alloc, begin, end)?)),
+        Say::Atomic(name, key, operand) => short_atomic(alloc, name, key, operand),
+        Say::LongAtomic(name, key, operand) => long_atomic(alloc, name, key, operand),
+        _ => Ok(TxnCall::Reset),
+    }
+}
+
+fn call_of(alloc: Global, say: Say) -> Result<TxnCall, AllocError> {
+    match say {
+        Say::Commit => Ok(TxnCall::Commit),
+        Say::OnError(code) => Ok(TxnCall::OnError { code: Code(code) }),
+        Say::Reset => Ok(TxnCall::Reset),
+        Say::Cancel => Ok(TxnCall::Cancel),
+        _ => read_of(alloc, say),
+    }
+}
+
+fn on(alloc: Global, name: &[u8], say: Say) -> Result<Request, AllocError> {
+    let name = bytes_of(alloc, name)?;
+    let call = call_of(alloc, say)?;
+    Ok(Request::On { name, call })
+}
+
+fn log_of(alloc: Global, prefix: &[u8], entries: Pairs) -> Result<Request, AllocError> {
+    let prefix = bytes_of(alloc, prefix)?;
+    Ok(Request::Log { prefix, entries })
+}
+
+fn long_pair(alloc: Global, key: usize, value: usize) -> Result<Pair, AllocError> {
+    let key = long(alloc, key)?;
+    let value = long(alloc, value)?;
+    Ok(Pair { key, value })
+}
+
+fn long_log(alloc: Global, prefix: usize, key: usize, value: usize) -> Result<Request, AllocError> {
+    let mut entries = pairs_of(alloc, &[(b"1", b"x")])?;
+    entries.push(long_pair(alloc, key, value)?)?;
+    let prefix = long(alloc, prefix)?;
+    Ok(Request::Log { prefix, entries })
+}
+
+// So many entries with the empty key and a value of 100000 bytes.
+fn full_entries(alloc: Global, count: usize) -> Result<Pairs, AllocError> {
+    let pair = long_pair(alloc, 0, 100_000)?;
+    let mut entries = Pairs::new(alloc);
+    for _ in 0..count {
+        entries.push(pair.copy()?)?;
+    }
+    Ok(entries)
+}
+
+pub fn request_of(alloc: Global, ask: Ask) -> Result<Request, AllocError> {
+    match ask {
+        Ask::New(name) => Ok(Request::New {
+            name: bytes_of(alloc, name)?,
+        }),
+        Ask::On(name, say) => on(alloc, name, say),
+        Ask::Database(say) => Ok(Request::Database {
+            call: call_of(alloc, say)?,
+        }),
+        Ask::Log(prefix, entries) => log_of(alloc, prefix, pairs_of(alloc, entries)?),
+        Ask::LongLog(prefix, key, value) => long_log(alloc, prefix, key, value),
+        Ask::FullLog(prefix, count) => log_of(alloc, prefix, full_entries(alloc, count)?),
+    }
+}

@@ -1,0 +1,2 @@
+pub mod KeyByKey
+pub mod States

@@ -1,0 +1,248 @@
+-- Which keys are edges, where an edge comes in or goes, or what an edge has changes.
+use Rattle.std.proofs.Common.{◌≡◌, ℕ, Bool, true, false, cond, List, [], ◌∷◌, Option, Some, None, is_some, not, ◌&&◌, refl, sym, ap, ◌∙◌, true≢false}
+use Rattle.std.proofs.lemmas.Bool.{false≢true}
+use Rattle.std.proofs.lemmas.Cmp.{tied_itself}
+use Rattle.std.proofs.lemmas.Map.Lookups.{exact_bytes}
+use Rattle.std.proofs.lemmas.Map.Views.{tells_apart}
+use Rattle.std.proofs.lemmas.Option.{same_Some, none-some}
+use Rattle.std.specs.BTreeMap.{insert_entry, is_at}
+use Rattle.std.specs.Cmp.Lexicographic.{nat_list_cmp_total}
+use Rattle.std.specs.Map.{lookup, remove_entry}
+use Rattle.std.specs.Ordering.{is_eq, is_lt, match_ordering, ordering_reverse}
+use Rattle.std.specs.declared.cmp.Ordering.{Ordering}
+use Rattle.std.specs.declared.cmp.Ordering.TheVariants.{Less, Equal, Greater}
+use Rattle.key_bytes.specs.Keys.{key_cmp, key_lt, within, after}
+use Rattle.key_bytes.proofs.Orders.{lt_le, lt_after}
+use Rattle.edge_map.specs.Edges.{Edges, held_from, held, is_edge, with_edge, without_edge, changed_entries, changed}
+use Rattle.edge_map.proofs.Held.{IsBelow, IsRising, is_among, rising_below, rising_rest, held-at, held-changed}
+
+module _ {X : Type 0} where
+  pub with_edge-there : (key : List ℕ) (x : X) (edges : Edges X) → is_edge key edges ≡ true → with_edge key x edges ≡ edges
+  with_edge-there key x edges there =
+      ap (λ t. cond t edges (record edges { entries = insert_entry key_cmp edges.entries key x })) there
+
+  pub with_edge-new : (key : List ℕ) (x : X) (edges : Edges X) → is_edge key edges ≡ false
+      → with_edge key x edges ≡ record edges { entries = insert_entry key_cmp edges.entries key x }
+  with_edge-new key x edges new =
+      ap (λ t. cond t edges (record edges { entries = insert_entry key_cmp edges.entries key x })) new
+
+module _ {X : Type 0} where
+  -- a test that no key passes changes nothing
+  pub changed-nothing : (p : List ℕ → Bool) (f : X → X) (es : List (List ℕ × X)) → ((k : List ℕ) → p k ≡ false)
+      → changed_entries p f es ≡ es
+  changed-nothing p f [] none = refl
+  changed-nothing p f (e ∷ es) none = λ i. (e.0, cond (none e.0 i) (f e.1) e.1) ∷ changed-nothing p f es none i
+
+-- no key is in a range that doesn't end above its begin
+pub within_backward : (b e q : List ℕ) → key_lt b e ≡ false → within b e q ≡ false
+within_backward b e q back = by_end (key_lt q e) refl
+  where
+    by_end : (t : Bool) → key_lt q e ≡ t → (not (key_lt q b) && t) ≡ false
+    by_end true below = ap (λ t. not t && true) (lt_le q e b below back)
+    by_end false _ = elim (key_lt q b) as (λ t. (not t && false) ≡ false) [ true ↦ refl | false ↦ refl ]
+
+-- ---- a key that is made an edge, and taken away again
+
+at_itself : (key : List ℕ) → is_at (key_cmp key) key ≡ true
+at_itself key = ap is_eq (tied_itself nat_list_cmp_total key)
+
+module _ {X : Type 0} where
+  among_new : (key : List ℕ) (x : X) (es : List (List ℕ × X)) → is_among key (insert_entry key_cmp es key x) ≡ true
+  among_new key x [] = ap (λ t. is_some (cond t (Some x) None)) (at_itself key)
+  among_new key x (e ∷ es) = by_order (key_cmp key e.0) refl (among_new key x es)
+    where
+      by_order : (o : Ordering) → key_cmp key e.0 ≡ o → is_among key (insert_entry key_cmp es key x) ≡ true
+          → is_among key (match_ordering o ((key, x) ∷ e ∷ es) ((e.0, x) ∷ es) (e ∷ insert_entry key_cmp es key x)) ≡ true
+      by_order Less is rest = ap (λ t. is_some (cond t (Some x) (lookup (is_at (key_cmp key)) (e ∷ es)))) (at_itself key)
+      by_order Equal is rest = ap (λ o. is_some (cond (is_eq o) (Some x) (lookup (is_at (key_cmp key)) es))) is
+      by_order Greater is rest =
+          ap (λ o. is_some (cond (is_eq o) (Some e.1) (lookup (is_at (key_cmp key)) (insert_entry key_cmp es key x)))) is ∙ rest
+
+  among_kept : (q key : List ℕ) (x : X) (es : List (List ℕ × X)) → is_among q es ≡ true → is_among q (insert_entry key_cmp es key x) ≡ true
+  among_kept q key x [] among = absurd (false≢true among)
+  among_kept q key x (e ∷ es) among = by_order (key_cmp key e.0) (is_at (key_cmp q) e.0) refl (among_kept q key x es)
+    where
+      first : (t : Bool) → is_at (key_cmp q) e.0 ≡ t → is_some (cond t (Some e.1) (lookup (is_at (key_cmp q)) es)) ≡ true
+      first t is = sym (ap (λ t. is_some (cond t (Some e.1) (lookup (is_at (key_cmp q)) es))) is) ∙ among
+
+      by_order : (o : Ordering) (t : Bool) → is_at (key_cmp q) e.0 ≡ t
+          → (is_among q es ≡ true → is_among q (insert_entry key_cmp es key x) ≡ true)
+          → is_among q (match_ordering o ((key, x) ∷ e ∷ es) ((e.0, x) ∷ es) (e ∷ insert_entry key_cmp es key x)) ≡ true
+      by_order Less t is rest = elim (is_at (key_cmp q) key)
+          as (λ s. is_some (cond s (Some x) (lookup (is_at (key_cmp q)) (e ∷ es))) ≡ true) [ true ↦ refl | false ↦ among ]
+      by_order Equal true is rest = ap (λ t. is_some (cond t (Some x) (lookup (is_at (key_cmp q)) es))) is
+      by_order Equal false is rest =
+          ap (λ t. is_some (cond t (Some x) (lookup (is_at (key_cmp q)) es))) is ∙ first false is
+      by_order Greater true is rest =
+          ap (λ t. is_some (cond t (Some e.1) (lookup (is_at (key_cmp q)) (insert_entry key_cmp es key x)))) is
+      by_order Greater false is rest =
+          ap (λ t. is_some (cond t (Some e.1) (lookup (is_at (key_cmp q)) (insert_entry key_cmp es key x)))) is
+          ∙ rest (first false is)
+
+  removed_inserted : (key : List ℕ) (x : X) (es : List (List ℕ × X)) → is_among key es ≡ false
+      → remove_entry (is_at (key_cmp key)) (insert_entry key_cmp es key x) ≡ es
+  removed_inserted key x [] new = ap (λ t. cond t [] ((key, x) ∷ [])) (at_itself key)
+  removed_inserted key x (e ∷ es) new = by_order (key_cmp key e.0) refl (removed_inserted key x es)
+    where
+      here : (o : Ordering) → key_cmp key e.0 ≡ o → is_some (cond (is_eq o) (Some e.1) (lookup (is_at (key_cmp key)) es)) ≡ false
+      here o is = sym (ap (λ o. is_some (cond (is_eq o) (Some e.1) (lookup (is_at (key_cmp key)) es))) is) ∙ new
+
+      by_order : (o : Ordering) → key_cmp key e.0 ≡ o
+          → (is_among key es ≡ false → remove_entry (is_at (key_cmp key)) (insert_entry key_cmp es key x) ≡ es)
+          → remove_entry (is_at (key_cmp key)) (match_ordering o ((key, x) ∷ e ∷ es) ((e.0, x) ∷ es) (e ∷ insert_entry key_cmp es key x))
+          ≡ e ∷ es
+      by_order Less is rest = ap (λ t. cond t (e ∷ es) ((key, x) ∷ remove_entry (is_at (key_cmp key)) (e ∷ es))) (at_itself key)
+      by_order Equal is rest = absurd (true≢false (here Equal is))
+      by_order Greater is rest =
+          ap (λ o. cond (is_eq o) (insert_entry key_cmp es key x)
+          (e ∷ remove_entry (is_at (key_cmp key)) (insert_entry key_cmp es key x))) is
+          ∙ ap (λ es. e ∷ es) (rest (here Greater is))
+
+  -- a key that was made an edge is one, and each that was one still is
+  pub edge_made : (key : List ℕ) (x : X) (edges : Edges X) → is_edge key (with_edge key x edges) ≡ true
+  edge_made key x edges = by_edge (is_edge key edges) refl
+    where
+      by_edge : (t : Bool) → is_edge key edges ≡ t
+          → is_edge key (cond t edges (record edges { entries = insert_entry key_cmp edges.entries key x })) ≡ true
+      by_edge true there = there
+      by_edge false _ = among_new key x edges.entries
+
+  pub edge_kept : (q key : List ℕ) (x : X) (edges : Edges X) → is_edge q edges ≡ true → is_edge q (with_edge key x edges) ≡ true
+  edge_kept q key x edges there = elim (is_edge key edges)
+      as (λ t. is_edge q (cond t edges (record edges { entries = insert_entry key_cmp edges.entries key x })) ≡ true) [
+        | true ↦ there
+        | false ↦ among_kept q key x edges.entries there
+      ]
+
+  -- without an edge that was none before all is as it was
+  pub without_new : (key : List ℕ) (x : X) (edges : Edges X) → is_edge key edges ≡ false
+      → without_edge key (with_edge key x edges) ≡ edges
+  without_new key x edges new =
+      ap (without_edge key) (with_edge-new key x edges new)
+      ∙ ap (λ entries. record edges { entries = entries }) (removed_inserted key x edges.entries new)
+
+  -- a new edge leaves what the keys below all edges have
+  pub base-with_edge : (key : List ℕ) (x : X) (edges : Edges X) → (with_edge key x edges).base ≡ edges.base
+  base-with_edge key x edges = elim (is_edge key edges)
+      as (λ t. (cond t edges (record edges { entries = insert_entry key_cmp edges.entries key x })).base ≡ edges.base) [
+        | true ↦ refl
+        | false ↦ refl
+      ]
+
+  -- ---- a change of what edges have
+
+  among_changed : (q : List ℕ) (p : List ℕ → Bool) (f : X → X) (es : List (List ℕ × X))
+      → is_among q (changed_entries p f es) ≡ is_among q es
+  among_changed q p f [] = refl
+  among_changed q p f (e ∷ es) = elim (is_at (key_cmp q) e.0)
+      as (λ t. is_some (cond t (Some (cond (p e.0) (f e.1) e.1)) (lookup (is_at (key_cmp q)) (changed_entries p f es)))
+      ≡ is_some (cond t (Some e.1) (lookup (is_at (key_cmp q)) es))) [ true ↦ refl | false ↦ among_changed q p f es ]
+
+  -- which keys are edges doesn't change
+  pub edge_changed : (q : List ℕ) (p : List ℕ → Bool) (f : X → X) (edges : Edges X) → is_edge q (changed p f edges) ≡ is_edge q edges
+  edge_changed q p f edges = among_changed q p f edges.entries
+
+-- ---- one edge changes
+
+-- what is below each of some edges is none of them
+pub none_at : {X : Type 0} (key : List ℕ) (es : List (List ℕ × X)) → IsBelow key es → (k : List ℕ) → k ≡ key
+    → lookup (is_at (key_cmp k)) es ≡ None
+none_at key [] below k same = refl
+none_at key (e ∷ es) below k same = by_first (key_cmp k e.0) refl (none_at key es below.1 k same)
+  where
+    less : is_lt (key_cmp k e.0) ≡ true
+    less = ap (λ k. key_lt k e.0) same ∙ below.0
+
+    by_first : (o : Ordering) → key_cmp k e.0 ≡ o → lookup (is_at (key_cmp k)) es ≡ None
+        → cond (is_eq o) (Some e.1) (lookup (is_at (key_cmp k)) es) ≡ None
+    by_first Less is rest = rest
+    by_first Equal is rest = absurd (true≢false (sym less ∙ ap is_lt is))
+    by_first Greater is rest = rest
+
+module _ {X : Type 0} where
+  -- a change of a key that is no edge changes nothing
+  pub changed_none : (key : List ℕ) (f : X → X) (es : List (List ℕ × X)) → lookup (is_at (key_cmp key)) es ≡ None
+      → changed_entries (is_at (key_cmp key)) f es ≡ es
+  changed_none key f [] none = refl
+  changed_none key f (e ∷ es) none = by_first (is_at (key_cmp key) e.0) refl (changed_none key f es)
+    where
+      by_first : (t : Bool) → is_at (key_cmp key) e.0 ≡ t
+          → (lookup (is_at (key_cmp key)) es ≡ None → changed_entries (is_at (key_cmp key)) f es ≡ es)
+          → (e.0, cond t (f e.1) e.1) ∷ changed_entries (is_at (key_cmp key)) f es ≡ e ∷ es
+      by_first true is rest = absurd (none-some e.1 (sym none ∙ ap (λ t. cond t (Some e.1) (lookup (is_at (key_cmp key)) es)) is))
+      by_first false is rest =
+          ap (λ es. e ∷ es) (rest (sym (ap (λ t. cond t (Some e.1) (lookup (is_at (key_cmp key)) es)) is) ∙ none))
+
+  back_entries : (key : List ℕ) (x : X) (es : List (List ℕ × X)) → IsRising es → lookup (is_at (key_cmp key)) es ≡ Some x
+      → changed_entries (is_at (key_cmp key)) (λ _. x) es ≡ es
+  back_entries key x [] rising found = absurd (none-some x found)
+  back_entries key x (e ∷ es) rising found =
+      by_first (is_at (key_cmp key) e.0) refl (back_entries key x es (rising_rest e.0 e.1 es rising))
+    where
+      here : (t : Bool) → is_at (key_cmp key) e.0 ≡ t → cond t (Some e.1) (lookup (is_at (key_cmp key)) es) ≡ Some x
+      here t is = sym (ap (λ t. cond t (Some e.1) (lookup (is_at (key_cmp key)) es)) is) ∙ found
+
+      by_first : (t : Bool) → is_at (key_cmp key) e.0 ≡ t
+          → (lookup (is_at (key_cmp key)) es ≡ Some x → changed_entries (is_at (key_cmp key)) (λ _. x) es ≡ es)
+          → (e.0, cond t x e.1) ∷ changed_entries (is_at (key_cmp key)) (λ _. x) es ≡ e ∷ es
+      by_first true is rest =
+          let same : x ≡ e.1 = sym (same_Some _ _ (here true is)) in
+          let none = none_at e.0 es (rising_below e.0 e.1 es rising) key (tells_apart exact_bytes key e.0 is) in
+          λ i. (e.0, same i) ∷ changed_none key (λ _. x) es none i
+      by_first false is rest = ap (λ es. e ∷ es) (rest (here false is))
+
+  -- an edge that is given what it has stays as it is
+  pub changed_back : (key : List ℕ) (edges : Edges X) → IsRising edges.entries → is_edge key edges ≡ true
+      → changed (is_at (key_cmp key)) (λ _. held edges key) edges ≡ edges
+  changed_back key edges rising there = by_found (lookup (is_at (key_cmp key)) edges.entries) refl
+    where
+      by_found : (o : Option X) → lookup (is_at (key_cmp key)) edges.entries ≡ o
+          → changed (is_at (key_cmp key)) (λ _. held edges key) edges ≡ edges
+      by_found None none = absurd (false≢true (sym (ap is_some none) ∙ there))
+      by_found (Some x) found =
+          ap (λ x. changed (is_at (key_cmp key)) (λ _. x) edges) (held-at edges.base x edges.entries key rising found)
+          ∙ ap (λ entries. record edges { entries = entries }) (back_entries key x edges.entries rising found)
+
+  twice_entries : (p : List ℕ → Bool) (x y : X) (es : List (List ℕ × X))
+      → changed_entries p (λ _. y) (changed_entries p (λ _. x) es) ≡ changed_entries p (λ _. y) es
+  twice_entries p x y [] = refl
+  twice_entries p x y (e ∷ es) = elim (p e.0)
+      as (λ t. (e.0, cond t y (cond t x e.1)) ∷ changed_entries p (λ _. y) (changed_entries p (λ _. x) es)
+      ≡ (e.0, cond t y e.1) ∷ changed_entries p (λ _. y) es) [
+        | true ↦ ap (λ es. (e.0, y) ∷ es) (twice_entries p x y es)
+        | false ↦ ap (λ es. e ∷ es) (twice_entries p x y es)
+      ]
+
+  -- of two things that edges are given, one after the other, they have the second
+  pub changed_twice : (p : List ℕ → Bool) (x y : X) (edges : Edges X)
+      → changed p (λ _. y) (changed p (λ _. x) edges) ≡ changed p (λ _. y) edges
+  changed_twice p x y edges = ap (λ entries. record edges { entries = entries }) (twice_entries p x y edges.entries)
+
+-- ---- one key as a range
+
+-- from a key up to the key after it there is the key alone
+pub within_one : (key q : List ℕ) → within key (after key) q ≡ is_at (key_cmp key) q
+within_one key q = by_order (key_cmp key q) refl
+  where
+    back : (o : Ordering) → key_cmp key q ≡ o → key_lt q key ≡ is_lt (ordering_reverse o)
+    back o is = ap is_lt (nat_list_cmp_total.antisymm q key ∙ ap ordering_reverse is)
+
+    by_order : (o : Ordering) → key_cmp key q ≡ o → within key (after key) q ≡ is_eq o
+    by_order Less is = λ i. not (back Less is i) && (lt_after q key ∙ ap (λ o. not (is_lt o)) is) i
+    by_order Equal is = λ i. not (back Equal is i) && (lt_after q key ∙ ap (λ o. not (is_lt o)) is) i
+    by_order Greater is = ap (λ t. not t && key_lt q (after key)) (back Greater is)
+
+changed_same : {X : Type 0} (p r : List ℕ → Bool) (f : X → X) (es : List (List ℕ × X)) → ((k : List ℕ) → p k ≡ r k)
+    → changed_entries p f es ≡ changed_entries r f es
+changed_same p r f [] same = refl
+changed_same p r f (e ∷ es) same = λ i. (e.0, cond (same e.0 i) (f e.1) e.1) ∷ changed_same p r f es same i
+
+-- a change of one edge, where the next key is an edge too, changes what its key has and no other
+pub held-changed_one : {X : Type 0} (key : List ℕ) (f : X → X) (edges : Edges X) (k : List ℕ) → IsRising edges.entries
+    → is_edge key edges ≡ true → is_edge (after key) edges ≡ true
+    → held (changed (is_at (key_cmp key)) f edges) k ≡ cond (is_at (key_cmp key) k) (f (held edges k)) (held edges k)
+held-changed_one key f edges k rising here next =
+    ap (λ entries. held_from edges.base entries k)
+    (changed_same (is_at (key_cmp key)) (within key (after key)) f edges.entries (λ q. sym (within_one key q)))
+    ∙ held-changed key (after key) f edges k rising here next
+    ∙ ap (λ t. cond t (f (held edges k)) (held edges k)) (within_one key k)

@@ -1,0 +1,5 @@
+pub mod Edged
+pub mod Held
+pub mod Neighbours
+pub mod Placed
+pub mod Spans

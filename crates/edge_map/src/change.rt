@@ -1,0 +1,13 @@
+//! What may be done to the edges of a range.
+
+ghost use Rattle.std.specs.Prelude.{◌≡◌};
+
+/// What is done to what an edge has.
+pub trait Change<T> {
+    // What an edge has afterwards.
+    ghost changed: { Self → T → T };
+
+    /// Changes what an edge has. It takes no memory.
+    fn change(&self, level: &mut T)
+        ensures { level.new ≡ changed self.now level.old };
+}

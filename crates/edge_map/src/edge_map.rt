@@ -1,0 +1,168 @@
+//! A map of edges.
+
+ghost use Rattle.std.specs.Prelude.{◌≡◌, true, false, [], IsTrue, MatchOption, OnOk, OnErr};
+ghost use Rattle.std.specs.BTreeMap.{is_at};
+ghost use Rattle.std.specs.List.{filter};
+ghost use Rattle.std.specs.List.Sorted.{IsStrictlySortedBy};
+ghost use Rattle.std.specs.Option.{option_map};
+ghost use Rattle.key_bytes.specs.Keys.{key_cmp, key_lt, within};
+ghost use Rattle.key_map.specs.Ends.{first, last};
+
+use crate::change::Change;
+use crate::levels::{change_between, pop_last};
+use crate::spread::Spread;
+use key_bytes::{Bytes, Key};
+use std::alloc::{AllocError, Global};
+use std::collections::BTreeMap;
+use std::marker::Model;
+use std::mem;
+use std::ops::Bound;
+
+/// Edges over the keys: each has what all keys from it up to the next edge have. Contracts see the edges in the order of
+/// keys, each with what it has, and what the keys below the first edge have.
+#[derive(Drop)]
+pub struct EdgeMap<T> {
+    base: T,
+    places: BTreeMap<Bytes, usize>,
+    levels: Vec<T>,
+}
+
+impl<T> Model for EdgeMap<T> {
+    ghost use Rattle.std.specs.Prelude.{length, refl, ℕ, List};
+    ghost use Rattle.std.specs.Coded.{coded×, coded_list, coded_ℕ, code_by};
+    ghost use Rattle.edge_map.specs.Edges.{Edges};
+    ghost use Rattle.edge_map.specs.Places.{laid_out, HasPlaces};
+
+    ghost Value = { Edges T };
+
+    ghost coded = { code_by (T × List (List ℕ × T)) (coded× T.code (coded_list (coded× (coded_list coded_ℕ) T.code)))
+        (λ edges. (edges.base, edges.entries)) (λ pair. record { base = pair.0; entries = pair.1 }) (λ _. refl) };
+
+    ghost view = { λ map. record { base = map.base; entries = laid_out map.base map.levels.items map.places.entries } };
+
+    ghost invariant = { λ map. HasPlaces (length map.levels.items) map.places.entries };
+}
+
+impl<T> EdgeMap<T> {
+    ghost use Rattle.edge_map.specs.Edges.{changed, edges_of, held, is_edge, with_edge, without_edge};
+
+    /// The map without an edge: each key has `base`. It takes no memory.
+    pub fn new(alloc: Global, base: T) -> EdgeMap<T>
+        ensures { result ≡ record { base = base; entries = [] } }
+    {
+        EdgeMap {
+            base,
+            places: BTreeMap::new(alloc),
+            levels: Vec::new(alloc),
+        }
+    }
+
+    /// What a key has: what the last edge that isn't above it has. It takes no memory.
+    pub fn at(&self, key: &Key) -> &T
+        ensures { result.now ≡ held self.now key.now }
+    {
+        match self.places.range(..=key).next_back() {
+            Some((_, place)) => &self.levels[*place],
+            None => &self.base,
+        }
+    }
+
+    /// Whether a key is an edge. It takes no memory.
+    pub fn has_edge(&self, key: &Key) -> bool
+        ensures { result ≡ is_edge key.now self.now }
+    {
+        self.places.contains_key(key)
+    }
+
+    /// The first edge above a key, if there is one. It takes no memory.
+    pub fn next(&self, key: &Key) -> Option<&Key>
+        ensures { option_map (λ edge. edge.now) result
+            ≡ first (filter (key_lt key.now) (edges_of self.now)) }
+    {
+        let above = (Bound::Excluded(key), Bound::Unbounded);
+        match self.places.range(above).next() {
+            Some((edge, _)) => Some(edge),
+            None => None,
+        }
+    }
+
+    /// The last edge below a key, if there is one. It takes no memory.
+    pub fn prev(&self, key: &Key) -> Option<&Key>
+        ensures { option_map (λ edge. edge.now) result
+            ≡ last (filter (λ edge. key_lt edge key.now) (edges_of self.now)) }
+    {
+        match self.places.range(..key).next_back() {
+            Some((edge, _)) => Some(edge),
+            None => None,
+        }
+    }
+
+    // What a new edge at a key gets; None where the key is an edge.
+    fn new_level(&self, key: &Key) -> Option<T>
+    where
+        T: Spread,
+        ensures { MatchOption result
+            (is_edge key.now self.now ≡ true)
+            (λ level. (is_edge key.now self.now ≡ false) × (level ≡ T.spread (held self.now key.now))) }
+    {
+        match self.places.range(..=key).next_back() {
+            Some((edge, _)) if edge == key => None,
+            Some((_, place)) => Some(self.levels[*place].spread()),
+            None => Some(self.base.spread()),
+        }
+    }
+
+    /// Makes a key an edge, which gets what is spread of what the key had; where it is an edge already nothing changes.
+    /// After a refusal the map is as it was.
+    pub fn split(&mut self, key: &Key) -> Result<(), AllocError>
+    where
+        T: Spread + Drop,
+        ensures ok { OnOk result (self.new ≡ with_edge key.now (T.spread (held self.old key.now)) self.old) }
+        ensures err { OnErr result (self.new ≡ self.old) }
+    {
+        let Some(level) = self.new_level(key) else {
+            return Ok(());
+        };
+        self.levels.reserve(1)?;
+        self.places.insert(key.copy()?, self.levels.len())?;
+        self.levels.push(level).unwrap();
+        Ok(())
+    }
+
+    /// Takes an edge away: keys from it on have what those before it have. It takes no memory.
+    pub fn remove_edge(&mut self, key: &Key)
+    where
+        T: Drop,
+        ensures { self.new ≡ without_edge key.now self.old }
+    {
+        if let Some(place) = self.places.remove(key) {
+            pop_last(&mut self.levels, place);
+        }
+    }
+
+    /// Gives an edge something else, and answers what it had. It takes no memory.
+    pub fn replace(&mut self, key: &Key, level: T) -> T
+        requires { IsTrue (is_edge key.now self.old) }
+        ensures before { result ≡ held self.old key.now }
+        ensures after { self.new ≡ changed (is_at (key_cmp key.now)) (λ _. level) self.old }
+    {
+        let place = *self.places.get(key).unwrap();
+        mem::replace(&mut self.levels[place], level)
+    }
+
+    /// Changes what each edge from `begin` on has that is less than `end`. It takes no memory, and one write for each such
+    /// edge.
+    pub fn change<C: Change<T>>(&mut self, begin: &Key, end: &Key, change: &C)
+        ensures { self.new
+            ≡ changed (within begin.now end.now) (C.changed change.now) self.old }
+    {
+        change_between(&self.places, &mut self.levels, begin, end, change);
+    }
+
+    /// For proofs: that the edges rise. It does nothing when it runs.
+    pub fn shows_rising(&self)
+        ensures { IsStrictlySortedBy key_cmp (edges_of self.now) }
+    {
+        let _count = self.places.len();
+    }
+}

@@ -1,0 +1,110 @@
+use super::*;
+use key_bytes::{Bytes, Key};
+use std::alloc::{AllocError, Global};
+use std::test::Fail;
+
+// Gives an edge a greater number.
+#[derive(Drop)]
+struct Raise(u64);
+
+impl Change<u64> for Raise {
+    ghost use Rattle.std.specs.Prelude.{max};
+
+    ghost changed = { λ raise number. max raise.0 number };
+
+    fn change(&self, level: &mut u64) {
+        *level = self.0.max(*level);
+    }
+}
+
+fn key_of(alloc: Global, text: &[u8]) -> Result<Key, AllocError> {
+    Bytes::from_slice(alloc, text)
+}
+
+// Raises the keys of a range, after its ends were made edges.
+fn raise_range(
+    alloc: Global,
+    map: &mut EdgeMap<u64>,
+    begin: &[u8],
+    end: &[u8],
+    number: u64,
+) -> Result<(), AllocError> {
+    let (begin, end) = (key_of(alloc, begin)?, key_of(alloc, end)?);
+    map.split(&begin)?;
+    map.split(&end)?;
+    map.change(&begin, &end, &Raise(number));
+    Ok(())
+}
+
+// A map with `a` to `c` at 2, and then `b` to `d` at 5.
+fn raised(alloc: Global) -> Result<EdgeMap<u64>, AllocError> {
+    let mut map = EdgeMap::new(alloc, 0);
+    raise_range(alloc, &mut map, b"a", b"c", 2)?;
+    raise_range(alloc, &mut map, b"b", b"d", 5)?;
+    map.shows_rising();
+    Ok(map)
+}
+
+fn texts(edge: Option<&Key>) -> &[u8] {
+    match edge {
+        Some(edge) => edge.as_slice(),
+        None => b"none",
+    }
+}
+
+// Keys with what they have there, whether they are edges, and the edges above and below them.
+const ROWS: &[(&[u8], u64, bool, &[u8], &[u8])] = &[
+    (b"", 0, false, b"a", b"none"),
+    (b"a", 2, true, b"b", b"none"),
+    (b"ab", 2, false, b"b", b"a"),
+    (b"b", 5, true, b"c", b"a"),
+    (b"c", 5, true, b"d", b"b"),
+    (b"cc", 5, false, b"d", b"c"),
+    (b"d", 0, true, b"none", b"c"),
+    (b"x", 0, false, b"none", b"d"),
+];
+
+fn is_row(
+    alloc: Global,
+    map: &EdgeMap<u64>,
+    row: &(&'static [u8], u64, bool, &'static [u8], &'static [u8]),
+) -> Result<bool, AllocError> {
+    let key = key_of(alloc, row.0)?;
+    let same = *map.at(&key) == row.1 && map.has_edge(&key) == row.2;
+    Ok(same && texts(map.next(&key)) == row.3 && texts(map.prev(&key)) == row.4)
+}
+
+fn first_other_row(alloc: Global) -> Result<Option<usize>, AllocError> {
+    let map = raised(alloc)?;
+    for (place, row) in ROWS.iter().enumerate() {
+        if !is_row(alloc, &map, row)? {
+            return Ok(Some(place));
+        }
+    }
+    Ok(None)
+}
+
+#[test]
+fn raises_ranges(rt: HostRuntime) -> Result<(), Fail> {
+    assert_eq!(rt; first_other_row(rt.alloc())?, None);
+    Ok(())
+}
+
+// What an edge had that is given 7, what its key has then, and what it has once the edge is taken away.
+fn replaced(alloc: Global) -> Result<Option<[u64; 3]>, AllocError> {
+    let mut map = raised(alloc)?;
+    let key = key_of(alloc, b"b")?;
+    if !map.has_edge(&key) {
+        return Ok(None);
+    }
+    let before = map.replace(&key, 7);
+    let now = *map.at(&key);
+    map.remove_edge(&key);
+    Ok(Some([before, now, *map.at(&key)]))
+}
+
+#[test]
+fn replaces_and_removes(rt: HostRuntime) -> Result<(), Fail> {
+    assert_eq!(rt; replaced(rt.alloc())?, Some([5, 7, 2]));
+    Ok(())
+}

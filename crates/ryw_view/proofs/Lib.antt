@@ -1,0 +1,5 @@
+pub mod Lists
+pub mod Firsts
+pub mod Seen
+pub mod Passed
+pub mod Segments

@@ -1,0 +1,206 @@
+-- What a walk meets first in a segment of keys that mutations treat alike.
+use Rattle.std.proofs.Common.{◌≡◌, ℕ, Bool, true, false, cond, not, ◌⊎◌, inl, inr, List, Option, Some, None, refl, sym, ap, subst, ◌∙◌, true≢false}
+use Rattle.std.proofs.lemmas.Bool.{not-true}
+use Rattle.std.proofs.lemmas.Option.{none-some}
+use Rattle.std.specs.FinMap as finite
+use Rattle.std.specs.Option.{option_map}
+use Rattle.std.specs.List.{filter}
+use Rattle.key_bytes.specs.Keys.{after, key_lt, key_le}
+use Rattle.key_bytes.proofs.Orders.{above_not_below, irreflexive, le_lt, lt_after, lt_trans, lt_le}
+use Rattle.key_map.specs.Ends.{first, last}
+use Rattle.range_read.proofs.Rising.{first_passes}
+use Rattle.write_map.specs.Answers.{IsStateUnder}
+use Rattle.write_map.specs.declared.state.KeyState.{KeyState as Shown}
+use Rattle.write_map.specs.declared.state.KeyState.TheVariants as shown
+use Rattle.database_rules.specs.Databases.{Database, Mutation}
+use Rattle.database_rules.specs.States.{KeyState, Unmodified, Decided, Depends, state_under, value_in, all_atoms, covers, unreadable, is_unmodified, seen}
+use Rattle.edge_map.specs.Edges.{IsBelowEdge}
+use Rattle.range_read.specs.Walks.{is_onward}
+use Rattle.range_read.proofs.Walks.{Entry}
+use Rattle.ryw_view.specs.Segments.{IsSegment}
+use Rattle.ryw_view.specs.Walks.{meets_first, is_inside, inside_of, IsFirstMet}
+use Rattle.write_map.specs.Pending.{AreAlike, IsBare, is_single_state}
+use Rattle.ryw_view.proofs.Firsts.{not_first_itself, which_first}
+use Rattle.ryw_view.proofs.Passed.{last_below}
+use Rattle.ryw_view.proofs.Seen.{get-seen, seen_readable}
+
+-- ---- the edge of a segment
+
+-- what is met before a key inside is inside
+pub inside_before : (edge : Option (List ℕ)) (down : Bool) (q k : List ℕ) → meets_first down q k ≡ true → is_inside edge down k ≡ true
+    → is_inside edge down q ≡ true
+inside_before None down q k before inside = refl
+inside_before (Some edge) true q k before inside =
+    ap not (above_not_below edge q (le_lt edge k q (not-true (key_lt k edge) inside) before))
+inside_before (Some edge) false q k before inside = lt_trans q k edge before inside
+
+-- a key inside is met before one that is not
+pub before_outside : (edge : Option (List ℕ)) (down : Bool) (q k : List ℕ) → is_inside edge down q ≡ true → is_inside edge down k ≡ false
+    → meets_first down q k ≡ true
+before_outside None down q k inside outside = absurd (true≢false outside)
+before_outside (Some edge) true q k inside outside = by (key_lt k edge) refl outside
+  where
+    by : (b : Bool) → key_lt k edge ≡ b → not b ≡ false → key_lt k q ≡ true
+    by true below is = lt_le k edge q below (not-true (key_lt q edge) inside)
+    by false below is = absurd (true≢false is)
+before_outside (Some edge) false q k inside outside = lt_le q edge k inside outside
+
+-- of what a walk meets first, the first in a segment is it, or none
+pub met_inside : (database : Database) (from : List ℕ) (down : Bool) (edge : Option (List ℕ)) (pair : Option Entry)
+    → IsFirstMet database from down None pair → IsFirstMet database from down edge (inside_of edge down pair)
+met_inside database from down edge None none = λ q is_on inside. none q is_on refl
+met_inside database from down edge (Some pair) (met, _) =
+    elim (is_inside edge down pair.0)
+    as (λ b. is_inside edge down pair.0 ≡ b → IsFirstMet database from down edge (cond b (Some pair) None)) [
+      | true ↦ λ inside. (met, inside)
+      | false ↦ λ outside q is_on inside. met.gap q is_on (before_outside edge down q pair.0 inside outside)
+    ] refl
+
+-- where a view has inside a segment what is stored, it meets first what is met first of what is stored
+module _ (view stored : Database) (from : List ℕ) (down : Bool) (edge : Option (List ℕ))
+    (same : (q : List ℕ) → is_onward from down q ≡ true → is_inside edge down q ≡ true → finite.get view q ≡ finite.get stored q) where
+  pub stored_met : (pair : Option Entry) → IsFirstMet stored from down edge pair → IsFirstMet view from down edge pair
+  stored_met None none = λ q is_on inside. same q is_on inside ∙ none q is_on inside
+  stored_met (Some pair) (met, inside) = (
+    record {
+      onward = met.onward;
+      there = same pair.0 met.onward inside ∙ met.there;
+      gap = λ q is_on before. same q is_on (inside_before edge down q pair.0 before inside) ∙ met.gap q is_on before;
+    },
+    inside,
+  )
+
+-- ---- a segment
+
+module _ (mutations : List Mutation) (stored : Database) (key from : List ℕ) (down : Bool) (edge : Option (List ℕ))
+    (segment : IsSegment mutations key from down edge) where
+  abbrev view : Database
+  view = seen mutations stored
+
+  abbrev hidden : Bool
+  hidden = covers (unreadable mutations) key
+
+  -- what the key has does not rest on what is stored of other keys
+  abbrev IsOwn : Bool → KeyState → Type 0
+  IsOwn hidden state = (hidden ≡ true) ⊎ (is_unmodified state ≡ false)
+
+  of_state : (q : List ℕ) → is_onward from down q ≡ true → is_inside edge down q ≡ true
+      → finite.get view q ≡ cond hidden None (value_in (state_under mutations key) (finite.get stored q))
+  of_state q is_on inside =
+      let alike = segment.alike q is_on inside in
+      get-seen mutations stored q
+      ∙ (λ i. cond (sym alike.readable i) None (value_in (sym alike.states i) (finite.get stored q)))
+
+  same_own : IsOwn hidden (state_under mutations key) → (q : List ℕ) → is_onward from down q ≡ true → is_inside edge down q ≡ true
+      → finite.get view q ≡ finite.get view key
+  same_own own q is_on inside =
+      of_state q is_on inside
+      ∙ by hidden (state_under mutations key) own (λ is. segment.single is q is_on inside)
+      ∙ sym (get-seen mutations stored key)
+    where
+      by : (hidden : Bool) (state : KeyState) → IsOwn hidden state → (is_single_state state ≡ true → q ≡ key)
+          → cond hidden None (value_in state (finite.get stored q)) ≡ cond hidden None (value_in state (finite.get stored key))
+      by true state own single = refl
+      by false Unmodified (inl is) single = absurd (true≢false (sym is))
+      by false Unmodified (inr is) single = absurd (true≢false is)
+      by false (Decided value) own single = refl
+      by false (Depends operations) own single = ap (λ k. all_atoms operations (finite.get stored k)) (single refl)
+
+  alone : IsOwn hidden (state_under mutations key) → (value : List ℕ) → finite.get view key ≡ Some value → (q : List ℕ)
+      → is_onward from down q ≡ true → is_inside edge down q ≡ true → q ≡ key
+  alone own value is q is_on inside =
+      by hidden (state_under mutations key) own (λ is. segment.single is q is_on inside) (sym (get-seen mutations stored key) ∙ is)
+    where
+      by : (hidden : Bool) (state : KeyState) → IsOwn hidden state → (is_single_state state ≡ true → q ≡ key)
+          → cond hidden None (value_in state (finite.get stored key)) ≡ Some value → q ≡ key
+      by true state own single is = absurd (none-some value is)
+      by false Unmodified (inl h) single is = absurd (true≢false (sym h))
+      by false Unmodified (inr h) single is = absurd (true≢false h)
+      by false (Decided None) own single is = absurd (none-some value is)
+      by false (Decided (Some own_value)) own single is = single refl
+      by false (Depends operations) own single is = single refl
+
+  own_met : IsOwn hidden (state_under mutations key) → (value : Option (List ℕ)) → finite.get view key ≡ value
+      → IsFirstMet view from down edge (option_map (λ v. (key, v)) value)
+  own_met own None is = λ q on within. same_own own q on within ∙ is
+  own_met own (Some value) is = (
+    record {
+      onward = segment.onward;
+      there = is;
+      gap = λ q on before. absurd
+          (not_first_itself down key
+          (subst (λ k. meets_first down k key ≡ true)
+          (alone own value is q on (inside_before edge down q key before segment.inside)) before));
+    },
+    segment.inside,
+  )
+
+  is_own : (answer : Shown) → IsStateUnder mutations key answer → (answer ≡ shown.Unmodified → ⊥) → IsOwn hidden (state_under mutations key)
+  is_own shown.Unmodified under other = absurd (other refl)
+  is_own (shown.Decided value) under other = inr (ap is_unmodified under.1)
+  is_own (shown.Depends edits) under other = inr (ap is_unmodified under.1)
+  is_own shown.Unreadable under other = inl under
+
+  -- where the key is modified or unreadable, the segment has what its key has
+  pub met_own : (answer : Shown) → IsStateUnder mutations key answer → (answer ≡ shown.Unmodified → ⊥) → (pair : Option Entry)
+      → pair ≡ option_map (λ v. (key, v)) (finite.get view key) → IsFirstMet view from down edge pair
+  met_own answer under other pair is =
+      subst (IsFirstMet view from down edge) (sym is) (own_met (is_own answer under other) (finite.get view key) refl)
+
+  -- where it is neither, the segment has what is stored
+  pub met_stored : IsStateUnder mutations key shown.Unmodified → (pair : Option Entry) → IsFirstMet stored from down edge pair
+      → IsFirstMet view from down edge pair
+  met_stored under pair met = stored_met view stored from down edge
+      (λ q is_on inside. of_state q is_on inside ∙ (λ i. cond (under.0 i) None (value_in (under.1 i) (finite.get stored q)))) pair met
+
+-- ---- segments between edges
+
+same_key : (a b : List ℕ) → key_le a b ≡ true → key_le b a ≡ true → a ≡ b
+same_key a b low high = elim (which_first false a b) [
+  | inl same ↦ same
+  | inr (inl below) ↦ absurd (true≢false (sym below ∙ not-true (key_lt a b) high))
+  | inr (inr above) ↦ absurd (true≢false (sym above ∙ not-true (key_lt b a) low))
+]
+
+-- from a key up to the edge above it
+pub segment_up : (mutations : List Mutation) (edges : List (List ℕ)) (from : List ℕ) (edge : Option (List ℕ))
+    → edge ≡ first (filter (key_lt from) edges)
+    → ((q : List ℕ) → key_le from q ≡ true → IsBelowEdge q edge → AreAlike mutations from q)
+    → (is_single_state (state_under mutations from) ≡ true → edge ≡ Some (after from)) → IsSegment mutations from from false edge
+segment_up mutations edges from edge is alike single = record {
+  onward = ap not (irreflexive from);
+  inside = inside edge (sym is);
+  alike = λ q is_on inside. alike q is_on (below edge q inside);
+  single = λ is q is_on inside. same_key q from
+      (sym (lt_after q from) ∙ subst (λ edge. is_inside edge false q ≡ true) (single is) inside) is_on;
+}
+  where
+    inside : (edge : Option (List ℕ)) → first (filter (key_lt from) edges) ≡ edge → is_inside edge false from ≡ true
+    inside None is = refl
+    inside (Some edge) is = first_passes (key_lt from) edges edge is
+
+    below : (edge : Option (List ℕ)) (q : List ℕ) → is_inside edge false q ≡ true → IsBelowEdge q edge
+    below None q inside = tt
+    below (Some edge) q inside = inside
+
+-- below a key down to the edge below it
+pub segment_down : (mutations : List Mutation) (edges : List (List ℕ)) (until edge : List ℕ)
+    → Some edge ≡ last (filter (λ e. key_lt e until) edges)
+    → ((q : List ℕ) → key_le edge q ≡ true → key_lt q until ≡ true → AreAlike mutations edge q)
+    → (is_single_state (state_under mutations edge) ≡ true → key_le until (after edge) ≡ true)
+    → IsSegment mutations edge until true (Some edge)
+segment_down mutations edges until edge is alike single = record {
+  onward = last_below edges until edge (sym is);
+  inside = ap not (irreflexive edge);
+  alike = λ q is_on inside. alike q inside is_on;
+  single = λ is q is_on inside. same_key q edge
+      (sym (lt_after q edge) ∙ lt_le q until (after edge) is_on (not-true (key_lt (after edge) until) (single is))) inside;
+}
+
+-- where no key below this one has a mutation, what is stored there is what is met first
+pub bare_met : (mutations : List Mutation) (stored : Database) (until : List ℕ)
+    → ((q : List ℕ) → key_lt q until ≡ true → IsBare mutations q) → (pair : Option Entry) → IsFirstMet stored until true None pair
+    → IsFirstMet (seen mutations stored) until true None pair
+bare_met mutations stored until bare pair met =
+    stored_met (seen mutations stored) stored until true None
+    (λ q is_on inside. let here = bare q is_on in seen_readable mutations stored q Unmodified here.readable here.unmodified) pair met

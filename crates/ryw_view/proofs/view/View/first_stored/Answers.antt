@@ -1,0 +1,14 @@
+use Rattle.std.proofs.Common.{false, sym, subst, option_copied, option_map}
+use Rattle.std.specs.Map.Iter.{deref_pair}
+use Rattle.ryw_view.specs.Views.{stored_of}
+use Rattle.ryw_view.specs.Walks.{IsFirstMet}
+use Rattle.ryw_view.proofs.Firsts.{first_met}
+use Rattle.ryw_view.proofs.Segments.{met_inside}
+use Rattle.ryw_view.proofs.view.View.first_stored.Goals as goal
+
+pub returns : goal.returns
+returns c =
+    let database = stored_of c.args.self.now in let from = c.args.from.now in let edge = option_copied c.args.edge in
+    let pair = option_map deref_pair c.in-Ok.pair in
+    subst (IsFirstMet database from false edge) (sym c.inside.ensures)
+    (met_inside database from false edge pair (first_met database from false pair (sym c.in-Ok.ensures.ok.1)))

@@ -1,0 +1,4 @@
+pub mod Walks
+pub mod Segments
+pub mod Faults
+pub mod Views

@@ -1,0 +1,35 @@
+-- What a walk along the keys of a database meets first, up or down.
+use Rattle.std.specs.Prelude.{◌≡◌, ℕ, Bool, true, false, if◌then◌else◌, List, Option, Some, None}
+use Rattle.std.specs.FinMap as finite
+use Rattle.key_bytes.specs.Keys.{key_le, key_lt}
+use Rattle.database_rules.specs.Databases.{Database}
+use Rattle.range_read.specs.Walks.{is_onward}
+
+-- a walk meets the one key before the other
+abbrev pub meets_first : Bool → List ℕ → List ℕ → Bool
+meets_first true key other = key_lt other key
+meets_first false key other = key_lt key other
+
+-- a walk through a segment is still in it at this key: going up it ends below its edge, going down it ends with its edge;
+-- without an edge it does not end
+abbrev pub is_inside : Option (List ℕ) → Bool → List ℕ → Bool
+is_inside None down key = true
+is_inside (Some edge) true key = key_le edge key
+is_inside (Some edge) false key = key_lt key edge
+
+-- the first pair that a walk from a key meets
+pub record MeetsFirst (database : Database) (from : List ℕ) (down : Bool) (pair : List ℕ × List ℕ) : Type 0 where
+  pub onward : is_onward from down pair.0 ≡ true
+  pub there : finite.get database pair.0 ≡ Some pair.1
+  pub gap : (q : List ℕ) → is_onward from down q ≡ true → meets_first down q pair.0 ≡ true → finite.get database q ≡ None
+
+-- the first pair that a walk from a key meets in a segment; None where it meets none there
+abbrev pub IsFirstMet : Database → (from : List ℕ) → (down : Bool) → (edge : Option (List ℕ)) → Option (List ℕ × List ℕ) → Type 0
+IsFirstMet database from down edge None =
+    (q : List ℕ) → is_onward from down q ≡ true → is_inside edge down q ≡ true → finite.get database q ≡ None
+IsFirstMet database from down edge (Some pair) = MeetsFirst database from down pair × (is_inside edge down pair.0 ≡ true)
+
+-- a pair, where its key is in the segment
+abbrev pub inside_of : Option (List ℕ) → Bool → Option (List ℕ × List ℕ) → Option (List ℕ × List ℕ)
+inside_of edge down None = None
+inside_of edge down (Some pair) = if is_inside edge down pair.0 then Some pair else None

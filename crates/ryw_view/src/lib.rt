@@ -1,0 +1,23 @@
+//! The view of a transaction: what its reads see of a database of which nothing was copied.
+//!
+//! A `View` is the pending mutations of a transaction beside a store and a version. It shows the database at that
+//! version after the mutations, those with a versionstamp left out, without the keys that these make unreadable (`seen`
+//! of `database_rules`). `get` answers the value of a key, and tells an unreadable key from one without a value. As an
+//! `OrderedView` it answers the pair from a key on, or below a key, so the reads of `range_read` are read of it.
+//!
+//! The database that it shows is never built. All keys between two edges of the mutations have one state, so a walk asks
+//! the mutations once for each edge on its way: a segment has its own value, or none, or what the store has there.
+#![tactic(auto)]
+
+mod applying;
+mod fault;
+mod stored;
+mod view;
+mod walking;
+
+pub use applying::applied;
+pub use fault::ViewFault;
+pub use view::View;
+
+#[cfg(test)]
+mod tests;

@@ -1,0 +1,77 @@
+//! What is stored at the version of a view.
+
+ghost use Rattle.std.specs.Prelude.{◌≡◌, true, false, None, option_copied, option_map};
+ghost use Rattle.std.specs.FinMap as finite;
+ghost use Rattle.std.specs.Map.Iter.{deref_pair};
+ghost use Rattle.ryw_view.specs.Views.{stored_of};
+ghost use Rattle.ryw_view.specs.Walks.{inside_of, is_inside, IsFirstMet};
+
+use crate::view::View;
+use key_bytes::{Bytes, Key};
+
+impl<'a> View<'a> {
+    /// The value that is stored under a key, if there is one. It takes no memory.
+    pub fn stored(&self, key: &Key) -> Option<&'a [u8]>
+        ensures { option_copied result ≡ finite.get (stored_of self.now) key.now }
+    {
+        let store = self.store;
+        match store.get_at(key, self.version) {
+            Ok(value) => value,
+            Err(_) => unreachable!(),
+        }
+    }
+
+    /// The first stored pair from a key on, up to the edge of a segment. It takes no memory.
+    pub fn first_stored(&self, from: &Key, edge: Option<&Key>) -> Option<(&'a Key, &'a Bytes)>
+        ensures { IsFirstMet (stored_of self.now) from.now false (option_copied edge.entry)
+            (option_map deref_pair result) }
+    {
+        let store = self.store;
+        match store.next_at(from, self.version) {
+            Ok(pair) => inside(pair, edge, false),
+            Err(_) => unreachable!(),
+        }
+    }
+
+    // The last stored pair below a key, down to the edge of a segment. It takes no memory.
+    pub(crate) fn last_stored(
+        &self,
+        until: &Key,
+        edge: Option<&Key>,
+    ) -> Option<(&'a Key, &'a Bytes)>
+        ensures { IsFirstMet (stored_of self.now) until.now true (option_copied edge.entry)
+            (option_map deref_pair result) }
+    {
+        let store = self.store;
+        match store.prev_at(until, self.version) {
+            Ok(pair) => inside(pair, edge, true),
+            Err(_) => unreachable!(),
+        }
+    }
+}
+
+// A pair, where a walk that comes to it is still in the segment with this edge.
+fn inside<'a>(
+    pair: Option<(&'a Key, &'a Bytes)>,
+    edge: Option<&Key>,
+    down: bool,
+) -> Option<(&'a Key, &'a Bytes)>
+    ensures { option_map deref_pair result ≡ inside_of (option_copied edge.entry) down (option_map deref_pair pair.entry) }
+{
+    let (key, value) = pair?;
+    if is_inside(key, edge, down) {
+        Some((key, value))
+    } else {
+        None
+    }
+}
+
+// Whether a walk that comes to a key is still in the segment with this edge.
+fn is_inside(key: &Key, edge: Option<&Key>, down: bool) -> bool
+    ensures { result ≡ is_inside (option_copied edge.entry) down key.now }
+{
+    match edge {
+        None => true,
+        Some(edge) => key.cmp(edge).is_lt() != down,
+    }
+}

@@ -1,0 +1,235 @@
+use super::*;
+use database_rules::{AtomicOp, Mode, Selector};
+use key_bytes::{Bytes, Key, KeyRange, Pair, Pairs};
+use range_read::{OrderedView, RangeFault, all};
+use std::alloc::{AllocError, Global};
+use std::test::Fail;
+use version_store::Store;
+use write_map::WriteMap;
+
+mod beside;
+mod large;
+mod plain;
+
+fn key_of(alloc: Global, text: &[u8]) -> Result<Key, AllocError> {
+    Bytes::from_slice(alloc, text)
+}
+
+fn range_of(alloc: Global, begin: &[u8], end: &[u8]) -> Result<KeyRange, AllocError> {
+    let begin = key_of(alloc, begin)?;
+    let end = key_of(alloc, end)?;
+    Ok(KeyRange { begin, end })
+}
+
+fn pair_of(alloc: Global, key: &[u8], value: &[u8]) -> Result<Pair, AllocError> {
+    let key = key_of(alloc, key)?;
+    let value = key_of(alloc, value)?;
+    Ok(Pair { key, value })
+}
+
+// The view of these mutations at a version, or at the last one where there is no such version.
+#[tactic(auto, unfolding(version_store::specs::Versions::oldest_of))]
+fn view_of<'a>(edits: &'a WriteMap, store: &'a Store, version: u64) -> View<'a> {
+    let version = version.min(store.last());
+    View {
+        edits,
+        store,
+        version,
+    }
+}
+
+// A mutation, as a test writes it.
+#[derive(Clone, Copy)]
+enum Edit {
+    Set(&'static [u8], &'static [u8]),
+    Clear(&'static [u8]),
+    ClearRange(&'static [u8], &'static [u8]),
+    Atomic(AtomicOp, &'static [u8], &'static [u8]),
+    // A value with a versionstamp.
+    StampValue(&'static [u8]),
+    // A key with a versionstamp behind `b`.
+    StampKey,
+}
+
+// The stamped key: `b`, room for the stamp, and its place as 4 bytes.
+const STAMPED: [u8; 15] = [98, 0, 0, 0, 0, 0, 0, 0, 0, 0, 0, 1, 0, 0, 0];
+
+#[tactic(auto, unfolding(key_bytes::specs::Numbers::number_low))]
+fn stamp_key(edits: &mut WriteMap) -> Result<(), AllocError> {
+    edits.stamp(AtomicOp::SetVersionstampedKey, &STAMPED, b"")
+}
+
+#[tactic(auto, unfolding(key_bytes::specs::Numbers::number_low))]
+fn stamp_value(edits: &mut WriteMap, key: &[u8]) -> Result<(), AllocError> {
+    edits.stamp(AtomicOp::SetVersionstampedValue, key, &[0; 14])
+}
+
+fn do_edit(alloc: Global, edits: &mut WriteMap, edit: Edit) -> Result<(), AllocError> {
+    match edit {
+        Edit::Set(key, value) => edits.set(key, value),
+        Edit::Clear(key) => edits.clear(key),
+        Edit::ClearRange(begin, end) => edits.clear_range(&range_of(alloc, begin, end)?),
+        Edit::Atomic(op, _, _) if op.is_versionstamped() => Ok(()),
+        Edit::Atomic(op, key, operand) => edits.atomic(op, key, operand),
+        Edit::StampValue(key) => stamp_value(edits, key),
+        Edit::StampKey => stamp_key(edits),
+    }
+}
+
+fn edits_of(alloc: Global, all: &[Edit]) -> Result<WriteMap, AllocError> {
+    let mut edits = WriteMap::new(alloc);
+    for edit in all {
+        do_edit(alloc, &mut edits, *edit)?;
+    }
+    Ok(edits)
+}
+
+// A key with its value.
+type Given = (&'static [u8], &'static [u8]);
+
+fn store_of(alloc: Global, given: &[Given]) -> Result<Store, AllocError> {
+    let mut pairs = Pairs::new(alloc);
+    for (key, value) in given {
+        pairs.push(pair_of(alloc, key, value)?)?;
+    }
+    Store::load(alloc, pairs)
+}
+
+// ---- what a view answers, beside tables
+
+// What is asked of a view.
+#[derive(Clone, Copy)]
+enum Ask {
+    Get(&'static [u8]),
+    Next(&'static [u8]),
+    Prev(&'static [u8]),
+}
+
+// What it answers: no value or no pair, a value, a pair, or that the key is unreadable.
+#[derive(Clone, Copy)]
+enum Told {
+    Nothing,
+    Value(&'static [u8]),
+    At(&'static [u8], &'static [u8]),
+    Unreadable,
+}
+
+fn is_pair(pair: &Option<Pair>, told: Told) -> bool {
+    match (pair, told) {
+        (None, Told::Nothing) => true,
+        (Some(pair), Told::At(key, value)) => {
+            pair.key.as_slice() == key && pair.value.as_slice() == value
+        }
+        _ => false,
+    }
+}
+
+// What a view has of a key, or None where the key is unreadable.
+fn read(view: &View<'_>, key: &Key) -> Result<Option<Option<Bytes>>, AllocError> {
+    match view.get(key) {
+        Ok(value) => Ok(Some(value)),
+        Err(ViewFault::Unreadable) => Ok(None),
+        Err(ViewFault::NoMemory) => Err(AllocError),
+    }
+}
+
+fn is_value(found: &Option<Option<Bytes>>, told: Told) -> bool {
+    match (found, told) {
+        (None, Told::Unreadable) => true,
+        (Some(None), Told::Nothing) => true,
+        (Some(Some(found)), Told::Value(value)) => found.as_slice() == value,
+        _ => false,
+    }
+}
+
+fn is_told(alloc: Global, view: &View<'_>, ask: Ask, told: Told) -> Result<bool, AllocError> {
+    match ask {
+        Ask::Get(key) => Ok(is_value(&read(view, &key_of(alloc, key)?)?, told)),
+        Ask::Next(key) => Ok(is_pair(&view.next(&key_of(alloc, key)?)?, told)),
+        Ask::Prev(key) => Ok(is_pair(&view.prev(&key_of(alloc, key)?)?, told)),
+    }
+}
+
+// Stored pairs, mutations over them, and what is then answered.
+type Row = (&'static [Given], &'static [Edit], Ask, Told);
+
+const TWO: &[Given] = &[(b"a", &[31]), (b"c", b"3")];
+
+const FOUR: &[Given] = &[
+    (b"a", &[31]),
+    (b"c", b"3"),
+    (b"f", &[255]),
+    (b"g", &[255, 255, 7]),
+];
+
+// One is added to `a`, and `b` to `d` is cleared.
+const ADDED: &[Edit] = &[
+    Edit::Atomic(AtomicOp::Add, b"a", &[1]),
+    Edit::ClearRange(b"b", b"d"),
+];
+
+// A value and keys are stamped, and then set and cleared.
+const HIDDEN: &[Edit] = &[
+    Edit::StampValue(b"c"),
+    Edit::Set(b"c", b"9"),
+    Edit::StampKey,
+    Edit::ClearRange(b"b", b"c"),
+    Edit::Set(b"d", b"4"),
+];
+
+// Two bytes are added to no value, to one byte, to three, and after a clear.
+const ADDS: &[Edit] = &[
+    Edit::Atomic(AtomicOp::Add, b"z", &[1, 0]),
+    Edit::Atomic(AtomicOp::Add, b"f", &[1, 0]),
+    Edit::Atomic(AtomicOp::Add, b"g", &[1, 0]),
+    Edit::Clear(b"a"),
+    Edit::Atomic(AtomicOp::Add, b"a", &[1, 0]),
+];
+
+// An atomic operation that leaves no value.
+const COMPARED: &[Edit] = &[Edit::Atomic(AtomicOp::CompareAndClear, b"c", b"3")];
+
+const ROWS: &[Row] = &[
+    (TWO, ADDED, Ask::Next(b""), Told::At(b"a", &[32])),
+    (TWO, ADDED, Ask::Next(b"b"), Told::Nothing),
+    (TWO, ADDED, Ask::Prev(b"d"), Told::At(b"a", &[32])),
+    (TWO, ADDED, Ask::Get(b"c"), Told::Nothing),
+    (FOUR, ADDED, Ask::Next(b"b"), Told::At(b"f", &[255])),
+    (FOUR, ADDS, Ask::Get(b"z"), Told::Value(&[1, 0])),
+    (FOUR, ADDS, Ask::Get(b"f"), Told::Value(&[0, 1])),
+    (FOUR, ADDS, Ask::Get(b"g"), Told::Value(&[0, 0])),
+    (FOUR, ADDS, Ask::Get(b"a"), Told::Value(&[1, 0])),
+    // behind the last stored key
+    (FOUR, ADDS, Ask::Next(b"h"), Told::At(b"z", &[1, 0])),
+    (FOUR, HIDDEN, Ask::Get(b"c"), Told::Unreadable),
+    (FOUR, HIDDEN, Ask::Get(b"b0123456789"), Told::Unreadable),
+    (FOUR, HIDDEN, Ask::Get(b"b"), Told::Nothing),
+    (FOUR, HIDDEN, Ask::Next(b"b"), Told::At(b"d", b"4")),
+    (FOUR, HIDDEN, Ask::Prev(b"d"), Told::At(b"a", &[31])),
+    (FOUR, COMPARED, Ask::Next(b"b"), Told::At(b"f", &[255])),
+    (FOUR, &[], Ask::Next(b"h"), Told::Nothing),
+    (FOUR, &[], Ask::Prev(b"a"), Told::Nothing),
+];
+
+fn is_row(alloc: Global, row: Row) -> Result<bool, AllocError> {
+    let (stored, edits, ask, told) = row;
+    let store = store_of(alloc, stored)?;
+    let edits = edits_of(alloc, edits)?;
+    is_told(alloc, &view_of(&edits, &store, 1), ask, told)
+}
+
+// The first row that is answered otherwise.
+fn first_wrong(alloc: Global) -> Result<Option<usize>, AllocError> {
+    for (place, row) in ROWS.iter().enumerate() {
+        if !is_row(alloc, *row)? {
+            return Ok(Some(place));
+        }
+    }
+    Ok(None)
+}
+
+#[test]
+fn answers_the_rows(rt: HostRuntime) -> Result<(), Fail> {
+    assert_eq!(rt; first_wrong(rt.alloc())?, None);
+    Ok(())
+}

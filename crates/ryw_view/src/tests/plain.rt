@@ -1,0 +1,150 @@
+//! The view, written plainly: a whole map, to which each mutation is done in turn.
+
+use super::{Edit, key_of, range_of};
+use database_rules::Selector;
+use key_bytes::{Bytes, Key, KeyRange, Pair, Pairs, is_below};
+use key_map::KeyMap;
+use std::alloc::{AllocError, Global};
+
+/// The pairs that are seen, and the keys that can't be read.
+#[derive(Drop)]
+pub struct Plain {
+    alloc: Global,
+    pairs: KeyMap<Bytes>,
+    hidden: Vec<KeyRange>,
+}
+
+impl Plain {
+    /// What is seen of a map without mutations.
+    pub fn new(alloc: Global, pairs: KeyMap<Bytes>) -> Plain {
+        Plain {
+            alloc,
+            pairs,
+            hidden: Vec::new(alloc),
+        }
+    }
+
+    /// Does a mutation to the map.
+    pub fn do_edit(&mut self, edit: Edit) -> Result<(), AllocError> {
+        let alloc = self.alloc;
+        match edit {
+            Edit::Set(key, value) => {
+                self.pairs
+                    .insert(key_of(alloc, key)?, key_of(alloc, value)?)?;
+            }
+            Edit::Clear(key) => {
+                self.pairs.remove(&key_of(alloc, key)?);
+            }
+            Edit::ClearRange(begin, end) => {
+                let range = range_of(alloc, begin, end)?;
+                self.pairs.clear_range(&range.begin, &range.end);
+            }
+            Edit::Atomic(op, key, operand) => {
+                if !op.is_versionstamped() {
+                    let key = key_of(alloc, key)?;
+                    let old = self.pairs.get(&key).map(|value| value.as_slice());
+                    let value = atomic_ops::apply(alloc, op, old, operand)?;
+                    self.put(key, value)?;
+                }
+            }
+            Edit::StampValue(key) => {
+                let key = key_of(alloc, key)?;
+                self.hidden.push(KeyRange::single(alloc, &key)?)?;
+            }
+            Edit::StampKey => {
+                let range = range_of(
+                    alloc,
+                    b"b\0\0\0\0\0\0\0\0\0\0",
+                    b"b\xff\xff\xff\xff\xff\xff\xff\xff\xff\xff\0",
+                )?;
+                self.hidden.push(range)?;
+            }
+        }
+        Ok(())
+    }
+
+    fn put(&mut self, key: Key, value: Option<Bytes>) -> Result<(), AllocError> {
+        match value {
+            Some(value) => {
+                self.pairs.insert(key, value)?;
+            }
+            None => {
+                self.pairs.remove(&key);
+            }
+        }
+        Ok(())
+    }
+
+    /// Takes the keys away that can't be read.
+    pub fn hide(&mut self) {
+        for range in self.hidden.as_slice() {
+            self.pairs.clear_range(&range.begin, &range.end);
+        }
+    }
+
+    /// Whether a key can't be read.
+    pub fn is_hidden(&self, key: &Key) -> bool {
+        self.hidden
+            .as_slice()
+            .iter()
+            .any(|range| range.has(key.as_slice()))
+    }
+
+    /// The pairs that are seen.
+    pub fn pairs(&self) -> &KeyMap<Bytes> {
+        &self.pairs
+    }
+}
+
+/// Whether a key stands before the place of a selector.
+fn stands_before(selector: &Selector, key: &Key) -> bool {
+    if selector.or_equal {
+        !is_below(selector.key.as_slice(), key.as_slice())
+    } else {
+        is_below(key.as_slice(), selector.key.as_slice())
+    }
+}
+
+/// The place of the key that a selector means among these pairs; before the first it is negative.
+pub fn place_of(pairs: &[Pair], selector: &Selector) -> i64 {
+    let before = pairs
+        .iter()
+        .filter(|pair| stands_before(selector, &pair.key))
+        .count();
+    let before = i64::try_from(before).unwrap_or(i64::MAX);
+    before
+        .saturating_sub(1)
+        .saturating_add(i64::from(selector.offset))
+}
+
+/// The key at a place.
+pub fn key_at(pairs: &[Pair], place: i64) -> &[u8] {
+    match usize::try_from(place) {
+        Ok(place) => pairs.get(place).map_or(b"\xff", |pair| pair.key.as_slice()),
+        Err(_) => b"",
+    }
+}
+
+/// A slice of these pairs, by a step for each of them.
+pub fn slice_of(
+    alloc: Global,
+    pairs: &[Pair],
+    range: &KeyRange,
+    limit: u32,
+    reverse: bool,
+) -> Result<Pairs, AllocError> {
+    let mut slice = Pairs::new(alloc);
+    for place in 0..pairs.len() {
+        let place = if reverse {
+            pairs.len() - 1 - place
+        } else {
+            place
+        };
+        let pair = &pairs[place];
+        let is_full = limit != 0 && limit as usize <= slice.len();
+        if range.has(pair.key.as_slice()) && !is_full {
+            slice.push(pair.copy()?)?;
+        }
+    }
+    Ok(slice)
+}

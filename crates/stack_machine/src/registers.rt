@@ -1,0 +1,219 @@
+//! What a machine's instructions work on.
+
+ghost use Rattle.std.specs.Prelude.{◌≡◌, [], ◌∷◌, ◌++◌, IfOk, OnOk};
+ghost use Rattle.fdb_tuple.specs.Listed.{IsElement};
+ghost use Rattle.machine_rules.specs.Operands.{bytes_operand};
+ghost use Rattle.machine_rules.specs.StackOperations.{operated};
+ghost use Rattle.machine_rules.specs.Calls.{call_of, request_in, request_of, awaits_of};
+ghost use Rattle.machine_rules.specs.Machines.{act_of, pushing, does, uses, asks, calls, logs_stack, logs_on};
+ghost use Rattle.machine_rules.specs.Machines.{Does};
+ghost use Rattle.stack_machine.specs.Acts.{act_with};
+ghost use Rattle.stack_machine.specs.Pushes.{PushesAnElement};
+
+use crate::act::{Act, refused};
+use crate::call::{awaits_of, pop_call, pop_request};
+use crate::errors::Errors;
+use fdb_calls::{Request, TxnCall};
+use fdb_tuple::Elem;
+use key_bytes::Bytes;
+use machine_rules::{
+    Awaits, DatabaseOperation, End, ErrorNote, Instruction, Item, Scope, StackOperation,
+    TransactionOperation,
+};
+use stack_items::Stack;
+use std::alloc::{AllocError, Global};
+use std::marker::Model;
+
+/// What an instruction works on. Contracts see the registers of the definitions.
+#[derive(Debug, Drop)]
+pub struct Registers {
+    name: Bytes,
+    stack: Stack,
+    errors: Errors,
+    alloc: Global,
+}
+
+impl Model for Registers {
+    ghost use Rattle.machine_rules.specs.Machines.{Registers as MachineRegisters};
+
+    ghost Value = { MachineRegisters };
+
+    ghost use Rattle.machine_rules.specs.contracts.Item as item;
+    ghost use Rattle.std.specs.Coded.{codes};
+
+    ghost coded = { Prim.hlevel (codes, item.the_row.coded) };
+
+    ghost view = { λ registers. record {
+      name = registers.name;
+      stack = registers.stack;
+      errors = registers.errors;
+    } };
+}
+
+impl Registers {
+    /// The registers as a machine is started: a current name, no item and no error.
+    pub fn new(alloc: Global, name: Bytes) -> Registers
+        ensures { result ≡ record { name = name; stack = []; errors = [] } }
+    {
+        Registers {
+            name,
+            stack: Stack::new(alloc),
+            errors: Errors::new(alloc),
+            alloc,
+        }
+    }
+
+    /// The items. It takes no memory.
+    pub fn stack(&self) -> &Stack
+        ensures { result.now ≡ self.now.stack }
+    {
+        &self.stack
+    }
+
+    /// The errors that were noted, in the order in which they arose. It takes no memory.
+    pub fn errors(&self) -> &Errors
+        ensures { result.now ≡ self.now.errors }
+    {
+        &self.errors
+    }
+
+    /// Runs the instruction of this number, as far as its first request.
+    #[tactic(auto, unfolding(machine_rules::specs::Machines::act_of))]
+    pub fn run(&mut self, number: u64, instruction: Option<Instruction>) -> Result<Act, AllocError>
+        requires { PushesAnElement instruction }
+        ensures { IfOk result (λ act. act_with self.new act ≡ act_of number self.old instruction) }
+    {
+        match instruction {
+            None => Ok(Act::Stops(End::BadInstruction(number))),
+            Some(Instruction::Push(element)) => self.push(number, element),
+            Some(Instruction::OnStack(operation)) => self.operate(number, operation),
+            Some(Instruction::UseTransaction) => self.use_transaction(number),
+            Some(Instruction::OnTransaction(operation)) => self.on_transaction(number, operation),
+            Some(Instruction::OnDatabase(operation, scope)) => {
+                self.on_database(number, operation, scope)
+            }
+            Some(Instruction::LogStack) => self.log_stack(number),
+        }
+    }
+
+    // The instruction of this number pushes an element.
+    pub(crate) fn push(&mut self, number: u64, element: Elem) -> Result<Act, AllocError>
+        requires { IsElement element }
+        ensures { IfOk result (λ act. act_with self.new act ≡ Does (pushing number self.old element)) }
+    {
+        self.stack.put(Item {
+            element,
+            instruction: number,
+        })?;
+        Ok(Act::Does)
+    }
+
+    // The instruction of this number notes a fault by its word.
+    pub(crate) fn note(&mut self, number: u64, word: Bytes) -> Result<(), AllocError>
+        ensures { OnOk result (self.new
+            ≡ record self.old { errors = self.old.errors ++ record { instruction = number; word = word } ∷ [] }) }
+    {
+        self.errors.push(ErrorNote {
+            instruction: number,
+            word,
+        })?;
+        Ok(())
+    }
+
+    // An operation on the stack alone.
+    fn operate(&mut self, number: u64, operation: StackOperation) -> Result<Act, AllocError>
+        ensures { IfOk result (λ act. act_with self.new act ≡ does number self.old (operated operation number self.old.stack)) }
+    {
+        match self.stack.operate(operation, number) {
+            Ok(()) => Ok(Act::Does),
+            Err(fault) => refused(number, fault),
+        }
+    }
+
+    // USE_TRANSACTION pops the name.
+    fn use_transaction(&mut self, number: u64) -> Result<Act, AllocError>
+        ensures { IfOk result (λ act. act_with self.new act ≡ uses number self.old (bytes_operand self.old.stack)) }
+    {
+        match self.stack.pop_bytes() {
+            Ok(name) => {
+                self.name = name;
+                Ok(Act::Does)
+            }
+            Err(fault) => refused(number, fault),
+        }
+    }
+
+    // An operation on the current transaction.
+    fn on_transaction(
+        &mut self,
+        number: u64,
+        operation: TransactionOperation,
+    ) -> Result<Act, AllocError>
+        ensures { IfOk result (λ act. act_with self.new act
+            ≡ asks number self.old (awaits_of operation) (request_of operation self.old.name self.old.stack)) }
+    {
+        let name = self.name.copy()?;
+        match pop_request(&mut self.stack, operation, name) {
+            Ok(request) => Ok(Act::Asks(request, awaits_of(operation))),
+            Err(fault) => refused(number, fault),
+        }
+    }
+
+    // A call of two forms.
+    fn on_database(
+        &mut self,
+        number: u64,
+        operation: DatabaseOperation,
+        scope: Scope,
+    ) -> Result<Act, AllocError>
+        ensures { IfOk result (λ act. act_with self.new act ≡ calls number self.old scope (call_of operation scope self.old.stack)) }
+    {
+        match pop_call(&mut self.stack, self.alloc, operation, scope) {
+            Ok((call, awaits)) => Ok(Act::Asks(self.request_in(scope, call)?, awaits)),
+            Err(fault) => refused(number, fault),
+        }
+    }
+
+    // The request that makes a call in this scope.
+    fn request_in(&self, scope: Scope, call: TxnCall) -> Result<Request, AllocError>
+        ensures { IfOk result (λ request. request ≡ request_in scope self.now.name call) }
+    {
+        match scope {
+            Scope::Transaction => {
+                let name = self.name.copy()?;
+                Ok(Request::On { name, call })
+            }
+            Scope::Database => Ok(Request::Database { call }),
+        }
+    }
+
+    // LOG_STACK pops the prefix, and writes the items under it.
+    fn log_stack(&mut self, number: u64) -> Result<Act, AllocError>
+        ensures { IfOk result (λ act. act_with self.new act ≡ logs_stack number self.old (bytes_operand self.old.stack)) }
+    {
+        match self.stack.pop_bytes() {
+            Ok(prefix) => self.log_on(&prefix),
+            Err(fault) => refused(number, fault),
+        }
+    }
+
+    // LOG_STACK takes the uppermost items and asks that they are written under the prefix, if there are any.
+    pub(crate) fn log_on(&mut self, prefix: &Bytes) -> Result<Act, AllocError>
+        ensures { IfOk result (λ act. act_with self.new act ≡ logs_on self.old.stack self.old prefix.now) }
+    {
+        if self.stack.is_empty() {
+            return Ok(Act::Does);
+        }
+        let entries = self.stack.take_log()?;
+        let request = Request::Log {
+            prefix: prefix.copy()?,
+            entries,
+        };
+        let prefix = prefix.copy()?;
+        Ok(Act::Asks(request, Awaits::Logged { prefix }))
+    }
+    // The allocator.
+    pub(crate) fn alloc(&self) -> Global {
+        self.alloc
+    }
+}

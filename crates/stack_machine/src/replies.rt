@@ -1,0 +1,103 @@
+//! What the reply to a request is used for.
+
+ghost use Rattle.std.specs.Prelude.{◌≡◌, decimal, IfOk};
+ghost use Rattle.machine_rules.specs.Machines.{Does, pushing, failing, error_item, result_not_present, value_or_text};
+ghost use Rattle.machine_rules.specs.Machines.{key_within, packed_pairs, pairs_within, used, use_of};
+ghost use Rattle.stack_machine.specs.Acts.{act_with};
+
+use crate::act::Act;
+use crate::call::prefix_end;
+use crate::errors::{digits_of, error_item};
+use crate::packed::pack_within;
+use crate::registers::Registers;
+use fdb_calls::{Code, Reply};
+use fdb_tuple::Elem;
+use key_bytes::{Bytes, Key, Pairs, is_below};
+use machine_rules::Awaits;
+use std::alloc::{AllocError, Global};
+
+impl Registers {
+    /// Uses the reply to a request, in the instruction of this number. A reply of another kind than the request's changes
+    /// nothing.
+    #[tactic(auto, using(crate::proofs::Within::every_pair_within))]
+    pub fn use_reply(
+        &mut self,
+        number: u64,
+        awaits: &Awaits,
+        reply: &Reply,
+    ) -> Result<Act, AllocError>
+        ensures { IfOk result (λ act. act_with self.new act ≡ used number self.old (use_of awaits.now reply.now)) }
+    {
+        match (awaits, reply) {
+            (_, Reply::Fault(code)) => self.fail(number, *code),
+            (Awaits::NotPresent, Reply::Done) => self.push_not_present(number),
+            (Awaits::Value, Reply::Value(value)) => self.push_value(number, value),
+            (Awaits::Key { prefix }, Reply::KeyIs(key)) => self.push_key(number, prefix, key),
+            (Awaits::Pairs, Reply::PairsAre(pairs)) => self.push_pairs(number, &[], pairs),
+            (Awaits::PairsWithin { prefix }, Reply::PairsAre(pairs)) => {
+                self.push_pairs(number, prefix.as_slice(), pairs)
+            }
+            (Awaits::Logged { prefix }, Reply::Done) => self.log_on(prefix),
+            _ => Ok(Act::Does),
+        }
+    }
+
+    // Notes a fault, and pushes the item that tells of it.
+    fn fail(&mut self, number: u64, code: Code) -> Result<Act, AllocError>
+        ensures { IfOk result (λ act. act_with self.new act ≡ Does (failing number self.old (decimal code.0) (error_item code.0))) }
+    {
+        let item = error_item(self.alloc(), code.0)?;
+        let word = digits_of(self.alloc(), code.0)?;
+        self.note(number, word)?;
+        self.push(number, item)
+    }
+
+    // Pushes the fixed text that stands for no value.
+    fn push_not_present(&mut self, number: u64) -> Result<Act, AllocError>
+        ensures { IfOk result (λ act. act_with self.new act ≡ Does (pushing number self.old result_not_present)) }
+    {
+        let text = Bytes::from_slice(self.alloc(), b"RESULT_NOT_PRESENT")?;
+        self.push(number, Elem::Bytes(text))
+    }
+
+    // Pushes a value, or the fixed text where there is none.
+    fn push_value(&mut self, number: u64, value: &Option<Bytes>) -> Result<Act, AllocError>
+        ensures { IfOk result (λ act. act_with self.new act ≡ Does (pushing number self.old (value_or_text value.now))) }
+    {
+        match value {
+            Some(value) => self.push(number, Elem::Bytes(value.copy()?)),
+            None => self.push_not_present(number),
+        }
+    }
+
+    // Pushes a key as the prefix lets it.
+    fn push_key(&mut self, number: u64, prefix: &Bytes, key: &Key) -> Result<Act, AllocError>
+        ensures { IfOk result (λ act. act_with self.new act ≡ Does (pushing number self.old (Elem.Bytes (key_within prefix.now key.now)))) }
+    {
+        let key = key_within(self.alloc(), prefix, key)?;
+        self.push(number, Elem::Bytes(key))
+    }
+
+    // Pushes the keys and values in turn of the pairs with keys that begin with the prefix, as one packed tuple.
+    fn push_pairs(&mut self, number: u64, prefix: &[u8], pairs: &Pairs) -> Result<Act, AllocError>
+        ensures { IfOk result (λ act. act_with self.new act
+            ≡ Does (pushing number self.old (packed_pairs (pairs_within prefix.now pairs.now)))) }
+    {
+        let packed = pack_within(self.alloc(), prefix, pairs.as_slice())?;
+        self.push(number, Elem::Bytes(packed))
+    }
+}
+
+// The key where it begins with the prefix; else the prefix where the key is less, and the end of the prefix's range where it
+// is greater.
+fn key_within(alloc: Global, prefix: &Bytes, key: &Key) -> Result<Key, AllocError>
+    ensures { IfOk result (λ within. within ≡ key_within prefix.now key.now) }
+{
+    if key.starts_with(prefix.as_slice()) {
+        key.copy()
+    } else if is_below(key.as_slice(), prefix.as_slice()) {
+        prefix.copy()
+    } else {
+        prefix_end(alloc, prefix)
+    }
+}

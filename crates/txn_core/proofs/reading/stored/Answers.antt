@@ -1,6 +1,0 @@
-use Rattle.std.proofs.Common.{arith}
-use Rattle.txn_core.proofs.Stored.{no_fault}
-use Rattle.txn_core.proofs.reading.stored.Goals as goal
-
-pub returns-in-Err : goal.returns-in-Err
-returns-in-Err c = absurd (no_fault _ _ _ (omega arith) c.in-Err.ensures.err)

@@ -1,0 +1,18 @@
+use Rattle.std.proofs.Common.{rules}
+use Rattle.database_rules.specs.Modes.{lacks_limit}
+use Rattle.database_rules.specs.Reads as read
+use Rattle.database_rules.specs.Reads.{answer}
+use Rattle.database_rules.specs.Transactions.{read_code}
+use Rattle.txn_core.proofs.Views.{read_answered_same, read_refused_same}
+use Rattle.txn_core.proofs.txn.Txn.get_range.Goals as goal
+
+pub returns-in-Some : goal.returns-in-Some
+unfolding read_code
+returns-in-Some c setting snapshot keeps t stands =
+    read_refused_same c.in-Some.code c.args.self.now setting t (lacks_limit c.args.manner.mode c.args.manner.limit) snapshot (read.GetRange c.args.begin.now c.args.end.now c.args.manner.limit c.args.manner.reverse) stands (search rules)
+
+pub returns : goal.returns
+unfolding read_code answer
+returns c setting snapshot keeps t stands =
+    read_answered_same (read.PairsAre c.in_ok-pairs.pairs) c.args.self.now _ c.args.store.now setting t (lacks_limit c.args.manner.mode c.args.manner.limit) snapshot (read.GetRange c.args.begin.now c.args.end.now c.args.manner.limit c.args.manner.reverse) stands keeps
+    (search rules) (search rules) (search rules)

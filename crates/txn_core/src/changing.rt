@@ -1,0 +1,113 @@
+//! What the writes of a transaction change, by one walk along the edges of its pending mutations.
+//!
+//! All keys of a segment, from an edge up to the next, have one state. Where that is a value or a list of atomic
+//! operations the segment has one key, and one change; where they have no value each key that is stored there is
+//! removed; else nothing changes. So the keys of the changes rise.
+
+ghost use Rattle.std.specs.Prelude.{◌≡◌, true, false, [], ◌∷◌, ◌++◌, Some, IfOk, OnOk, IsTrue, option_copied};
+ghost use Rattle.std.specs.List.{All};
+ghost use Rattle.database_rules.specs.Databases.{do_all};
+ghost use Rattle.database_rules.specs.KeyByKey.{is_modified_by};
+ghost use Rattle.database_rules.specs.States.{Decided, covers, state_under, unreadable};
+ghost use Rattle.ryw_view.specs.Segments.{IsSegment};
+ghost use Rattle.ryw_view.specs.Views.{stored_of};
+ghost use Rattle.version_store.specs.Changed.{changed, is_above};
+ghost use Rattle.version_store.specs.Versions.{at, last_of};
+ghost use Rattle.txn_core.specs.Changing.{LeadUpTo};
+
+use crate::txn::Txn;
+use key_bytes::{Bytes, Key};
+use ryw_view::{View, applied};
+use std::alloc::AllocError;
+use version_store::{Change, Changes, Store};
+use write_map::KeyState;
+
+// Adds a change of a key above those of all others.
+fn push(changes: &mut Changes, key: &Key, value: Option<Bytes>) -> Result<(), AllocError>
+    requires { IsTrue (is_above changes.old key.now) }
+    ensures { OnOk result (changes.new ≡ changes.old ++ (key.now, value) ∷ []) }
+{
+    let key = key.copy()?;
+    changes.push(Change { key, value })
+}
+
+// Adds the changes of a segment whose keys have no value: each key that is stored there is removed.
+fn clear_stored(
+    changes: &mut Changes,
+    view: &View<'_>,
+    begin: &Key,
+    edge: Option<&Key>,
+) -> Result<(), AllocError>
+    requires segment { IsSegment view.now.edits.now.mutations begin.now begin.now false (option_copied edge) }
+    requires cleared { state_under view.now.edits.now.mutations begin.now ≡ Decided None }
+    requires before { LeadUpTo view.now.edits.now.mutations (stored_of view.now) (Some begin.now) changes.old }
+    ensures { OnOk result (LeadUpTo view.now.edits.now.mutations (stored_of view.now) (option_copied edge.entry) changes.new) }
+{
+    let mut from = begin.copy()?;
+    while let Some((key, _)) = view.first_stored(&from, edge) {
+        push(changes, key, None)?;
+        from = key.after()?;
+    }
+    Ok(())
+}
+
+// Adds the changes of a segment.
+fn add_segment(
+    changes: &mut Changes,
+    view: &View<'_>,
+    begin: &Key,
+    edge: Option<&Key>,
+) -> Result<(), AllocError>
+    requires segment { IsSegment view.now.edits.now.mutations begin.now begin.now false (option_copied edge) }
+    requires readable { covers (unreadable view.now.edits.now.mutations) begin.now ≡ false }
+    requires before { LeadUpTo view.now.edits.now.mutations (stored_of view.now) (Some begin.now) changes.old }
+    ensures { OnOk result (LeadUpTo view.now.edits.now.mutations (stored_of view.now) (option_copied edge.entry) changes.new) }
+{
+    match view.edits.at(begin) {
+        KeyState::Unmodified => Ok(()),
+        KeyState::Decided(None) => clear_stored(changes, view, begin, edge),
+        KeyState::Decided(Some(value)) => {
+            let value = Bytes::from_slice(begin.allocator(), value)?;
+            push(changes, begin, Some(value))
+        }
+        KeyState::Depends(edits) => {
+            let value = applied(begin.allocator(), edits.as_slice(), view.stored(begin))?;
+            push(changes, begin, value)
+        }
+        KeyState::Unreadable => unreachable!(),
+    }
+}
+
+// The changes of all segments from the least key on.
+fn changes_from(view: &View<'_>, least: &Key) -> Result<Changes, AllocError>
+    requires least { least.now ≡ [] }
+    requires readable { unreadable view.now.edits.now.mutations ≡ [] }
+    ensures only { IfOk result (λ changes. All (λ change. is_modified_by view.now.edits.now.mutations change.0 ≡ true) changes) }
+    ensures leads { IfOk result (λ changes. changed changes (stored_of view.now)
+        ≡ do_all view.now.edits.now.mutations (stored_of view.now)) }
+{
+    let mut changes = Changes::new(least.allocator());
+    let mut from = least;
+    while let Some(edge) = view.edits.next_edge(from) {
+        add_segment(&mut changes, view, from, Some(edge))?;
+        from = edge;
+    }
+    add_segment(&mut changes, view, from, None)?;
+    Ok(changes)
+}
+
+impl Txn {
+    // What leads from the map at the last version to that map after the writes. It names only keys that a write touches.
+    pub(crate) fn changes(&self, store: &Store) -> Result<Changes, AllocError>
+        ensures only { IfOk result (λ changes. All (λ change. is_modified_by self.now.mutations change.0 ≡ true) changes) }
+        ensures leads { IfOk result (λ changes. changed changes (at store.now (last_of store.now))
+            ≡ do_all self.now.mutations (at store.now (last_of store.now))) }
+    {
+        let view = View {
+            edits: &self.edits,
+            store,
+            version: store.last(),
+        };
+        changes_from(&view, &Bytes::new(self.allocator()))
+    }
+}

@@ -1,0 +1,75 @@
+-- Two keys are made edges: no key has anything else.
+use Rattle.std.proofs.Common.{◌≡◌, ℕ, Bool, true, false, cond, List, Some, None, refl, sym, ap, ◌∙◌, true≢false}
+use Rattle.key_bytes.specs.Keys.{after}
+use Rattle.edge_map.specs.Edges.{Edges, held, is_edge, without_edge}
+use Rattle.edge_map.proofs.Edged.{edge_made, edge_kept, base-with_edge, without_new, with_edge-there}
+use Rattle.edge_map.proofs.Held.{held-with_edge}
+use Rattle.write_map.specs.declared.level.Level.{Level}
+use Rattle.write_map.specs.declared.level.State.{State}
+use Rattle.write_map.specs.declared.level.State.TheVariants as kept
+use Rattle.write_map.specs.Pending.{is_single_state}
+use Rattle.write_map.specs.Levels.{state_of, spread_state, spread, split_at, AreSingle}
+
+-- what is of more keys than one is what it leaves for a new edge
+spread_shared : (level : Level) → is_single_state (state_of level.state) ≡ false → spread level ≡ level
+spread_shared level shared = ap (λ (state : State). record level { state = state }) (same level.state shared)
+  where
+    same : (state : State) → is_single_state (state_of state) ≡ false → spread_state state ≡ state
+    same kept.Unmodified shared = refl
+    same (kept.Decided None) shared = refl
+    same (kept.Decided (Some value)) shared = absurd (true≢false shared)
+    same (kept.Depends edits) shared = absurd (true≢false shared)
+
+-- a state of one key alone lies at an edge
+shared_between : (levels : Edges Level) → AreSingle levels → (key : List ℕ) → is_edge key levels ≡ false
+    → is_single_state (state_of (held levels key).state) ≡ false
+shared_between levels single key new =
+    elim (is_single_state (state_of (held levels key).state))
+    as (λ t. is_single_state (state_of (held levels key).state) ≡ t → t ≡ false) [
+      | true ↦ λ is. absurd (true≢false (sym (single key is).0 ∙ new))
+      | false ↦ λ _. refl
+    ] refl
+
+-- levels with two more edges at most, that give each key what it had
+pub record IsSplit (begin end : List ℕ) (old new : Edges Level) : Type 0 where
+  pub base : new.base ≡ old.base
+  pub same : (key : List ℕ) → held new key ≡ held old key
+  pub kept : (key : List ℕ) → is_edge key old ≡ true → is_edge key new ≡ true
+  pub begins : is_edge begin new ≡ true
+  pub ends : is_edge end new ≡ true
+
+split_same : (key : List ℕ) (levels : Edges Level) → AreSingle levels → (k : List ℕ) → held (split_at key levels) k ≡ held levels k
+split_same key levels single k =
+    held-with_edge key (spread (held levels key)) levels k (λ new. spread_shared (held levels key) (shared_between levels single key new))
+
+split_kept : (q key : List ℕ) (levels : Edges Level) → is_edge q levels ≡ true → is_edge q (split_at key levels) ≡ true
+split_kept q key levels = edge_kept q key (spread (held levels key)) levels
+
+split_single : (key : List ℕ) (levels : Edges Level) → AreSingle levels → AreSingle (split_at key levels)
+split_single key levels single k is =
+    let edges = single k (sym (ap (λ level. is_single_state (state_of level.state)) (split_same key levels single k)) ∙ is) in
+    (split_kept k key levels edges.0, split_kept (after k) key levels edges.1)
+
+pub is_split : (begin end : List ℕ) (old new : Edges Level) → AreSingle old → new ≡ split_at end (split_at begin old)
+    → IsSplit begin end old new
+is_split begin end old new single is =
+    let half = split_at begin old in
+    let half_single = split_single begin old single in
+    record {
+      base =
+          ap (λ levels. levels.base) is
+          ∙ base-with_edge end (spread (held half end)) half ∙ base-with_edge begin (spread (held old begin)) old;
+      same = λ k. ap (λ levels. held levels k) is ∙ split_same end half half_single k ∙ split_same begin old single k;
+      kept = λ q there. ap (is_edge q) is ∙ split_kept q end half (split_kept q begin old there);
+      begins = ap (is_edge begin) is ∙ split_kept begin end half (edge_made begin (spread (held old begin)) old);
+      ends = ap (is_edge end) is ∙ edge_made end (spread (held half end)) half;
+    }
+
+-- a key that was made an edge is none again
+pub joined : (key : List ℕ) (old : Edges Level)
+    → cond (is_edge key old) (split_at key old) (without_edge key (split_at key old)) ≡ old
+joined key old = by_edge (is_edge key old) refl
+  where
+    by_edge : (t : Bool) → is_edge key old ≡ t → cond t (split_at key old) (without_edge key (split_at key old)) ≡ old
+    by_edge true there = with_edge-there key (spread (held old key)) old there
+    by_edge false new = without_new key (spread (held old key)) old new

@@ -1,0 +1,5 @@
+pub mod Mutations
+pub mod Pending
+pub mod Edits
+pub mod Levels
+pub mod Answers

@@ -1,0 +1,106 @@
+//! Changes of the levels.
+
+ghost use Rattle.std.specs.Prelude.{◌≡◌, true, if◌then◌else◌, IsTrue, OnOk, OnErr};
+ghost use Rattle.std.specs.BTreeMap.{is_at};
+ghost use Rattle.std.specs.List.Sorted.{IsStrictlySortedBy};
+ghost use Rattle.key_bytes.specs.Keys.{key_cmp};
+ghost use Rattle.edge_map.specs.Edges.{changed, edges_of, held, is_edge, without_edge};
+ghost use Rattle.write_map.specs.Levels.{cleared, hidden, is_list, split_at, with_state, IsEdited};
+
+use crate::edits::AtomicEdit;
+use crate::level::{Level, State};
+use edge_map::{Change, EdgeMap};
+use key_bytes::Key;
+use std::alloc::AllocError;
+
+// The keys have no value from then on.
+pub(crate) struct ClearKeys;
+
+impl Change<Level> for ClearKeys {
+    ghost use Rattle.write_map.specs.Levels.{cleared};
+
+    ghost changed = { λ _ level. cleared level };
+
+    fn change(&self, level: &mut Level) {
+        level.state = State::Decided(None);
+    }
+}
+
+// The keys are unreadable from then on.
+pub(crate) struct HideKeys;
+
+impl Change<Level> for HideKeys {
+    ghost use Rattle.write_map.specs.Levels.{hidden};
+
+    ghost changed = { λ _ level. hidden level };
+
+    fn change(&self, level: &mut Level) {
+        level.is_unreadable = true;
+    }
+}
+
+// Takes an edge away again that was none before.
+fn join(levels: &mut EdgeMap<Level>, key: &Key, was_edge: bool)
+    ensures { levels.new ≡ (if was_edge then levels.old else without_edge key.now levels.old) }
+{
+    if !was_edge {
+        levels.remove_edge(key);
+    }
+}
+
+// Makes two keys edges. After a refusal the levels are as they were.
+pub(crate) fn split_both(
+    levels: &mut EdgeMap<Level>,
+    begin: &Key,
+    end: &Key,
+) -> Result<(), AllocError>
+    ensures ok { OnOk result (levels.new ≡ split_at end.now (split_at begin.now levels.old)) }
+    ensures err { OnErr result (levels.new ≡ levels.old) }
+    ensures rising { OnOk result (IsStrictlySortedBy key_cmp (edges_of levels.new)) }
+{
+    let was_edge = levels.has_edge(begin);
+    levels.split(begin)?;
+    match levels.split(end) {
+        Ok(()) => {
+            levels.shows_rising();
+            Ok(())
+        }
+        Err(error) => {
+            join(levels, begin, was_edge);
+            Err(error)
+        }
+    }
+}
+
+// Gives an edge another state.
+pub(crate) fn set_state(levels: &mut EdgeMap<Level>, key: &Key, state: State)
+    requires { IsTrue (is_edge key.now levels.old) }
+    ensures { levels.new
+        ≡ changed (is_at (key_cmp key.now)) (λ _. with_state state (held levels.old key.now)) levels.old }
+{
+    let is_unreadable = levels.at(key).is_unreadable;
+    let level = Level {
+        state,
+        is_unreadable,
+    };
+    let _before = levels.replace(key, level);
+}
+
+// Adds an operation to the list of operations that an edge has. After a refusal the levels are as they were.
+pub(crate) fn push_edit(
+    levels: &mut EdgeMap<Level>,
+    key: &Key,
+    edit: AtomicEdit,
+) -> Result<(), AllocError>
+    requires edge { IsTrue (is_edge key.now levels.old) }
+    requires list { is_list (held levels.old key.now).state ≡ true }
+    ensures ok { OnOk result (IsEdited key.now edit.op edit.operand levels.old levels.new) }
+    ensures err { OnErr result (levels.new ≡ levels.old) }
+    ensures rising { IsStrictlySortedBy key_cmp (edges_of levels.old) }
+{
+    levels.shows_rising();
+    let mut level = levels.replace(key, Level::bare());
+    let result = level.push(edit);
+    let _bare = levels.replace(key, level);
+    result
+}

@@ -1,0 +1,246 @@
+//! The pending mutations of a transaction.
+
+ghost use Rattle.std.specs.Prelude.{◌≡◌, ℕ, Bool, true, false, List, [], ◌∷◌, ◌++◌, None, length, nat_lt, OnOk, OnErr, IfSome};
+ghost use Rattle.std.specs.List.{filter};
+ghost use Rattle.std.specs.Option.{option_map};
+ghost use Rattle.key_bytes.specs.Keys.{after, key_le, key_lt};
+ghost use Rattle.key_map.specs.Ends.{first, last};
+ghost use Rattle.database_rules.specs.Atomics.{is_versionstamped};
+ghost use Rattle.database_rules.specs.Databases as rules;
+ghost use Rattle.database_rules.specs.States.{state_after, state_under, has_room, stamped_bytes, unreadable_by};
+ghost use Rattle.write_map.specs.Levels.{state_of};
+ghost use Rattle.write_map.specs.Mutations.{mutation_of, mutations_of};
+ghost use Rattle.write_map.specs.Pending.{AreAlike, IsBare, IsBelowEdge, IsDepends, IsOn, is_single_state};
+ghost use Rattle.write_map.specs.Answers.{IsStateUnder};
+
+use crate::changing::{ClearKeys, HideKeys, push_edit, set_state, split_both};
+use crate::edits::AtomicEdit;
+use crate::level::{Level, State};
+use crate::mutation::Mutation;
+use crate::stamping::hidden_keys;
+use crate::state::KeyState;
+use database_rules::AtomicOp;
+use edge_map::EdgeMap;
+use key_bytes::{Bytes, Key, KeyRange};
+use std::alloc::{AllocError, Global};
+use std::marker::Model;
+
+/// The pending mutations of a transaction. Contracts see the list of them in their order, and the edges between which all
+/// keys are alike.
+#[derive(Drop)]
+pub struct WriteMap {
+    alloc: Global,
+    levels: EdgeMap<Level>,
+    log: Vec<Mutation>,
+}
+
+impl Model for WriteMap {
+    ghost use Rattle.edge_map.specs.Edges.{edges_of};
+    ghost use Rattle.write_map.specs.Pending.{Pending};
+    ghost use Rattle.write_map.specs.Mutations.{mutations_of};
+    ghost use Rattle.write_map.specs.Levels.{AreLevels};
+
+    ghost Value = { Pending };
+
+    ghost view = { λ map. record { mutations = mutations_of map.log.items; edges = edges_of map.levels } };
+
+    ghost invariant = { λ map. AreLevels (mutations_of map.log.items) map.levels };
+}
+
+impl WriteMap {
+    /// No mutation. It takes no memory, and keeps the allocator for what is added later.
+    pub fn new(alloc: Global) -> WriteMap
+        ensures { result ≡ record { mutations = []; edges = [] } }
+    {
+        WriteMap {
+            alloc,
+            levels: EdgeMap::new(alloc, Level::bare()),
+            log: Vec::new(alloc),
+        }
+    }
+
+    /// The allocator that this map was made with. It takes no memory.
+    pub fn allocator(&self) -> Global {
+        self.alloc
+    }
+
+    /// Whether there is no mutation. It takes no memory.
+    pub fn is_empty(&self) -> bool
+        ensures { result ≡ nat_lt (length self.now.mutations) 1 }
+    {
+        self.log.len() < 1
+    }
+
+    /// The mutations, in their order. It takes no memory.
+    pub fn mutations(&self) -> &[Mutation]
+        ensures { mutations_of result.now ≡ self.now.mutations }
+    {
+        self.log.as_slice()
+    }
+
+    /// What the mutations make of a key. It takes no memory (API reference, "fdb_transaction_get" and
+    /// "fdb_transaction_atomic_op", on what a transaction reads of its own writes).
+    pub fn at(&self, key: &Key) -> KeyState<'_>
+        ensures { IsStateUnder self.now.mutations key.now result }
+    {
+        self.levels.at(key).shown()
+    }
+
+    /// The first edge above a key: up to it all keys from this one on are alike. None where all keys from this one on are.
+    /// It takes no memory.
+    pub fn next_edge(&self, key: &Key) -> Option<&Key>
+        ensures edge { option_map (λ edge. edge.now) result
+            ≡ first (filter (key_lt key.now) self.now.edges) }
+        ensures alike { (asked : List ℕ) → key_le key.now asked ≡ true
+            → IsBelowEdge asked (option_map (λ edge. edge.now) result)
+            → AreAlike self.now.mutations key.now asked }
+        ensures single { is_single_state (state_under self.now.mutations key.now) ≡ true
+            → option_map (λ edge. edge.now) result ≡ Some (after key.now) }
+    {
+        self.levels.shows_rising();
+        self.levels.next(key)
+    }
+
+    /// The last edge below a key: from it on all keys below this one are alike. None where no key below this one has a
+    /// mutation. It takes no memory.
+    pub fn prev_edge(&self, key: &Key) -> Option<&Key>
+        ensures edge { option_map (λ edge. edge.now) result
+            ≡ last (filter (λ edge. key_lt edge key.now) self.now.edges) }
+        ensures alike { IfSome result (λ edge. (asked : List ℕ) → key_le edge.now asked ≡ true
+            → key_lt asked key.now ≡ true → AreAlike self.now.mutations edge.now asked) }
+        ensures bare { result ≡ None → (asked : List ℕ) → key_lt asked key.now ≡ true
+            → IsBare self.now.mutations asked }
+        ensures single { IfSome result (λ edge.
+            is_single_state (state_under self.now.mutations edge.now) ≡ true
+            → key_le key.now (after edge.now) ≡ true) }
+    {
+        self.levels.shows_rising();
+        self.levels.prev(key)
+    }
+
+    // Adds a mutation of one key, after which it has this state. After a refusal the map is as it was.
+    fn put(&mut self, mutation: Mutation, key: &Key, state: State) -> Result<(), AllocError>
+        requires one { IsOn key.now (mutation_of mutation) }
+        requires state { state_of state ≡ state_after (mutation_of mutation) key.now (state_under self.old.mutations key.now) }
+        ensures added { OnOk result (self.new.mutations
+            ≡ self.old.mutations ++ mutation_of mutation ∷ []) }
+        ensures unchanged { OnErr result (self.new ≡ self.old) }
+    {
+        let end = key.after()?;
+        self.log.reserve(1)?;
+        split_both(&mut self.levels, key, &end)?;
+        set_state(&mut self.levels, key, state);
+        self.log.push(mutation).unwrap();
+        Ok(())
+    }
+
+    /// Sets a key to a value: one mutation more. After a refusal the map is as it was (API reference,
+    /// "fdb_transaction_set").
+    pub fn set(&mut self, key: &[u8], value: &[u8]) -> Result<(), AllocError>
+        ensures added { OnOk result (self.new.mutations
+            ≡ self.old.mutations ++ rules.Set key.now value.now ∷ []) }
+        ensures unchanged { OnErr result (self.new ≡ self.old) }
+    {
+        let key = Bytes::from_slice(self.alloc, key)?;
+        let value = Bytes::from_slice(self.alloc, value)?;
+        let state = State::Decided(Some(value.copy()?));
+        let own = key.copy()?;
+        self.put(Mutation::Set { key: own, value }, &key, state)
+    }
+
+    /// Clears a key: one mutation more. After a refusal the map is as it was (API reference, "fdb_transaction_clear").
+    pub fn clear(&mut self, key: &[u8]) -> Result<(), AllocError>
+        ensures added { OnOk result (self.new.mutations
+            ≡ self.old.mutations ++ rules.Clear key.now ∷ []) }
+        ensures unchanged { OnErr result (self.new ≡ self.old) }
+    {
+        let key = Bytes::from_slice(self.alloc, key)?;
+        let own = key.copy()?;
+        self.put(Mutation::Clear { key: own }, &key, State::Decided(None))
+    }
+
+    /// Clears the keys of a range: one mutation more. It searches the edges once for each end, and writes once for each edge
+    /// in the range. After a refusal the map is as it was (API reference, "fdb_transaction_clear_range").
+    pub fn clear_range(&mut self, range: &KeyRange) -> Result<(), AllocError>
+        ensures added { OnOk result (self.new.mutations
+            ≡ self.old.mutations ++ rules.ClearRange range.now.begin range.now.end ∷ []) }
+        ensures unchanged { OnErr result (self.new ≡ self.old) }
+    {
+        let begin = range.begin.copy()?;
+        let end = range.end.copy()?;
+        self.log.reserve(1)?;
+        split_both(&mut self.levels, &begin, &end)?;
+        self.levels.change(&begin, &end, &ClearKeys);
+        let range = KeyRange { begin, end };
+        self.log.push(Mutation::ClearRange { range }).unwrap();
+        Ok(())
+    }
+
+    // Adds an atomic operation on a key that has a list of them. After a refusal the map is as it was.
+    fn put_edit(
+        &mut self,
+        mutation: Mutation,
+        key: &Key,
+        edit: AtomicEdit,
+    ) -> Result<(), AllocError>
+        requires atomic { mutation_of mutation ≡ rules.Atomic edit.op key.now edit.operand }
+        requires plain { is_versionstamped edit.op ≡ false }
+        requires list { IsDepends (state_under self.old.mutations key.now) }
+        ensures added { OnOk result (self.new.mutations
+            ≡ self.old.mutations ++ mutation_of mutation ∷ []) }
+        ensures unchanged { OnErr result (self.new ≡ self.old) }
+    {
+        self.log.reserve(1)?;
+        push_edit(&mut self.levels, key, edit)?;
+        self.log.push(mutation).unwrap();
+        Ok(())
+    }
+
+    /// An atomic operation on the value of a key, without a versionstamp: one mutation more. After a refusal the map is as
+    /// it was (API reference, "fdb_transaction_atomic_op").
+    pub fn atomic(&mut self, op: AtomicOp, key: &[u8], operand: &[u8]) -> Result<(), AllocError>
+        requires { is_versionstamped op ≡ false }
+        ensures added { OnOk result (self.new.mutations
+            ≡ self.old.mutations ++ rules.Atomic op key.now operand.now ∷ []) }
+        ensures unchanged { OnErr result (self.new ≡ self.old) }
+    {
+        let key = Bytes::from_slice(self.alloc, key)?;
+        let operand = Bytes::from_slice(self.alloc, operand)?;
+        let mutation = Mutation::atomic(op, &key, &operand)?;
+        match self.levels.at(&key).state.made(self.alloc, op, &operand)? {
+            Some(state) => self.put(mutation, &key, state),
+            None => self.put_edit(mutation, &key, AtomicEdit { op, operand }),
+        }
+    }
+
+    // Adds a mutation that makes the keys of a range unreadable. After a refusal the map is as it was.
+    fn hide(&mut self, mutation: Mutation, keys: &KeyRange) -> Result<(), AllocError>
+        requires { unreadable_by (mutation_of mutation) ≡ keys.now ∷ [] }
+        ensures added { OnOk result (self.new.mutations
+            ≡ self.old.mutations ++ mutation_of mutation ∷ []) }
+        ensures unchanged { OnErr result (self.new ≡ self.old) }
+    {
+        self.log.reserve(1)?;
+        split_both(&mut self.levels, &keys.begin, &keys.end)?;
+        self.levels.change(&keys.begin, &keys.end, &HideKeys);
+        self.log.push(mutation).unwrap();
+        Ok(())
+    }
+
+    /// An atomic operation with a versionstamp: one mutation more. From then on the key that gets a stamped value is
+    /// unreadable, or each key that a stamped key may become. After a refusal the map is as it was (API reference,
+    /// "fdb_transaction_atomic_op").
+    pub fn stamp(&mut self, op: AtomicOp, key: &[u8], operand: &[u8]) -> Result<(), AllocError>
+        requires stamped { is_versionstamped op ≡ true }
+        requires room { has_room (stamped_bytes op key.now operand.now) ≡ true }
+        ensures added { OnOk result (self.new.mutations
+            ≡ self.old.mutations ++ rules.Atomic op key.now operand.now ∷ []) }
+        ensures unchanged { OnErr result (self.new ≡ self.old) }
+    {
+        let key = Bytes::from_slice(self.alloc, key)?;
+        let operand = Bytes::from_slice(self.alloc, operand)?;
+        let mutation = Mutation::atomic(op, &key, &operand)?;
+        let keys = hidden_keys(self.alloc, op, &key, &operand)?;
+        self.hide(mutation, &keys)
+    }
+}
