@@ -15,6 +15,8 @@ use std::process::ExitCode;
 use std::rc::Rc;
 use std::{env, str};
 
+mod ranges;
+
 /// The statuses of the program; a stop at another operation has that of a bad input.
 const ENDED: u8 = 0;
 const BAD_WORDS: u8 = 1;
@@ -563,6 +565,8 @@ enum Instruction {
     Push(Element),
     Set,
     Get,
+    GetRange,
+    Pop,
     Clear,
     Commit,
     Reset,
@@ -593,6 +597,8 @@ fn instruction_of(value: &[u8]) -> Result<Instruction, End> {
         (_, Some(element)) => Ok(Instruction::Push(element)),
         (b"SET", None) => Ok(Instruction::Set),
         (b"GET", None) => Ok(Instruction::Get),
+        (b"GET_RANGE", None) => Ok(Instruction::GetRange),
+        (b"POP", None) => Ok(Instruction::Pop),
         (b"CLEAR", None) => Ok(Instruction::Clear),
         (b"COMMIT", None) => Ok(Instruction::Commit),
         (b"RESET", None) => Ok(Instruction::Reset),
@@ -659,6 +665,15 @@ impl Machine {
                 let reply = transaction.get(&self.database, &key);
                 self.answer(reply.map(|value| Some(value.unwrap_or_else(|| NOT_PRESENT.into()))));
             }
+            Instruction::GetRange => {
+                let range = self.pop_range()?;
+                let transaction = self.transactions.entry(self.name.clone()).or_default();
+                let reply = transaction.get_range(&self.database, &range);
+                self.answer(reply.map(Some));
+            }
+            Instruction::Pop => {
+                self.pop()?;
+            }
             Instruction::Clear => {
                 let key = self.pop_bytes()?;
                 let reply = self.transaction().clear(key);
@@ -700,6 +715,13 @@ impl Machine {
     fn pop_bytes(&mut self) -> Result<Bytes, End> {
         match self.pop()? {
             Element::Bytes(bytes) | Element::Text(bytes) => Ok(bytes),
+            _ => Err(End::BadInstruction),
+        }
+    }
+
+    fn pop_number(&mut self) -> Result<usize, End> {
+        match self.pop()? {
+            Element::Int(number) => usize::try_from(number).map_err(|_| End::BadInstruction),
             _ => Err(End::BadInstruction),
         }
     }

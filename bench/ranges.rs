@@ -1,0 +1,95 @@
+//! Reads of a range, as an ordinary program does them: two ordered maps are walked side by side.
+
+use super::{Bytes, Database, End, Machine, Transaction, KEY_OUTSIDE_LEGAL_RANGE, TOP, USED_DURING_COMMIT};
+use std::iter::Peekable;
+
+/// What GET_RANGE pops; the mode is one with a limit.
+pub struct Range {
+    begin: Bytes,
+    end: Bytes,
+    limit: usize,
+    reverse: bool,
+}
+
+impl Machine {
+    pub fn pop_range(&mut self) -> Result<Range, End> {
+        let (begin, end) = (self.pop_bytes()?, self.pop_bytes()?);
+        let (limit, reverse, _mode) = (self.pop_number()?, self.pop_number()? != 0, self.pop_number()?);
+        Ok(Range { begin, end, limit, reverse })
+    }
+}
+
+impl Transaction {
+    /// The packed keys and values of a range in turn.
+    pub fn get_range(&mut self, database: &Database, range: &Range) -> Result<Bytes, u16> {
+        if self.is_tried {
+            return Err(USED_DURING_COMMIT);
+        }
+        if *range.begin > *TOP || *range.end > *TOP {
+            return Err(KEY_OUTSIDE_LEGAL_RANGE);
+        }
+        let version = *self.version.get_or_insert(database.last);
+        let mut packed = Vec::new();
+        for (key, value) in read(database, version, self, range) {
+            super::put_string(&mut packed, 0x01, &key);
+            super::put_string(&mut packed, 0x01, &value);
+        }
+        Ok(packed.as_slice().into())
+    }
+}
+
+/// The pairs of a range that a transaction sees, up to its limit, or all where it is 0, in order or reversed.
+fn read(database: &Database, version: u64, transaction: &Transaction, range: &Range) -> Vec<(Bytes, Bytes)> {
+    let Range { begin, end, limit, reverse } = range;
+    let (limit, reverse) = (*limit, *reverse);
+    if begin >= end {
+        return Vec::new();
+    }
+    let stored = database.entries.range::<Bytes, _>(begin..end);
+    let stored = stored.filter_map(|(key, value)| Some((key, value.at(version)?)));
+    let written = transaction.writes.range::<Bytes, _>(begin..end);
+    let limit = if limit == 0 { usize::MAX } else { limit };
+    let copied = |(key, value): (&Bytes, &Bytes)| (key.clone(), value.clone());
+    if reverse {
+        let merged = Merged { stored: stored.rev().peekable(), written: written.rev().peekable(), reverse };
+        merged.take(limit).map(copied).collect()
+    } else {
+        let merged = Merged { stored: stored.peekable(), written: written.peekable(), reverse };
+        merged.take(limit).map(copied).collect()
+    }
+}
+
+/// What two walks meet: where both have a key, what was written counts.
+struct Merged<S: Iterator, W: Iterator> {
+    stored: Peekable<S>,
+    written: Peekable<W>,
+    reverse: bool,
+}
+
+impl<'a, S, W> Iterator for Merged<S, W>
+where
+    S: Iterator<Item = (&'a Bytes, &'a Bytes)>,
+    W: Iterator<Item = (&'a Bytes, &'a Option<Bytes>)>,
+{
+    type Item = (&'a Bytes, &'a Bytes);
+
+    fn next(&mut self) -> Option<Self::Item> {
+        loop {
+            let order = match (self.stored.peek(), self.written.peek()) {
+                (_, None) => return self.stored.next(),
+                (None, Some(_)) => std::cmp::Ordering::Greater,
+                (Some((stored, _)), Some((written, _))) => stored.cmp(written),
+            };
+            let is_stored_first = if self.reverse { order.is_gt() } else { order.is_lt() };
+            if is_stored_first && self.stored.peek().is_some() {
+                return self.stored.next();
+            }
+            if order.is_eq() {
+                self.stored.next();
+            }
+            if let Some((key, Some(value))) = self.written.next() {
+                return Some((key, value));
+            }
+        }
+    }
+}
