@@ -1,3 +1,4 @@
 pub mod Little
 pub mod Fitted
 pub mod Bytewise
+pub mod Stamps

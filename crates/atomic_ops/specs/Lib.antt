@@ -1,1 +1,2 @@
 pub mod Joinings
+pub mod Faults

@@ -1,4 +1,5 @@
-//! Atomic operations on values: which operation a name is, and what each makes of an old value and its operand.
+//! Atomic operations on values: which operation a name is, what each makes of an old value and its operand, and what a
+//! versionstamp makes of the bytes that it is filled into.
 //!
 //! `from_name` and `apply` answer what `database_rules` defines (`specs/Atomics.antt`: `atomic_named` and `atom`).
 //! There numbers are numbers; here they are bytes, the lowest first, and no number is ever built: a sum goes up
@@ -7,13 +8,17 @@
 
 mod applying;
 mod bits;
+mod fault;
 mod fitting;
 mod names;
 mod numbers;
+mod stamping;
 
 pub use applying::apply;
 pub use database_rules::AtomicOp;
+pub use fault::StampFault;
 pub use names::from_name;
+pub use stamping::{has_room, resolve_stamp, stamped};
 
 #[cfg(test)]
 mod tests;

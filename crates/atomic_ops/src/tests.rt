@@ -269,3 +269,62 @@ fn sums_of_numbers(rt: HostRuntime) -> Result<(), Fail> {
     }
     Ok(())
 }
+
+// ---- versionstamps
+
+const STAMP: [u8; 10] = [1, 2, 3, 4, 5, 6, 7, 8, 9, 10];
+
+// Bytes, and what the stamp makes of them; None where they have no room for it.
+const STAMPED: [(&[u8], Option<&[u8]>); 9] = [
+    (
+        b"\0\0\0\0\0\0\0\0\0\0\0\0\0\0",
+        Some(b"\x01\x02\x03\x04\x05\x06\x07\x08\x09\x0A"),
+    ),
+    (b"\0\0\0\0\0\0\0\0\0\0\x01\0\0\0", None),
+    (
+        b"ab0123456789cd\x02\0\0\0",
+        Some(b"ab\x01\x02\x03\x04\x05\x06\x07\x08\x09\x0Acd"),
+    ),
+    (
+        b"a0123456789\x01\0\0\0",
+        Some(b"a\x01\x02\x03\x04\x05\x06\x07\x08\x09\x0A"),
+    ),
+    (b"a0123456789\x02\0\0\0", None),
+    (b"a0123456789\x01\x01\0\0", None),
+    (b"a0123456789\0\0\0\x01", None),
+    (b"\0\0\0", None),
+    (b"", None),
+];
+
+// What the stamp makes of bytes; None where they have no room for it.
+fn resolved(alloc: Global, bytes: &[u8]) -> Result<Option<Bytes>, AllocError> {
+    match resolve_stamp(alloc, bytes, &STAMP) {
+        Ok(filled) => Ok(Some(filled)),
+        Err(StampFault::NoRoom) => Ok(None),
+        Err(StampFault::NoMemory) => Err(AllocError),
+    }
+}
+
+fn is_stamped(alloc: Global, bytes: &[u8], wanted: Option<&[u8]>) -> Result<bool, AllocError> {
+    let filled = resolved(alloc, bytes)?;
+    Ok(
+        has_room(bytes) == wanted.is_some()
+            && filled.as_ref().map(|filled| filled.as_slice()) == wanted,
+    )
+}
+
+// The first row that is answered otherwise.
+fn first_unlike(alloc: Global) -> Result<Option<usize>, AllocError> {
+    for (place, (bytes, wanted)) in STAMPED.iter().enumerate() {
+        if !is_stamped(alloc, bytes, *wanted)? {
+            return Ok(Some(place));
+        }
+    }
+    Ok(None)
+}
+
+#[test]
+fn stamps(rt: HostRuntime) -> Result<(), Fail> {
+    assert_eq!(rt; first_unlike(rt.alloc())?, None);
+    Ok(())
+}

@@ -6,5 +6,6 @@ pub mod Selecting
 pub mod Slices
 pub mod Modes
 pub mod Reads
+pub mod Intervals
 pub mod Histories
 pub mod Transactions

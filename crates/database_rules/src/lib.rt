@@ -4,8 +4,8 @@
 //! Nothing here runs but a few types that definitions and code share. The crates above state their contracts by these
 //! words: `specs/Databases.antt` has the database and the mutations, `specs/Atomics.antt` the atomic operations,
 //! `specs/Reads.antt` the reads and their answers, by `specs/Selecting.antt` and `specs/Slices.antt`,
-//! `specs/Histories.antt` scripts, commits and the history, `specs/States.antt` what mutations say of one key, and
-//! `specs/Transactions.antt` a transaction and the checks of its calls.
+//! `specs/Intervals.antt` the keys that a read rests on, `specs/Histories.antt` scripts, commits and the history,
+//! `specs/States.antt` what mutations say of one key, and `specs/Transactions.antt` a transaction and the checks of its calls.
 #![tactic(auto)]
 
 ghost use Rattle.std.specs.Prelude.{◌≡◌};

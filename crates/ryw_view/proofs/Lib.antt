@@ -3,3 +3,5 @@ pub mod Firsts
 pub mod Seen
 pub mod Passed
 pub mod Segments
+pub mod Meetings
+pub mod Decided

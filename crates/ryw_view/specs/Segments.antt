@@ -1,9 +1,12 @@
 -- Keys that pending mutations treat alike, on the way of a walk.
-use Rattle.std.specs.Prelude.{◌≡◌, ℕ, Bool, true, List, Option}
+use Rattle.std.specs.Prelude.{◌≡◌, ℕ, Bool, true, List, Option, Some}
+use Rattle.std.specs.List.{filter}
+use Rattle.key_bytes.specs.Keys.{key_le, key_lt}
+use Rattle.key_map.specs.Ends.{first}
 use Rattle.database_rules.specs.Databases.{Mutation}
 use Rattle.database_rules.specs.States.{state_under}
 use Rattle.range_read.specs.Walks.{is_onward}
-use Rattle.write_map.specs.Pending.{AreAlike, is_single_state}
+use Rattle.write_map.specs.Pending.{Pending, AreAlike, is_single_state}
 use Rattle.ryw_view.specs.Walks.{is_inside}
 
 -- the keys that a walk meets from one on, up to an edge, are alike to one of them; where its state is of one key alone, it is
@@ -14,3 +17,14 @@ pub record IsSegment (mutations : List Mutation) (key from : List ℕ) (down : B
   pub alike : (q : List ℕ) → is_onward from down q ≡ true → is_inside edge down q ≡ true → AreAlike mutations key q
   pub single : is_single_state (state_under mutations key) ≡ true → (q : List ℕ) → is_onward from down q ≡ true
       → is_inside edge down q ≡ true → q ≡ key
+
+-- the keys from one on, up to another, are alike to the first of them
+abbrev pub AreAlikeUpTo : List Mutation → (from until : List ℕ) → Type 0
+AreAlikeUpTo mutations from until =
+    (q : List ℕ) → key_le from q ≡ true → key_lt q until ≡ true → AreAlike mutations from q
+
+-- the first edge above a key lies below the end of a range
+pub record IsEdgeBelow (pending : Pending) (from end edge : List ℕ) : Type 0 where
+  pub is : first (filter (key_lt from) pending.edges) ≡ Some edge
+  pub below : key_lt edge end ≡ true
+  pub alike : AreAlikeUpTo pending.mutations from edge

@@ -5,6 +5,9 @@
 //! of `database_rules`). `get` answers the value of a key, and tells an unreadable key from one without a value. As an
 //! `OrderedView` it answers the pair from a key on, or below a key, so the reads of `range_read` are read of it.
 //!
+//! `add_undecided` says which keys of a range a read of it rests on: those that the mutations leave undecided. It and `hides`
+//! say whether the range can be read at all.
+//!
 //! The database that it shows is never built. All keys between two edges of the mutations have one state, so a walk asks
 //! the mutations once for each edge on its way: a segment has its own value, or none, or what the store has there.
 #![tactic(auto)]
@@ -12,11 +15,13 @@
 mod applying;
 mod fault;
 mod stored;
+mod undecided;
 mod view;
 mod walking;
 
 pub use applying::applied;
 pub use fault::ViewFault;
+pub use undecided::{add_undecided, hides};
 pub use view::View;
 
 #[cfg(test)]

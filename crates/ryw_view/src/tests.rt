@@ -233,3 +233,81 @@ fn answers_the_rows(rt: HostRuntime) -> Result<(), Fail> {
     assert_eq!(rt; first_wrong(rt.alloc())?, None);
     Ok(())
 }
+
+// ---- the undecided keys of ranges
+
+// The begin and the end of a range.
+type Ends = (&'static [u8], &'static [u8]);
+
+// Mutations, a range, and the pieces of it that they leave undecided; None where it can't be read.
+type PiecesRow = (&'static [Edit], Ends, Option<&'static [Ends]>);
+
+// Two keys are set and one is cleared.
+const DECIDED: &[Edit] = &[
+    Edit::Set(b"d", b"1"),
+    Edit::Clear(b"e"),
+    Edit::Set(b"c", b"1"),
+];
+
+const PIECES: &[PiecesRow] = &[
+    (
+        DECIDED,
+        (b"d", b"h"),
+        Some(&[(b"d\0", b"e"), (b"e\0", b"h")]),
+    ),
+    (DECIDED, (b"a", b"b"), Some(&[(b"a", b"b")])),
+    (DECIDED, (b"d", b"d\0"), Some(&[])),
+    (DECIDED, (b"h", b"a"), Some(&[])),
+    (&[], (b"a", b"b"), Some(&[(b"a", b"b")])),
+    // an atomic operation alone, and one over a clear
+    (COMPARED, (b"c", b"c\0"), Some(&[(b"c", b"c\0")])),
+    (COMPARED, (b"b", b"c"), Some(&[(b"b", b"c")])),
+    (ADDS, (b"a", b"b"), Some(&[(b"a\0", b"b")])),
+    // begun amid a cleared range
+    (ADDED, (b"c", b"f"), Some(&[(b"d", b"f")])),
+    // a stamped value under a set, and the keys that a stamped key may become
+    (HIDDEN, (b"c", b"c\0"), None),
+    (HIDDEN, (b"a", b"e"), None),
+    (HIDDEN, (b"b", b"c"), None),
+    (
+        HIDDEN,
+        (b"c\0", b"e"),
+        Some(&[(b"c\0", b"d"), (b"d\0", b"e")]),
+    ),
+];
+
+fn are_pieces(pieces: &[KeyRange], wanted: &[Ends]) -> bool {
+    pieces.len() == wanted.len()
+        && pieces.iter().zip(wanted).all(|(piece, ends)| piece.begin.as_slice() == ends.0
+            && piece.end.as_slice() == ends.1)
+}
+
+fn is_pieces_row(alloc: Global, row: PiecesRow) -> Result<bool, AllocError> {
+    let (edits, (begin, end), wanted) = row;
+    let edits = edits_of(alloc, edits)?;
+    let range = range_of(alloc, begin, end)?;
+    let mut pieces = Vec::new(alloc);
+    let readable = add_undecided(&edits, &range, &mut pieces)?;
+    match wanted {
+        None => Ok(!readable && hides(&edits, &range)),
+        Some(wanted) => {
+            Ok(readable && !hides(&edits, &range) && are_pieces(pieces.as_slice(), wanted))
+        }
+    }
+}
+
+// The first row with other pieces.
+fn first_other_pieces(alloc: Global) -> Result<Option<usize>, AllocError> {
+    for (place, row) in PIECES.iter().enumerate() {
+        if !is_pieces_row(alloc, *row)? {
+            return Ok(Some(place));
+        }
+    }
+    Ok(None)
+}
+
+#[test]
+fn finds_the_undecided_keys(rt: HostRuntime) -> Result<(), Fail> {
+    assert_eq!(rt; first_other_pieces(rt.alloc())?, None);
+    Ok(())
+}

@@ -1,6 +1,7 @@
 -- What an edge has: the state of the keys from it up to the next edge, and whether they are unreadable.
 use Rattle.std.specs.Prelude.{◌≡◌, ℕ, Bool, true, false, List, Option, Some, None}
 use Rattle.std.specs.Option.{option_map}
+use Rattle.std.specs.List.{All, list_any}
 use Rattle.std.specs.BTreeMap.{is_at}
 use Rattle.key_bytes.specs.Keys.{key_cmp, after}
 use Rattle.edge_map.specs.Edges.{Edges, held, is_edge, with_edge, changed}
@@ -8,6 +9,7 @@ use Rattle.database_rules.specs.declared.AtomicOp.{AtomicOp}
 use Rattle.database_rules.specs.Databases.{Mutation}
 use Rattle.database_rules.specs.States.{KeyState, Unmodified, Decided, Depends, after_atomic, covers, state_under, unreadable}
 use Rattle.write_map.specs.Pending.{is_single_state}
+use Rattle.write_map.specs.Stamps.{is_stamped, HasRoom}
 use Rattle.write_map.specs.declared.level.Level.{Level}
 use Rattle.write_map.specs.declared.state.KeyState.{KeyState as Shown}
 use Rattle.write_map.specs.declared.state.KeyState.TheVariants as shown
@@ -88,3 +90,10 @@ pub record AreLevels (mutations : List Mutation) (levels : Edges Level) : Type 0
   pub base : levels.base ≡ bare
   pub agree : (key : List ℕ) → IsLevel mutations key (held levels key)
   pub single : AreSingle levels
+
+-- what a map keeps beside its mutations is what they say: the level of each key, and whether one of them has a versionstamp; each
+-- of these has room for it
+pub record IsKept (mutations : List Mutation) (edges : Edges Level) (flag : Bool) : Type 0 where
+  pub levels : AreLevels mutations edges
+  pub flagged : flag ≡ list_any is_stamped mutations
+  pub room : All HasRoom mutations

@@ -10,6 +10,7 @@
 
 mod changing;
 mod edits;
+mod filling;
 mod level;
 mod mutation;
 mod stamping;
@@ -18,7 +19,6 @@ mod write_map;
 
 pub use edits::{AtomicEdit, AtomicEdits};
 pub use mutation::Mutation;
-pub use stamping::has_room;
 pub use state::KeyState;
 pub use write_map::WriteMap;
 

@@ -1,4 +1,5 @@
 use super::*;
+use atomic_ops::has_room;
 use database_rules::AtomicOp;
 use key_bytes::{Bytes, Key, KeyRange};
 use std::alloc::{AllocError, Global};
@@ -62,6 +63,9 @@ fn stamped_by(alloc: Global, front: &[u8]) -> Result<Vec<u8>, AllocError> {
 
 // Ten bytes to be replaced by a versionstamp, and their place.
 const STAMPED: &[u8] = b"0123456789\0\0\0\0";
+
+// A versionstamp.
+const STAMP: &[u8; 10] = b"abcdefghij";
 
 fn stamp_value(map: &mut WriteMap, key: &[u8], operand: &[u8]) -> Result<(), AllocError> {
     if !has_room(operand) {
@@ -149,21 +153,25 @@ fn takes_each_mutation(rt: HostRuntime) -> Result<(), Fail> {
     Ok(())
 }
 
-// How many mutations there are before the first and after all, and whether there is none.
-fn counts(alloc: Global) -> Result<(usize, bool, usize, bool), AllocError> {
+// How many mutations a map has, whether there is none, and whether one has a versionstamp.
+fn counts(map: &WriteMap) -> (usize, bool, bool) {
+    (map.mutations().len(), map.is_empty(), map.has_stamps())
+}
+
+// That of no mutation, of one of each kind, and of these filled in.
+fn all_counts(alloc: Global) -> Result<[(usize, bool, bool); 3], AllocError> {
     let empty = WriteMap::new(alloc);
     let map = one_of_each(empty.allocator())?;
-    Ok((
-        empty.mutations().len(),
-        empty.is_empty(),
-        map.mutations().len(),
-        map.is_empty(),
-    ))
+    let filled = map.filled(STAMP)?;
+    Ok([counts(&empty), counts(&map), counts(&filled)])
 }
 
 #[test]
 fn keeps_its_mutations(rt: HostRuntime) -> Result<(), Fail> {
-    assert_eq!(rt; counts(rt.alloc())?, (0, true, 6, false));
+    assert_eq!(rt;
+        all_counts(rt.alloc())?,
+        [(0, true, false), (6, false, true), (6, false, false)]
+    );
     Ok(())
 }
 
@@ -185,7 +193,7 @@ fn keeps_operations_in_order(rt: HostRuntime) -> Result<(), Fail> {
     Ok(())
 }
 
-// ---- beside a slow plain program
+// ---- beside slow plain programs
 
 // In the order of keys. Those behind `a` begin with it.
 const KEYS: &[&[u8]] = &[b"", b"a", b"a\0", b"a\0\0", b"ab", b"b", b"b\0", b"c"];
@@ -358,13 +366,74 @@ fn taken(alloc: Global, steps: &[Step]) -> Result<WriteMap, AllocError> {
     Ok(map)
 }
 
+// ---- filled in, beside a map that gets each key and value with its stamp
+
+fn take_filled(alloc: Global, map: &mut WriteMap, step: Step) -> Result<(), AllocError> {
+    match step {
+        Step::StampValue(place) => map.set(key_at(place), STAMP),
+        Step::StampKey(place) => {
+            let mut key = Vec::from_slice(alloc, key_at(place))?;
+            key.extend_from_slice(STAMP)?;
+            map.set(key.as_slice(), &[])
+        }
+        _ => take(alloc, map, step),
+    }
+}
+
+fn taken_filled(alloc: Global, steps: &[Step]) -> Result<WriteMap, AllocError> {
+    let mut map = WriteMap::new(alloc);
+    for step in steps {
+        take_filled(alloc, &mut map, *step)?;
+    }
+    Ok(map)
+}
+
+fn is_same(mutation: &Mutation, other: &Mutation) -> bool {
+    match (mutation, other) {
+        (
+            Mutation::Set { key, value },
+            Mutation::Set {
+                key: own,
+                value: set,
+            },
+        ) => { key == own && value == set }
+        (Mutation::Clear { key }, Mutation::Clear { key: own }) => key == own,
+        (Mutation::ClearRange { range }, Mutation::ClearRange { range: own }) => {
+            range.begin == own.begin && range.end == own.end
+        }
+        (
+            Mutation::Atomic { op, key, operand },
+            Mutation::Atomic {
+                op: done,
+                key: own,
+                operand: with,
+            },
+        ) => op == done && key == own && operand == with,
+        _ => false,
+    }
+}
+
+// Whether the steps filled in are those of the plain map.
+fn is_filled(alloc: Global, map: &WriteMap, steps: &[Step]) -> Result<bool, AllocError> {
+    let filled = map.filled(STAMP)?;
+    let wanted = taken_filled(alloc, steps)?;
+    let (mutations, others) = (filled.mutations(), wanted.mutations());
+    Ok(
+        mutations.len() == others.len()
+            && mutations
+                .iter()
+                .zip(others)
+                .all(|(mutation, other)| is_same(mutation, other)),
+    )
+}
+
 // The first of so many random lists of steps after which the two differ.
 fn first_apart(alloc: Global, rounds: u32) -> Result<Option<u32>, AllocError> {
     let mut mixer = Mixer { state: 630 };
     for round in 0..rounds {
         let steps = mixer.steps(alloc)?;
         let map = taken(alloc, steps.as_slice())?;
-        if !is_slow(alloc, &map, steps.as_slice())? {
+        if !is_slow(alloc, &map, steps.as_slice())? || !is_filled(alloc, &map, steps.as_slice())? {
             return Ok(Some(round));
         }
     }
@@ -372,7 +441,7 @@ fn first_apart(alloc: Global, rounds: u32) -> Result<Option<u32>, AllocError> {
 }
 
 #[test]
-fn is_a_slow_program(rt: HostRuntime) -> Result<(), Fail> {
+fn is_the_slow_programs(rt: HostRuntime) -> Result<(), Fail> {
     assert_eq!(rt; first_apart(rt.alloc(), 400)?, None);
     Ok(())
 }

@@ -1,7 +1,7 @@
 //! The pending mutations of a transaction.
 
 ghost use Rattle.std.specs.Prelude.{◌≡◌, ℕ, Bool, true, false, List, [], ◌∷◌, ◌++◌, None, length, nat_lt, OnOk, OnErr, IfSome};
-ghost use Rattle.std.specs.List.{filter};
+ghost use Rattle.std.specs.List.{All, filter, list_any};
 ghost use Rattle.std.specs.Option.{option_map};
 ghost use Rattle.key_bytes.specs.Keys.{after, key_le, key_lt};
 ghost use Rattle.key_map.specs.Ends.{first, last};
@@ -11,6 +11,7 @@ ghost use Rattle.database_rules.specs.States.{state_after, state_under, has_room
 ghost use Rattle.write_map.specs.Levels.{state_of};
 ghost use Rattle.write_map.specs.Mutations.{mutation_of, mutations_of};
 ghost use Rattle.write_map.specs.Pending.{AreAlike, IsBare, IsBelowEdge, IsDepends, IsOn, is_single_state};
+ghost use Rattle.write_map.specs.Stamps.{is_stamped, HasRoom};
 ghost use Rattle.write_map.specs.Answers.{IsStateUnder};
 
 use crate::changing::{ClearKeys, HideKeys, push_edit, set_state, split_both};
@@ -32,19 +33,21 @@ pub struct WriteMap {
     alloc: Global,
     levels: EdgeMap<Level>,
     log: Vec<Mutation>,
+    // Whether a mutation has a versionstamp.
+    is_stamped: bool,
 }
 
 impl Model for WriteMap {
     ghost use Rattle.edge_map.specs.Edges.{edges_of};
     ghost use Rattle.write_map.specs.Pending.{Pending};
     ghost use Rattle.write_map.specs.Mutations.{mutations_of};
-    ghost use Rattle.write_map.specs.Levels.{AreLevels};
+    ghost use Rattle.write_map.specs.Levels.{IsKept};
 
     ghost Value = { Pending };
 
     ghost view = { λ map. record { mutations = mutations_of map.log.items; edges = edges_of map.levels } };
 
-    ghost invariant = { λ map. AreLevels (mutations_of map.log.items) map.levels };
+    ghost invariant = { λ map. IsKept (mutations_of map.log.items) map.levels map.is_stamped };
 }
 
 impl WriteMap {
@@ -56,6 +59,7 @@ impl WriteMap {
             alloc,
             levels: EdgeMap::new(alloc, Level::bare()),
             log: Vec::new(alloc),
+            is_stamped: false,
         }
     }
 
@@ -69,6 +73,21 @@ impl WriteMap {
         ensures { result ≡ nat_lt (length self.now.mutations) 1 }
     {
         self.log.len() < 1
+    }
+
+    /// Whether a mutation has a versionstamp, which is filled in by its commit. It takes no memory, and no time in proportion
+    /// to the mutations (API reference, "fdb_transaction_atomic_op").
+    pub fn has_stamps(&self) -> bool
+        ensures { result ≡ list_any is_stamped self.now.mutations }
+    {
+        self.is_stamped
+    }
+
+    // Each mutation with a versionstamp has room for it.
+    pub(crate) fn shows_room(&self)
+        ensures { All HasRoom self.now.mutations }
+    {
+        let _ = &self.alloc;
     }
 
     /// The mutations, in their order. It takes no memory.
@@ -215,7 +234,8 @@ impl WriteMap {
 
     // Adds a mutation that makes the keys of a range unreadable. After a refusal the map is as it was.
     fn hide(&mut self, mutation: Mutation, keys: &KeyRange) -> Result<(), AllocError>
-        requires { unreadable_by (mutation_of mutation) ≡ keys.now ∷ [] }
+        requires hidden { unreadable_by (mutation_of mutation) ≡ keys.now ∷ [] }
+        requires room { HasRoom (mutation_of mutation) }
         ensures added { OnOk result (self.new.mutations
             ≡ self.old.mutations ++ mutation_of mutation ∷ []) }
         ensures unchanged { OnErr result (self.new ≡ self.old) }
@@ -224,6 +244,7 @@ impl WriteMap {
         split_both(&mut self.levels, &keys.begin, &keys.end)?;
         self.levels.change(&keys.begin, &keys.end, &HideKeys);
         self.log.push(mutation).unwrap();
+        self.is_stamped = true;
         Ok(())
     }
 

@@ -1,6 +1,6 @@
 //! Views beside the plain program, over stores and mutations drawn from a fixed seed.
 
-use super::plain::{Plain, key_at, place_of, slice_of};
+use super::plain::{Plain, has_key, key_at, place_of, slice_of};
 use super::*;
 use key_map::KeyMap;
 use range_read::resolve;
@@ -236,6 +236,25 @@ fn is_sliced_alike(
     Ok(are_same_pairs(found.as_slice(), wanted.as_slice()))
 }
 
+// The undecided keys of a drawn range are the ones that were neither set nor cleared, unless one of its keys can't be read.
+fn is_undecided_alike(
+    alloc: Global,
+    draws: &mut Draws,
+    edits: &WriteMap,
+    plain: &Plain,
+) -> Result<bool, AllocError> {
+    let range = range_of(alloc, draws.pick(&KEYS), draws.pick(&KEYS))?;
+    let hidden = plain.hides(&range);
+    let mut pieces = Vec::new(alloc);
+    let readable = add_undecided(edits, &range, &mut pieces)?;
+    let same = hidden || are_same_keys(pieces.as_slice(), &range, plain);
+    Ok(readable != hidden && hides(edits, &range) == hidden && same)
+}
+
+fn are_same_keys(pieces: &[KeyRange], range: &KeyRange, plain: &Plain) -> bool {
+    KEYS.iter().all(|key| has_key(pieces, key) == (range.has(key) && !plain.is_decided(key)))
+}
+
 fn are_same_pairs(pairs: &[Pair], others: &[Pair]) -> bool {
     pairs.len() == others.len()
         && pairs.iter().zip(others).all(|(pair, other)| pair.key == other.key
@@ -252,7 +271,9 @@ fn is_drawn_alike(alloc: Global, draws: &mut Draws) -> Result<bool, Fail> {
             && is_selected_alike(alloc, draws, &view, &pairs)?
             && is_selected_alike(alloc, draws, &view, &pairs)?
             && is_sliced_alike(alloc, draws, &view, &pairs)?
-            && is_sliced_alike(alloc, draws, &view, &pairs)?,
+            && is_sliced_alike(alloc, draws, &view, &pairs)?
+            && is_undecided_alike(alloc, draws, &beside.edits, &beside.plain)?
+            && is_undecided_alike(alloc, draws, &beside.edits, &beside.plain)?,
     )
 }
 

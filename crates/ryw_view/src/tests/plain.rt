@@ -6,12 +6,13 @@ use key_bytes::{Bytes, Key, KeyRange, Pair, Pairs, is_below};
 use key_map::KeyMap;
 use std::alloc::{AllocError, Global};
 
-/// The pairs that are seen, and the keys that can't be read.
+/// The pairs that are seen, the keys that can't be read, and those that were set or cleared.
 #[derive(Drop)]
 pub struct Plain {
     alloc: Global,
     pairs: KeyMap<Bytes>,
     hidden: Vec<KeyRange>,
+    decided: Vec<KeyRange>,
 }
 
 impl Plain {
@@ -21,11 +22,29 @@ impl Plain {
             alloc,
             pairs,
             hidden: Vec::new(alloc),
+            decided: Vec::new(alloc),
         }
+    }
+
+    // Notes the keys that a mutation sets or clears.
+    fn note_decided(&mut self, edit: Edit) -> Result<(), AllocError> {
+        let alloc = self.alloc;
+        match edit {
+            Edit::Set(key, _) | Edit::Clear(key) => {
+                let range = KeyRange::single(alloc, &key_of(alloc, key)?)?;
+                self.decided.push(range)?;
+            }
+            Edit::ClearRange(begin, end) => {
+                self.decided.push(range_of(alloc, begin, end)?)?;
+            }
+            _ => {}
+        }
+        Ok(())
     }
 
     /// Does a mutation to the map.
     pub fn do_edit(&mut self, edit: Edit) -> Result<(), AllocError> {
+        self.note_decided(edit)?;
         let alloc = self.alloc;
         match edit {
             Edit::Set(key, value) => {
@@ -84,16 +103,31 @@ impl Plain {
 
     /// Whether a key can't be read.
     pub fn is_hidden(&self, key: &Key) -> bool {
+        has_key(self.hidden.as_slice(), key.as_slice())
+    }
+
+    /// Whether a key of a range can't be read.
+    pub fn hides(&self, asked: &KeyRange) -> bool {
         self.hidden
             .as_slice()
             .iter()
-            .any(|range| range.has(key.as_slice()))
+            .any(|range| range.meets(asked))
+    }
+
+    /// Whether a key was set or cleared.
+    pub fn is_decided(&self, key: &[u8]) -> bool {
+        has_key(self.decided.as_slice(), key)
     }
 
     /// The pairs that are seen.
     pub fn pairs(&self) -> &KeyMap<Bytes> {
         &self.pairs
     }
+}
+
+/// Whether a key is in one of these ranges.
+pub fn has_key(ranges: &[KeyRange], key: &[u8]) -> bool {
+    ranges.iter().any(|range| range.has(key))
 }
 
 /// Whether a key stands before the place of a selector.

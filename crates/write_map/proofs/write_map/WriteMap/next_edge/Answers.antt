@@ -11,12 +11,12 @@ pub returns-clause-alike : goal.returns-clause-alike
 returns-clause-alike c asked from below =
     let levels = c.self.inside.levels in let key = c.args.key.now in
     subst (λ pending. AreAlike pending.mutations key asked) c.self.view_is
-    (alike_held (mutations_of c.self.inside.log.items) levels c.self.invariant key asked
+    (alike_held (mutations_of c.self.inside.log.items) levels c.self.invariant.levels key asked
     (held-up_to levels key asked from (subst (IsBelowEdge asked) c.next.ensures below)))
 
 pub returns-clause-single : goal.returns-clause-single
 returns-clause-single c single =
     let key = c.args.key.now in
     c.next.ensures
-    ∙ next_single (mutations_of c.self.inside.log.items) c.self.inside.levels c.self.invariant key c.shows_rising.ensures
+    ∙ next_single (mutations_of c.self.inside.log.items) c.self.inside.levels c.self.invariant.levels key c.shows_rising.ensures
     (ap (λ pending. is_single_state (state_under pending.mutations key)) c.self.view_is ∙ single)

@@ -25,14 +25,14 @@ returns-clause-alike c =
     (λ edge. (asked : List ℕ) → key_le edge asked ≡ true → key_lt asked key ≡ true → AreAlike c.args.self.now.mutations edge asked)
     c.prev.ensures
     (λ edge is asked from below. subst (λ pending. AreAlike pending.mutations edge asked) c.self.view_is
-    (alike_held (mutations_of c.self.inside.log.items) levels c.self.invariant edge asked
+    (alike_held (mutations_of c.self.inside.log.items) levels c.self.invariant.levels edge asked
     (held-down_to levels key edge asked c.shows_rising.ensures is from below)))
 
 pub returns-clause-bare : goal.returns-clause-bare
 returns-clause-bare c none asked below =
     let levels = c.self.inside.levels in
     subst (λ pending. IsBare pending.mutations asked) c.self.view_is
-    (bare_held (mutations_of c.self.inside.log.items) levels c.self.invariant asked
+    (bare_held (mutations_of c.self.inside.log.items) levels c.self.invariant.levels asked
     (held-bottom levels c.args.key.now asked (sym c.prev.ensures ∙ ap (option_map (λ edge. edge.now)) none) below))
 
 pub returns-clause-single : goal.returns-clause-single
@@ -41,5 +41,5 @@ returns-clause-single c =
     if_found c.prev.result (last (filter (λ edge. key_lt edge key) (edges_of levels)))
     (λ edge. is_single_state (state_under c.args.self.now.mutations edge) ≡ true → key_le key (after edge) ≡ true)
     c.prev.ensures
-    (λ edge is single. prev_single (mutations_of c.self.inside.log.items) levels c.self.invariant key edge c.shows_rising.ensures is
+    (λ edge is single. prev_single (mutations_of c.self.inside.log.items) levels c.self.invariant.levels key edge c.shows_rising.ensures is
     (ap (λ pending. is_single_state (state_under pending.mutations edge)) c.self.view_is ∙ single))

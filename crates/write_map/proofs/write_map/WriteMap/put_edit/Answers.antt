@@ -2,13 +2,14 @@ use Rattle.std.proofs.Common.{◌≡◌, ◌++◌, ◌∷◌, [], true, refl, sy
 use Rattle.database_rules.specs.Databases.{Atomic}
 use Rattle.database_rules.specs.States.{state_under}
 use Rattle.edge_map.specs.Edges.{held}
-use Rattle.write_map.specs.Levels.{state_of, AreLevels}
+use Rattle.write_map.specs.Levels.{state_of, IsKept}
 use Rattle.write_map.specs.Mutations.{mutations_of}
 use Rattle.write_map.specs.Pending.{IsDepends, is_single_state}
 use Rattle.write_map.proofs.Edited.{is_split_already}
 use Rattle.write_map.proofs.Alike.{depends_single}
+use Rattle.write_map.proofs.Kept.{kept_plain, on_plain}
 use Rattle.write_map.proofs.Logs.{log_added}
-use Rattle.write_map.proofs.Steps.{atomic_here, levels_added, step_put}
+use Rattle.write_map.proofs.Steps.{atomic_here, step_put}
 use Rattle.write_map.proofs.write_map.WriteMap.put_edit.Goals as goal
 
 pub invariant_of-self-2 : goal.invariant_of-self-2
@@ -19,17 +20,18 @@ invariant_of-self-2 c =
     let old = c.self.inside.levels in
     let edited = c.in_ok-push_edit.ensures.ok in
     let log = mutations_of c.self.inside.log.items in
-    let single = c.self.invariant.single in
+    let single = c.self.invariant.levels.single in
     let alone : is_single_state (state_of (held old key).state) ≡ true =
-    ap is_single_state (sym (c.self.invariant.agree key).state)
+    ap is_single_state (sym (c.self.invariant.levels.agree key).state)
     ∙ depends_single (state_under log key)
     (subst (λ pending. IsDepends (state_under pending.mutations key)) (sym c.self.view_is) c.requires.list) in
-    subst (λ mutations. AreLevels mutations c.push_edit.new.levels)
+    subst (λ mutations. IsKept mutations c.push_edit.new.levels c.self.inside.is_stamped)
     (sym (log_added c.self.inside.log.items c.reserve.new.self.items c.push.new.self.items c.args.mutation c.push.result c.unwrap.result
     c.push.ensures.items c.unwrap.ensures c.reserve.ensures.items
     ∙ ap (λ mutation. log ++ mutation ∷ []) c.requires.atomic))
-    (subst (AreLevels (log ++ Atomic op key operand ∷ [])) (sym edited.levels)
-    (levels_added log (Atomic op key operand) old _ c.self.invariant
+    (subst (λ levels. IsKept (log ++ Atomic op key operand ∷ []) levels c.self.inside.is_stamped) (sym edited.levels)
+    (kept_plain log (Atomic op key operand) old _ c.self.inside.is_stamped c.self.invariant
     (step_put key (Atomic op key operand) edited.state old old (refl, c.requires.plain)
     (edited.made ∙ atomic_here op key operand (state_of (held old key).state) c.requires.plain)
-    single (is_split_already key old single alone) c.in_ok-push_edit.ensures.rising)))
+    single (is_split_already key old single alone) c.in_ok-push_edit.ensures.rising)
+    (on_plain key (Atomic op key operand) (refl, c.requires.plain))))

@@ -1,6 +1,6 @@
 use Rattle.std.proofs.Common.{◌-◌, length, arith}
-use Rattle.write_map.proofs.Stamps.{last_four}
-use Rattle.write_map.proofs.stamping.stamp_place.Goals as goal
+use Rattle.atomic_ops.proofs.Stamps.{last_four}
+use Rattle.atomic_ops.proofs.stamping.stamp_place.Goals as goal
 
 pub returns-clause-value : goal.returns-clause-value
 returns-clause-value c =

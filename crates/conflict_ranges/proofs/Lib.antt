@@ -1,0 +1,9 @@
+pub mod Between
+pub mod Changed
+pub mod Meeting
+pub mod Nexts
+pub mod Segments
+pub mod Sound
+pub mod Splits
+pub mod Taken
+pub mod Walks

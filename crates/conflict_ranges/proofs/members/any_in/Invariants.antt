@@ -1,0 +1,13 @@
+use Rattle.std.proofs.Common.{◌≡◌, false, length}
+use Rattle.std.specs.List.{filter}
+use Rattle.key_bytes.specs.Keys.{key_lt}
+use Rattle.edge_map.specs.Edges.{edges_of}
+use Rattle.conflict_ranges.proofs.Walks.{HasPassed}
+use Rattle.conflict_ranges.proofs.members.any_in.Given as goal
+
+-- the keys that were passed are not in the set
+abbrev pub invariant-loop-from : goal.invariant-loop-from
+invariant-loop-from l = HasPassed (λ membership. membership.0 ≡ false) l.range l.members l.from
+
+abbrev pub decreases-loop-from : goal.decreases-loop-from
+decreases-loop-from l = length (filter (key_lt l.from) (edges_of l.members))

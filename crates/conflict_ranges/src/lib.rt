@@ -1,0 +1,25 @@
+//! Conflict ranges: sets of keys, and which version last wrote each key.
+//!
+//! A `RangeSet` holds the keys that a transaction rests on, or those that it declares to write. Contracts see the list of
+//! its ranges, which are not empty, lie apart and rise (`specs/Segments.antt`), and say of each change which keys the set
+//! has then.
+//!
+//! A `WriteIndex` has for each key the version of the last commit that declared to write it (`specs/Writes.antt`), so that a
+//! commit may be judged by the newest version that it has in each range that the transaction rests on.
+//!
+//! Both lie in a map of edges: each edge has what all keys from it up to the next edge have.
+#![tactic(auto)]
+
+mod members;
+mod membership;
+mod range_set;
+mod ranges_left;
+mod splitting;
+mod write_index;
+
+pub use range_set::RangeSet;
+pub use ranges_left::RangesLeft;
+pub use write_index::WriteIndex;
+
+#[cfg(test)]
+mod tests;

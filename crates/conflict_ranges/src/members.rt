@@ -1,0 +1,98 @@
+//! Which keys are in a set, by its edges.
+
+ghost use Rattle.std.specs.Prelude.{◌≡◌, ◌+◌, ◌*◌, ◌≤◌, ◌↔◌, ℕ, length, List, true, if◌then◌else◌, IsTrue, OnOk, OnErr};
+ghost use Rattle.std.specs.List.Sorted.{IsStrictlySortedBy};
+ghost use Rattle.key_bytes.specs.Keys.{key_cmp, within};
+ghost use Rattle.key_bytes.specs.Ranges.{has};
+ghost use Rattle.database_rules.specs.States.{covers};
+ghost use Rattle.edge_map.specs.Edges.{changed, edges_of, held};
+ghost use Rattle.conflict_ranges.specs.Ends.{HasRoom};
+ghost use Rattle.conflict_ranges.specs.Segments.{IsSound};
+
+use crate::membership::Membership;
+use crate::splitting::{next_within, split_both};
+use edge_map::EdgeMap;
+use key_bytes::KeyRange;
+use std::alloc::AllocError;
+
+// Gives each edge of a range a membership.
+fn give(members: &mut EdgeMap<Membership>, range: &KeyRange, membership: Membership)
+    ensures given { members.new
+        ≡ changed (within range.now.begin range.now.end) (λ _. membership) members.old }
+    ensures rising { IsStrictlySortedBy key_cmp (edges_of members.old) }
+{
+    members.shows_rising();
+    members.change(&range.begin, &range.end, &membership);
+}
+
+// Gives the keys of a range a membership. After a refusal the edges are as they were.
+pub(crate) fn put(
+    members: &mut EdgeMap<Membership>,
+    range: &KeyRange,
+    membership: Membership,
+) -> Result<(), AllocError>
+    ensures ok { OnOk result ((key : List ℕ) → held members.new key
+        ≡ (if has range.now key then membership else held members.old key)) }
+    ensures sound { OnOk result (IsSound members.old → IsSound members.new) }
+    ensures err { OnErr result (members.new ≡ members.old) }
+    ensures few { length members.new.entries ≤ length members.old.entries + 2 }
+{
+    if range.is_empty() {
+        return Ok(());
+    }
+    split_both(members, &range.begin, &range.end)?;
+    give(members, range, membership);
+    Ok(())
+}
+
+// Makes the ends of ranges edges, which changes what no key has, after a refusal too.
+pub(crate) fn split_all(
+    members: &mut EdgeMap<Membership>,
+    ranges: &[KeyRange],
+) -> Result<(), AllocError>
+    ensures same { (key : List ℕ) → held members.new key ≡ held members.old key }
+    ensures sound { IsSound members.old → IsSound members.new }
+    ensures few { length members.new.entries ≤ length members.old.entries + 2 * length ranges.now }
+    ensures room { OnOk result (HasRoom members.new ranges.now) }
+{
+    for range in ranges {
+        split_both(members, &range.begin, &range.end)?;
+    }
+    Ok(())
+}
+
+// Gives the keys of ranges, whose ends are edges, a membership.
+pub(crate) fn put_all(
+    members: &mut EdgeMap<Membership>,
+    ranges: &[KeyRange],
+    membership: Membership,
+)
+    requires { HasRoom members.old ranges.now }
+    ensures put { (key : List ℕ) → held members.new key
+        ≡ (if covers ranges.now key then membership else held members.old key) }
+    ensures sound { IsSound members.old → IsSound members.new }
+    ensures few { length members.new.entries ≡ length members.old.entries }
+{
+    for range in ranges {
+        give(members, range, membership);
+    }
+}
+
+// Whether a key of a range is in the set. It takes no memory.
+pub(crate) fn any_in(members: &EdgeMap<Membership>, range: &KeyRange) -> bool
+    ensures { IsTrue result
+        ↔ ((key : List ℕ) × (has range.now key ≡ true) × ((held members.now key).0 ≡ true)) }
+{
+    if range.is_empty() {
+        return false;
+    }
+    members.shows_rising();
+    let mut from = &range.begin;
+    while !members.at(from).0 {
+        let Some(edge) = next_within(members, from, &range.end) else {
+            return false;
+        };
+        from = edge;
+    }
+    true
+}

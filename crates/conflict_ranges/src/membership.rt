@@ -1,0 +1,25 @@
+//! Whether keys are in a set.
+
+use edge_map::{Change, Spread};
+
+// Whether the keys from an edge up to the next one are in a set.
+#[derive(Clone, Copy)]
+pub(crate) struct Membership(pub(crate) bool);
+
+// A new edge gets what its key had.
+impl Spread for Membership {
+    ghost spread = { λ membership. membership };
+
+    fn spread(&self) -> Membership {
+        *self
+    }
+}
+
+// Keys get this membership, whatever they had before.
+impl Change<Membership> for Membership {
+    ghost changed = { λ membership _. membership };
+
+    fn change(&self, level: &mut Membership) {
+        *level = *self;
+    }
+}

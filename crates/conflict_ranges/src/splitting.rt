@@ -1,0 +1,55 @@
+//! Edges at the ends of ranges.
+
+ghost use Rattle.std.specs.Prelude.{◌≡◌, if◌then◌else◌, OnOk, OnErr};
+ghost use Rattle.std.specs.List.Sorted.{IsStrictlySortedBy};
+ghost use Rattle.key_bytes.specs.Keys.{key_cmp};
+ghost use Rattle.edge_map.specs.Edges.{edges_of, without_edge};
+ghost use Rattle.conflict_ranges.specs.Ends.{IsNextWithin, IsSplitAt};
+
+use edge_map::{EdgeMap, Spread};
+use key_bytes::Key;
+use std::alloc::AllocError;
+
+// Takes an edge away again that was none before.
+fn join<T: Drop>(edges: &mut EdgeMap<T>, key: &Key, was_edge: bool)
+    ensures { edges.new ≡ (if was_edge then edges.old else without_edge key.now edges.old) }
+{
+    if !was_edge {
+        edges.remove_edge(key);
+    }
+}
+
+// Makes two keys edges, which changes what no key has. After a refusal the edges are as they were.
+pub(crate) fn split_both<T: Spread + Drop>(
+    edges: &mut EdgeMap<T>,
+    begin: &Key,
+    end: &Key,
+) -> Result<(), AllocError>
+    requires { (x : T) → T.spread x ≡ x }
+    ensures ok { OnOk result (IsSplitAt begin.now end.now edges.old edges.new) }
+    ensures err { OnErr result (edges.new ≡ edges.old) }
+    ensures rising { OnOk result (IsStrictlySortedBy key_cmp (edges_of edges.new)) }
+{
+    let was_edge = edges.has_edge(begin);
+    edges.split(begin)?;
+    match edges.split(end) {
+        Ok(()) => {
+            edges.shows_rising();
+            Ok(())
+        }
+        Err(error) => {
+            join(edges, begin, was_edge);
+            Err(error)
+        }
+    }
+}
+
+// The first edge above a key, if it is below an end. It takes no memory.
+pub(crate) fn next_within<'a, T>(edges: &'a EdgeMap<T>, from: &Key, end: &Key) -> Option<&'a Key>
+    ensures { IsNextWithin from.now end.now edges.now result }
+{
+    match edges.next(from) {
+        Some(edge) if edge.cmp(end).is_lt() => Some(edge),
+        _ => None,
+    }
+}

@@ -1,0 +1,52 @@
+use Rattle.std.proofs.Common.{sym, ap, ◌∙◌}
+use Rattle.std.proofs.lemmas.Bool.{not-false, not-true}
+use Rattle.std.specs.List.{list_any}
+use Rattle.key_bytes.specs.Keys.{key_lt}
+use Rattle.key_bytes.specs.Ranges.{meets}
+use Rattle.database_rules.specs.States.{unreadable}
+use Rattle.range_read.proofs.Rising.{first_passes}
+use Rattle.write_map.proofs.Filled.{plain_readable}
+use Rattle.ryw_view.proofs.Decided.{at_begin, walked_on, last_met, one_met}
+use Rattle.ryw_view.proofs.Meetings.{empty_meets_none}
+use Rattle.ryw_view.proofs.Passed.{fewer_above}
+use Rattle.ryw_view.proofs.undecided.hides.Goals as goal
+use Rattle.ryw_view.proofs.undecided.hides.Goals.{then-not-has_stamps-via-then-not-has_stamps, then-not-has_stamps-via-else-not-has_stamps+then-is_empty}
+
+pub returns-then-not-has_stamps : goal.returns-then-not-has_stamps
+returns-then-not-has_stamps c =
+    let mutations = c.args.edits.now.mutations in let range = c.args.range.now in
+    elim c.then-not-has_stamps.branch [
+      | then-not-has_stamps-via-then-not-has_stamps w ↦
+          ap (list_any (meets range)) (sym (plain_readable mutations (sym (w.if-not-has_stamps.ensures {u = tt}))))
+      | then-not-has_stamps-via-else-not-has_stamps+then-is_empty w ↦
+          sym (empty_meets_none range (unreadable mutations)
+          (not-true (key_lt range.begin range.end) (sym w.is_empty.ensures ∙ w.if-is_empty.true)))
+    ]
+
+pub loop-edge-init : goal.loop-edge-init
+loop-edge-init c =
+    let range = c.args.range.now in
+    at_begin c.args.edits.now.mutations range
+    (not-false (key_lt range.begin range.end) (sym c.is_empty.ensures ∙ c.if-is_empty.false))
+
+pub returns-then-is_hidden : goal.returns-then-is_hidden
+returns-then-is_hidden c =
+    sym (one_met c.args.edits.now.mutations c.args.range.now c.loop-edge.from.now c.loop-edge.invariant
+    (sym c.is_hidden.ensures ∙ c.if-is_hidden.true))
+
+pub loop-edge-smaller : goal.loop-edge-smaller
+loop-edge-smaller c =
+    fewer_above c.args.edits.now.edges c.loop-edge.from.now c.in-Some.edge.now (c.in-Some.ensures {u = tt}).is
+
+pub loop-edge-preserved : goal.loop-edge-preserved
+loop-edge-preserved c =
+    let pending = c.args.edits.now in let from = c.loop-edge.from.now in let edge = c.in-Some.edge.now in
+    let next = c.in-Some.ensures {u = tt} in
+    walked_on pending.mutations c.args.range.now from edge c.loop-edge.invariant
+    (first_passes (key_lt from) pending.edges edge next.is) next.alike (sym c.is_hidden.ensures ∙ c.if-is_hidden.false) next.below
+
+pub returns : goal.returns
+returns c =
+    c.is_hidden-2.ensures
+    ∙ last_met c.args.edits.now.mutations c.args.range.now c.loop-edge.from.now c.loop-edge.invariant
+    (c.in_default.ensures {u = tt})
