@@ -1,18 +1,21 @@
 -- How many commits a call makes, and how many lives it draws.
 use Rattle.std.proofs.Common.{◌≡◌, ℕ, ◌≤◌, ◌⊎◌, inl, inr, Bool, true, false, cond, List, [], ◌∷◌, ◌++◌, length, Option, Some, None, refl, sym, ap, subst, ◌∙◌, arith}
 use Rattle.database_rules.specs.declared.Code.{Code}
+use Rattle.fdb_calls.specs.declared.Reply.{Reply}
+use Rattle.fdb_calls.specs.declared.Reply.TheVariants as reply
 use Rattle.fdb_calls.specs.declared.TxnCall.{TxnCall}
 use Rattle.fdb_calls.specs.declared.TxnCall.TheVariants as call
 use Rattle.database_rules.specs.declared.AtomicOp.{AtomicOp}
 use Rattle.database_rules.specs.declared.Phase.{Phase}
 use Rattle.database_rules.specs.declared.Phase.TheVariants as phase
+use Rattle.database_rules.specs.Atomics.{atomic_named}
 use Rattle.database_rules.specs.Databases.{Mutation, Set, Clear, ClearRange}
 use Rattle.database_rules.specs.Histories.{Setting, Commit}
 use Rattle.database_rules.specs.Reads.{Read}
 use Rattle.database_rules.specs.Reads as read
 use Rattle.database_rules.specs.Modes.{lacks_limit}
-use Rattle.database_rules.specs.Transactions.{Transaction, fresh, first_failing, read_code, set_code, clear_code, clear_range_code, atomic_code, operation_named, commit_code, is_read_only, is_cancelled, is_retryable, with_version, late_checks}
-use Rattle.fdb_calls.specs.Calling.{Called, called, is_fault, in_turn, logs, set_called, read_by, read_at_version, read_called, write_by, atomic_by, commit_by, commit_allowed, commit_refused, on_error_by, error_handled}
+use Rattle.database_rules.specs.Transactions.{Transaction, fresh, first_failing, read_code, set_code, clear_code, range_code, atomic_code, phase_code, set_version_code, commit_code, conflict_checks, is_read_only, is_cancelled, is_retryable, with_version, late_checks}
+use Rattle.fdb_calls.specs.Calling.{Called, called, is_fault, in_turn, logs, set_called, read_by, read_at_version, read_called, write_by, atomic_by, does_by, commit_by, commit_allowed, commit_at_version, commit_refused, on_error_by, error_handled}
 
 -- it makes no commit, and draws one life at most
 record IsQuiet (called : Called) : Type 0 where
@@ -43,6 +46,10 @@ atomic_quiet code None transaction key operand = record { commits = refl; lives 
 atomic_quiet (Some code) (Some op) transaction key operand = record { commits = refl; lives = omega arith }
 atomic_quiet None (Some op) transaction key operand = record { commits = refl; lives = omega arith }
 
+does_quiet : (code : Option ℕ) (transaction after : Transaction) (reply : Reply) → IsQuiet (does_by code transaction after reply)
+does_quiet (Some code) transaction after reply = record { commits = refl; lives = omega arith }
+does_quiet None transaction after reply = record { commits = refl; lives = omega arith }
+
 handled_quiet : (retryable : Bool) (life : ℕ) (transaction : Transaction) (code : Code)
     → IsQuiet (error_handled retryable life transaction code)
 handled_quiet true life transaction code = record { commits = refl; lives = omega arith }
@@ -63,9 +70,14 @@ refused_few phase.Active code transaction = record { commits = omega arith; live
 refused_few phase.Cancelled code transaction = record { commits = omega arith; lives = refl }
 refused_few (phase.Tried outcome) code transaction = record { commits = omega arith; lives = refl }
 
+at_version_few : (code : Option ℕ) (setting : Setting) (transaction : Transaction) → IsFew (commit_at_version code setting transaction)
+at_version_few (Some code) setting transaction = refused_few transaction.phase code transaction
+at_version_few None setting transaction = record { commits = omega arith; lives = refl }
+
 allowed_few : (read_only : Bool) (setting : Setting) (transaction : Transaction) → IsFew (commit_allowed read_only setting transaction)
 allowed_few true setting transaction = record { commits = omega arith; lives = refl }
-allowed_few false setting transaction = record { commits = omega arith; lives = refl }
+allowed_few false setting transaction =
+    at_version_few (first_failing (conflict_checks setting (with_version setting transaction))) setting (with_version setting transaction)
 
 commit_few : (code : Option ℕ) (setting : Setting) (transaction : Transaction) → IsFew (commit_by code setting transaction)
 commit_few (Some code) setting transaction = refused_few transaction.phase code transaction
@@ -94,9 +106,19 @@ quiet_or_commit setting life transaction (call.Set key value) =
     inl (write_quiet (set_code transaction.phase key value) transaction (Set key value))
 quiet_or_commit setting life transaction (call.Clear key) = inl (write_quiet (clear_code transaction.phase key) transaction (Clear key))
 quiet_or_commit setting life transaction (call.ClearRange range) =
-    inl (write_quiet (clear_range_code transaction.phase range.begin range.end) transaction (ClearRange range.begin range.end))
+    inl (write_quiet (range_code transaction.phase range.begin range.end) transaction (ClearRange range.begin range.end))
 quiet_or_commit setting life transaction (call.Atomic name key operand) =
-    inl (atomic_quiet (atomic_code transaction.phase name key operand) (operation_named name) transaction key operand)
+    inl (atomic_quiet (atomic_code transaction.phase name key operand) (atomic_named name) transaction key operand)
+quiet_or_commit setting life transaction (call.ReadConflict range) =
+    inl (does_quiet (range_code transaction.phase range.begin range.end) transaction _ reply.Done)
+quiet_or_commit setting life transaction (call.WriteConflict range) =
+    inl (does_quiet (range_code transaction.phase range.begin range.end) transaction _ reply.Done)
+quiet_or_commit setting life transaction call.NoWriteConflict = inl (does_quiet (phase_code transaction.phase) transaction _ reply.Done)
+quiet_or_commit setting life transaction call.ReadVersion = inl (does_quiet (phase_code transaction.phase) transaction _ _)
+quiet_or_commit setting life transaction (call.SetReadVersion version) =
+    inl (does_quiet (set_version_code transaction.phase transaction.version version) transaction _ reply.Done)
+quiet_or_commit setting life transaction call.CommittedVersion = inl (record { commits = refl; lives = omega arith })
+quiet_or_commit setting life transaction call.Versionstamp = inl (does_quiet (phase_code transaction.phase) transaction transaction _)
 quiet_or_commit setting life transaction call.Commit = inr refl
 quiet_or_commit setting life transaction (call.OnError code) = inl (on_error_quiet (is_cancelled transaction.phase) life transaction code)
 quiet_or_commit setting life transaction call.Reset = inl (record { commits = refl; lives = omega arith })

@@ -34,7 +34,7 @@ CallsApart begun core its_call reply left after =
 
 -- a fresh transaction at the last version of each history
 abbrev pub IsAtLast : txn.Kept → CoreModel → Type 0
-IsAtLast begun core = (setting : Setting) → txn.Keeps core.store setting → txn.StandsFor begun (with_version setting (fresh core.next_life))
+IsAtLast begun core = (setting : Setting) → txn.Keeps core.store core.index setting → txn.StandsFor begun (with_version setting (fresh core.next_life))
 
 begun_stands : (core : CoreModel) (world : World) (begun : txn.Kept) → IsAtLast begun core → StandsFor core world
     → txn.StandsFor begun (fresh_at_last world)
@@ -118,14 +118,14 @@ committed_took middle after world made between left reply committed first fine c
 -- after the first calls the store has a version to spare, and there is a life to spare
 pub few_between : (core after : CoreModel) (made : World → Called) (left : txn.Kept) (reply : Reply)
     → ((world : World) → StandsFor core world → FirstTook reply left after world (made world)) → ((world : World) → (made world).lives ≤ 1)
-    → IsSound core (2 ^ 62) (2 ^ 63) → (last_of after.store < 2 ^ 63) × (after.next_life < 2 ^ 64 - 1)
+    → IsSound core (2 ^ 62) (2 ^ 63) → (last_of after.store + 1 < 2 ^ 63) × (after.next_life < 2 ^ 64 - 1)
 few_between core after made left reply took few sound =
     let first = (took sound.world sound.stands).world_stands in (
       bounded_commits _ _ first.keeps.last_is sound.few_commits,
       bounded_lives _ _ _ first.next_life sound.few_lives (few sound.world),
     )
   where
-    bounded_commits : (a b : ℕ) → a ≡ b → b ≤ 2 ^ 62 → a < 2 ^ 63
+    bounded_commits : (a b : ℕ) → a ≡ b → b ≤ 2 ^ 62 → a + 1 < 2 ^ 63
     bounded_commits a b e h = omega arith
 
     bounded_lives : (a b n : ℕ) → a ≡ b + 1 + n → b ≤ 2 ^ 63 → n ≤ 1 → a < 2 ^ 64 - 1

@@ -4,6 +4,8 @@ use Rattle.std.specs.FinMap as finite
 use Rattle.key_bytes.specs.Keys.{key_cmp}
 use Rattle.database_rules.specs.Databases.{do_all}
 use Rattle.database_rules.specs.Histories.{loaded, at}
+use Rattle.edge_map.specs.Edges.{Edges}
+use Rattle.conflict_ranges.specs.Writes.{newest_at}
 use Rattle.version_store.specs.Versions as versions
 use Rattle.version_store.specs.Versions.{Versions, last_of}
 use Rattle.database_rules.specs.Transactions.{Transaction}
@@ -12,9 +14,10 @@ use Rattle.txn_core.specs.Stands.{Kept, Keeps}
 use Rattle.client_core.specs.Stands.{CoreModel, KeptTransactions, StandsFor, AreAlike}
 
 -- the store keeps the history of the first commit
-pub first_kept : (store : Versions) (pairs : List (List ℕ × List ℕ)) → last_of store ≡ 1 → versions.at store 0 ≡ finite.empty
-    → versions.at store 1 ≡ do_all (loaded pairs).mutations finite.empty → Keeps store (record { history = loaded pairs ∷ [] })
-first_kept store pairs last empty first = record { last_is = last; at_is = by_version }
+pub first_kept : (store : Versions) (index : Edges ℕ) (pairs : List (List ℕ × List ℕ)) → last_of store ≡ 1 → versions.at store 0 ≡ finite.empty
+    → versions.at store 1 ≡ do_all (loaded pairs).mutations finite.empty → ((key : List ℕ) → newest_at index key ≡ 0)
+    → Keeps store index (record { history = loaded pairs ∷ [] })
+first_kept store index pairs last empty first unwritten = record { last_is = last; at_is = by_version; newest_is = unwritten }
   where
     by_version : (version : ℕ) → version ≤ 1 → versions.at store version ≡ at (loaded pairs ∷ []) version
     by_version zero within = empty
@@ -22,7 +25,7 @@ first_kept store pairs last empty first = record { last_is = last; at_is = by_ve
     by_version (suc (suc n)) within = absurd (omega arith)
 
 -- a store of the first version, and no transaction, stand for the beginning
-pub begun_stands : (core : CoreModel) (pairs : List (List ℕ × List ℕ)) (words : ℕ → ℕ) → Keeps core.store (record { history = loaded pairs ∷ [] })
+pub begun_stands : (core : CoreModel) (pairs : List (List ℕ × List ℕ)) (words : ℕ → ℕ) → Keeps core.store core.index (record { history = loaded pairs ∷ [] })
     → core.transactions ≡ finite.empty → core.next_life ≡ 0
     → StandsFor core (begun pairs words)
 begun_stands core pairs words keeps none life = record {

@@ -12,6 +12,8 @@ use Rattle.database_rules.specs.Histories.{Setting}
 use Rattle.database_rules.specs.Transactions.{Transaction, fresh}
 use Rattle.fdb_calls.specs.Calling.{called}
 use Rattle.machine_rules.specs.Worlds.{World, Transactions, transaction_of, call_named, with_new, with_named}
+use Rattle.edge_map.specs.Edges.{Edges}
+use Rattle.version_store.specs.Versions.{Versions}
 use Rattle.txn_core.specs.Stands as txn
 use Rattle.txn_core.specs.declared.answer.Answer.{Answer}
 use Rattle.client_core.specs.Stands.{CoreModel, KeptTransactions, StandsFor, AreAlike}
@@ -46,10 +48,10 @@ alike_inserted m w name kept transaction stands alike = λ q.
 -- a transaction of a new life under a name
 pub new_stands : (core : CoreModel) (world : World) (name : List ℕ) (kept : txn.Kept) (after : CoreModel) → StandsFor core world
     → txn.StandsFor kept (fresh core.next_life)
-    → after.store ≡ core.store → after.transactions ≡ finite.insert core.transactions name kept → after.next_life ≡ core.next_life + 1 →
+    → after.store ≡ core.store → after.index ≡ core.index → after.transactions ≡ finite.insert core.transactions name kept → after.next_life ≡ core.next_life + 1 →
     StandsFor after (with_new world name)
-new_stands core world name kept after stands fresh_one store transactions next_life = record {
-  keeps = subst (λ s. txn.Keeps s world.setting) (sym store) stands.keeps;
+new_stands core world name kept after stands fresh_one store index transactions next_life = record {
+  keeps = subst (λ (both : Versions × Edges ℕ). txn.Keeps both.0 both.1 world.setting) (λ i. (sym store i, sym index i)) stands.keeps;
   transactions = subst (λ (m : KeptTransactions). AllAlike m (finite.insert world.transactions name (fresh world.next_life))) (sym transactions)
       (alike_inserted core.transactions world.transactions name kept (fresh world.next_life)
       (subst (λ n. txn.StandsFor kept (fresh n)) stands.next_life fresh_one) stands.transactions);
@@ -92,14 +94,14 @@ byte_counts false = refl
 pub named_took : (core after : CoreModel) (world : World) (name : List ℕ) (call : TxnCall) (before left : txn.Kept) (answer : Answer)
     → finite.get core.transactions name ≡ Some before
     →
-    ((transaction : Transaction) (setting : Setting) → txn.StandsFor before transaction → txn.Keeps core.store setting → txn.Answers
-    answer left after.store setting (called setting core.next_life transaction call))
+    ((transaction : Transaction) (setting : Setting) → txn.StandsFor before transaction → txn.Keeps core.store core.index setting → txn.Answers
+    answer left after.store after.index setting (called setting core.next_life transaction call))
     → after.transactions ≡ finite.insert core.transactions name left → after.next_life ≡ core.next_life + cond answer.drew_life 1 0
     → StandsFor core world → Took answer.reply after (call_named world name call)
 named_took core after world name call before left answer found answers transactions next_life stands =
     let its = transaction_of world name in
     let stood = found_stands before (fresh world.next_life) (finite.get core.transactions name) (finite.get world.transactions name) found (stands.transactions name) in
-    let told = subst (λ n. txn.Answers answer left after.store world.setting (called world.setting n its call)) stands.next_life (answers its world.setting stood stands.keeps) in
+    let told = subst (λ n. txn.Answers answer left after.store after.index world.setting (called world.setting n its call)) stands.next_life (answers its world.setting stood stands.keeps) in
     let made = called world.setting world.next_life its call in
     record {
       reply_is = told.reply;

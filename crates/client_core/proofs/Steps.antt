@@ -87,6 +87,8 @@ took_answers reply.Done core words stepped took has = (sym took.reply_is, took.s
 took_answers (reply.Value value) core words stepped took has = (sym took.reply_is, took.stands, has)
 took_answers (reply.KeyIs key) core words stepped took has = (sym took.reply_is, took.stands, has)
 took_answers (reply.PairsAre pairs) core words stepped took has = (sym took.reply_is, took.stands, has)
+took_answers (reply.Version version) core words stepped took has = (sym took.reply_is, took.stands, has)
+took_answers (reply.Life life) core words stepped took has = (sym took.reply_is, took.stands, has)
 took_answers (reply.Fault code) core words stepped took has = (sym took.reply_is, took.stands, has)
 took_answers reply.NoMemory core words stepped took has = tt
 

@@ -6,6 +6,7 @@ use Rattle.fdb_calls.specs.declared.Reply.TheVariants as reply
 use Rattle.key_bytes.specs.Keys.{key_cmp}
 use Rattle.database_rules.specs.Transactions.{Transaction}
 use Rattle.machine_rules.specs.Worlds.{World, Stepped, HasWords}
+use Rattle.edge_map.specs.Edges.{Edges}
 use Rattle.version_store.specs.Versions.{Versions}
 use Rattle.txn_core.specs.Stands as txn
 
@@ -13,10 +14,11 @@ use Rattle.txn_core.specs.Stands as txn
 abbrev pub KeptTransactions : Type 0
 KeptTransactions = finite.FinMap key_cmp txn.Kept
 
--- what a core keeps: the store of its versions, the transactions by name, the number of the next life, and how many
--- requests it took
+-- what a core keeps: the store of its versions, the index of what commits declared to write, the transactions by name, the
+-- number of the next life, and how many requests it took
 pub record CoreModel : Type 0 where
   pub store : Versions
+  pub index : Edges ℕ
   pub transactions : KeptTransactions
   pub next_life : ℕ
   pub applied : ℕ
@@ -28,10 +30,10 @@ AreAlike None (Some transaction) = ⊥
 AreAlike (Some kept) None = ⊥
 AreAlike (Some kept) (Some transaction) = txn.StandsFor kept transaction
 
--- A core stands for each world whose history its store keeps, which has the number of its next life, and in which each
+-- A core stands for each world whose history its store and its index keep, which has the number of its next life, and in which each
 -- name has a transaction that the core's stands for, or none where the core has none.
 pub record StandsFor (core : CoreModel) (world : World) : Type 0 where
-  pub keeps : txn.Keeps core.store world.setting
+  pub keeps : txn.Keeps core.store core.index world.setting
   pub transactions : (name : List ℕ) → AreAlike (finite.get core.transactions name) (finite.get world.transactions name)
   pub next_life : core.next_life ≡ world.next_life
 
@@ -45,6 +47,10 @@ Answers (reply.KeyIs key) core words stepped =
     (stepped.reply ≡ reply.KeyIs key) × StandsFor core stepped.world × HasWords stepped.world words
 Answers (reply.PairsAre pairs) core words stepped =
     (stepped.reply ≡ reply.PairsAre pairs) × StandsFor core stepped.world × HasWords stepped.world words
+Answers (reply.Version version) core words stepped =
+    (stepped.reply ≡ reply.Version version) × StandsFor core stepped.world × HasWords stepped.world words
+Answers (reply.Life life) core words stepped =
+    (stepped.reply ≡ reply.Life life) × StandsFor core stepped.world × HasWords stepped.world words
 Answers (reply.Fault code) core words stepped =
     (stepped.reply ≡ reply.Fault code) × StandsFor core stepped.world × HasWords stepped.world words
 Answers reply.NoMemory core words stepped = ⊤

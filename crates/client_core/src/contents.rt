@@ -13,6 +13,7 @@ ghost use Rattle.txn_core.specs.Stands as txn;
 ghost use Rattle.client_core.specs.Sound.{IsSound, Took, TookApart, FirstTook, Replies};
 ghost use Rattle.client_core.specs.Contents.{model_of};
 
+use conflict_ranges::WriteIndex;
 use fdb_calls::{Reply, Request, TrFault, TxnCall};
 use key_bytes::{Bytes, Pairs};
 use key_map::KeyMap;
@@ -25,6 +26,7 @@ use version_store::Store;
 pub struct Contents {
     pub alloc: Global,
     pub store: Store,
+    pub index: WriteIndex,
     pub transactions: KeyMap<Txn>,
     pub next_life: u64,
     pub applied: u64,
@@ -54,6 +56,7 @@ impl Contents {
             → Took reply (model_of self.new) (record { world = with_new world name.now; reply = Done })) }
         ensures there { OnOk result (IsSome (finite.get self.new.transactions name.now)) }
         ensures store { self.new.store ≡ self.old.store }
+        ensures index { self.new.index ≡ self.old.index }
         ensures lives { OnOk result (self.new.next_life ≡ self.old.next_life + 1) }
         ensures applied { self.new.applied ≡ self.old.applied }
     {
@@ -70,6 +73,7 @@ impl Contents {
             → StandsFor (model_of self.new) (with_named world name.now)) }
         ensures there { OnOk result (IsSome (finite.get self.new.transactions name.now)) }
         ensures store { self.new.store ≡ self.old.store }
+        ensures index { self.new.index ≡ self.old.index }
         ensures lives { OnOk result (self.new.next_life ≤ self.old.next_life + 1) }
         ensures applied { self.new.applied ≡ self.old.applied }
     {
@@ -93,14 +97,14 @@ impl Contents {
     // A call on the transaction of a name that has one.
     fn call_named(&mut self, name: &Bytes, call: &TxnCall) -> Result<Reply, AllocError>
         requires there { IsSome (finite.get self.old.transactions name.now) }
-        requires few_commits { last_of self.old.store < 2 ^ 63 }
+        requires few_commits { last_of self.old.store + 1 < 2 ^ 63 }
         requires few_lives { self.old.next_life < 2 ^ 64 - 1 }
         ensures step { IfOk result (λ reply. (world : World) → StandsFor (model_of self.old) world
             → Took reply (model_of self.new) (call_named world name.now call.now)) }
         ensures applied { self.new.applied ≡ self.old.applied }
     {
         let transaction = self.transactions.get_mut(name).unwrap();
-        let answer = transaction.call(&mut self.store, call, self.next_life)?;
+        let answer = transaction.call(&mut self.store, &mut self.index, call, self.next_life)?;
         self.next_life += u64::from(answer.drew_life);
         Ok(answer.reply)
     }
@@ -133,7 +137,7 @@ impl Contents {
 
     // Commits a transaction that stands under no name, where its calls were not refused: their reply, or the commit's fault.
     fn commit_apart(&mut self, mut transaction: Txn, reply: Reply) -> Result<Reply, AllocError>
-        requires few_commits { last_of self.old.store < 2 ^ 63 }
+        requires few_commits { last_of self.old.store + 1 < 2 ^ 63 }
         requires few_lives { self.old.next_life < 2 ^ 64 - 1 }
         ensures step { IfOk result (λ answered. (world : World) (made : Called) → FirstTook reply transaction (model_of self.old) world made
             → Took answered (model_of self.new) (and_commit world made)) }
@@ -148,14 +152,14 @@ impl Contents {
 
     // A call on a transaction that stands under no name.
     fn call_apart(&mut self, transaction: &mut Txn, call: &TxnCall) -> Result<Reply, AllocError>
-        requires few_commits { last_of self.old.store < 2 ^ 63 }
+        requires few_commits { last_of self.old.store + 1 < 2 ^ 63 }
         requires few_lives { self.old.next_life < 2 ^ 64 - 1 }
         ensures step { IfOk result (λ reply. (t : Transaction) (world : World) → txn.StandsFor transaction.old t
             → StandsFor (model_of self.old) world
             → TookApart reply transaction.new (model_of self.new) world (called world.setting world.next_life t call.now)) }
         ensures applied { self.new.applied ≡ self.old.applied }
     {
-        let answer = transaction.call(&mut self.store, call, self.next_life)?;
+        let answer = transaction.call(&mut self.store, &mut self.index, call, self.next_life)?;
         self.next_life += u64::from(answer.drew_life);
         Ok(answer.reply)
     }

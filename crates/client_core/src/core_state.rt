@@ -8,6 +8,7 @@ ghost use Rattle.machine_rules.specs.Worlds.{World, HasWords, begun, step};
 ghost use Rattle.version_store.specs.Versions.{at, last_of};
 
 use crate::contents::Contents;
+use conflict_ranges::WriteIndex;
 use fdb_calls::{Reply, Request};
 use key_bytes::{Key, Pairs};
 use key_map::KeyMap;
@@ -33,10 +34,11 @@ impl Model for Core {
     ghost use Rattle.std.specs.Coded.{codes, coded_ℕ, coded_list};
     ghost use Rattle.version_store.specs.contracts.store.Store as store;
     ghost use Rattle.txn_core.specs.contracts.txn.Txn as txn;
+    ghost use Rattle.conflict_ranges.specs.contracts.write_index.WriteIndex as index;
 
     ghost Value = { CoreModel };
 
-    ghost coded = { Prim.hlevel (codes, store.the_row.coded, finite.code {R = key_cmp} (coded_list coded_ℕ) txn.the_row.coded) };
+    ghost coded = { Prim.hlevel (codes, store.the_row.coded, index.the_row.coded, finite.code {R = key_cmp} (coded_list coded_ℕ) txn.the_row.coded) };
 
     ghost view = { λ core. model_of core.contents };
 
@@ -57,6 +59,7 @@ impl Core {
             contents: Contents {
                 alloc,
                 store,
+                index: WriteIndex::new(alloc),
                 transactions: KeyMap::new(alloc),
                 next_life: 0,
                 applied: 0,

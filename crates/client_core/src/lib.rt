@@ -2,9 +2,9 @@
 //! one at a time.
 //!
 //! A `Core` stands for a world of the definitions (`machine_rules`, `specs/Worlds.antt`): its store has the map of the
-//! world's history at each version, and each name has a transaction that stands for the world's (`specs/Stands.antt`).
-//! `load` stands for the beginning, and for every world for which a core stands before `apply`, the reply is that of
-//! the step, and the core stands for the world of the step.
+//! world's history at each version, its index has for each key the newest commit that declared it, and each name has a
+//! transaction that stands for the world's (`specs/Stands.antt`). `load` stands for the beginning, and for every world
+//! for which a core stands before `apply`, the reply is that of the step, and the core stands for the world of the step.
 #![tactic(auto)]
 
 mod contents;

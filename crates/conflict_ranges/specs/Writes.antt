@@ -1,4 +1,4 @@
--- Which version last wrote each key.
+-- Which version last declared each key.
 use Rattle.std.specs.Prelude.{ℕ, List}
 use Rattle.edge_map.specs.Edges.{Edges, held}
 

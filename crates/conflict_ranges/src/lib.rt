@@ -1,4 +1,4 @@
-//! Conflict ranges: sets of keys, and which version last wrote each key.
+//! Conflict ranges: sets of keys, and which version last declared each key.
 //!
 //! A `RangeSet` holds the keys that a transaction rests on, or those that it declares to write. Contracts see the list of
 //! its ranges, which are not empty, lie apart and rise (`specs/Segments.antt`), and say of each change which keys the set

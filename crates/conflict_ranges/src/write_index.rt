@@ -1,4 +1,4 @@
-//! Which version last wrote each key.
+//! Which version last declared each key.
 
 ghost use Rattle.std.specs.Prelude.{◌≡◌, ◌≤◌, ◌⊎◌, ℕ, List, [], true, if◌then◌else◌, OnOk};
 ghost use Rattle.key_bytes.specs.Keys.{within};

@@ -1,5 +1,5 @@
 -- Which keys lists of ranges have, and that they meet exactly where they have a key in common.
-use Rattle.std.proofs.Common.{◌≡◌, ℕ, Bool, true, false, not, List, [], ◌∷◌, inl, inr, refl, sym, ap, ◌∙◌}
+use Rattle.std.proofs.Common.{◌≡◌, ℕ, Bool, true, false, not, List, [], ◌∷◌, ◌++◌, inl, inr, refl, sym, ap, ◌∙◌}
 use Rattle.std.specs.Prelude.{◌&&◌, ◌||◌, flat_map, bytes_eq}
 use Rattle.std.specs.Bool.{Decides}
 use Rattle.std.specs.List.{list_any}
@@ -16,6 +16,7 @@ use Rattle.key_bytes.specs.Ranges.{has, meets}
 use Rattle.key_bytes.proofs.Orders.{irreflexive, le_lt, lt_le, lt_trans, lt_after}
 use Rattle.database_rules.specs.States.{covers}
 use Rattle.database_rules.specs.Intervals.{one, minus, without, any_meet}
+use Rattle.database_rules.specs.Transactions.{with_range}
 use Rattle.database_rules.proofs.States.{covers-append}
 
 -- ---- a key against the lesser and the greater of two
@@ -86,6 +87,14 @@ pub covers-flat_map : {X : Type 0} (ranges_of : X → List KeyRange) (xs : List 
 covers-flat_map ranges_of [] k = refl
 covers-flat_map ranges_of (x ∷ xs) k =
     covers-append (ranges_of x) (flat_map ranges_of xs) k ∙ ap (λ b. covers (ranges_of x) k || b) (covers-flat_map ranges_of xs k)
+
+-- one more range, unless it is empty
+pub covers_with_range : (ranges : List KeyRange) (range : KeyRange) (k : List ℕ)
+    → covers (with_range ranges range) k ≡ (covers ranges k || has range k)
+covers_with_range ranges range k =
+    cond_both (key_lt range.begin range.end) (ranges ++ range ∷ []) ranges (λ list. covers list k ≡ (covers ranges k || has range k))
+    (λ _. covers-append ranges (range ∷ []) k ∙ ap (λ b. covers ranges k || b) (covers_single range k))
+    (λ empty. sym (ap (λ b. covers ranges k || b) (none_within range.begin range.end k empty) ∙ or-false (covers ranges k)))
 
 -- ---- ranges without others
 

@@ -1,14 +1,20 @@
 -- What a transaction did, and the history of the database.
-use Rattle.std.specs.Prelude.{ℕ, List, [], ◌∷◌, ◌++◌, length, map, take}
+use Rattle.std.specs.Prelude.{ℕ, Bool, true, false, List, [], ◌∷◌, ◌++◌, length, map, take, drop, reverse}
+use Rattle.std.specs.List.{list_any}
 use Rattle.std.specs.FinMap as finite
-use Rattle.database_rules.specs.Databases.{Database, Mutation, Set, do_all}
+use Rattle.key_bytes.specs.declared.range.KeyRange.{KeyRange}
+use Rattle.database_rules.specs.Atomics.{little_bytes}
+use Rattle.database_rules.specs.Databases.{Database, Mutation, Set, Clear, ClearRange, Atomic, do_all}
+use Rattle.database_rules.specs.States.{range_from, filled}
+use Rattle.database_rules.specs.Intervals.{one, any_meet}
 use Rattle.database_rules.specs.Reads.{Read, Answer}
 
 -- ---- scripts
 
--- what a transaction did: a write that was accepted, or an ordinary read with its answer
+-- what a transaction did: a write that was accepted, and whether it declares the keys that it writes, which a commit is
+-- judged by; or an ordinary read with its answer
 pub data Entry : Type 0 where
-  Wrote : (mutation : Mutation) → Entry
+  Wrote : (mutation : Mutation) (declares : Bool) → Entry
   HasRead : (read : Read) (answer : Answer) → Entry
 
 -- what a transaction did, in its order
@@ -18,15 +24,44 @@ Script = List Entry
 -- the mutations of a script, in their order
 abbrev pub written : Script → List Mutation
 written [] = []
-written (Wrote mutation ∷ script) = mutation ∷ written script
+written (Wrote mutation declares ∷ script) = mutation ∷ written script
 written (HasRead read answer ∷ script) = written script
+
+-- the keys that a mutation writes
+abbrev pub write_range : Mutation → KeyRange
+write_range (Set key value) = one key
+write_range (Clear key) = one key
+write_range (ClearRange begin end) = range_from begin end
+write_range (Atomic op key operand) = one key
+
+-- the keys that the writes of a script declare, where this is the versionstamp of its commit
+abbrev pub declared_by : (stamp : List ℕ) → Script → List KeyRange
+declared_by stamp [] = []
+declared_by stamp (Wrote mutation true ∷ script) = write_range (filled stamp mutation) ∷ declared_by stamp script
+declared_by stamp (Wrote mutation false ∷ script) = declared_by stamp script
+declared_by stamp (HasRead read answer ∷ script) = declared_by stamp script
+
+-- the keys that they write without declaring them
+abbrev pub silent_by : (stamp : List ℕ) → Script → List KeyRange
+silent_by stamp [] = []
+silent_by stamp (Wrote mutation true ∷ script) = silent_by stamp script
+silent_by stamp (Wrote mutation false ∷ script) = write_range (filled stamp mutation) ∷ silent_by stamp script
+silent_by stamp (HasRead read answer ∷ script) = silent_by stamp script
 
 -- ---- the history
 
--- what a commit did: the script of its transaction, and its mutations
+-- what a commit did
 pub record Commit : Type 0 where
+  -- the version at which its transaction read
+  pub version : ℕ
+  -- what its transaction did
   pub script : Script
+  -- its mutations, each with the versionstamp of this commit
   pub mutations : List Mutation
+  -- the keys that it rests on, those that it declares to write, and those that it writes without declaring them
+  pub read_ranges : List KeyRange
+  pub declared : List KeyRange
+  pub silent : List KeyRange
 
 -- the commits in order: the one at place n made version n + 1
 abbrev pub History : Type 0
@@ -50,7 +85,15 @@ set_of entry = Set entry.0 entry.1
 
 -- the first commit: the pairs of the input as sets, in the order of their lines, so that of two values of one key the later stays
 abbrev pub loaded : List (List ℕ × List ℕ) → Commit
-loaded pairs = record { script = []; mutations = map set_of pairs }
+loaded pairs = record { version = 0; script = []; mutations = map set_of pairs; read_ranges = []; declared = []; silent = [] }
+
+-- the versionstamp of the commit that makes a version: the version as 8 bytes, the highest first, and 00 00
+unfoldable pub stamp_of : ℕ → List ℕ
+stamp_of version = reverse (little_bytes 8 version) ++ 0 ∷ 0 ∷ []
+
+-- a commit after a version declares to write a key that these ranges have
+abbrev pub conflicts : History → (version : ℕ) → (reads : List KeyRange) → Bool
+conflicts history version reads = list_any (λ commit. any_meet commit.declared reads) (drop version history)
 
 -- ---- what a call is made in
 

@@ -9,3 +9,4 @@ pub mod Reads
 pub mod Intervals
 pub mod Histories
 pub mod Transactions
+pub mod Newest

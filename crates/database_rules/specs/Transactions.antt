@@ -1,18 +1,21 @@
 -- A transaction, the checks of its calls in their order, and what each call leaves (API reference, "Transaction").
-use Rattle.std.specs.Prelude.{ℕ, ◌+◌, ◌*◌, Bool, true, false, not, ◌&&◌, ◌||◌, ◌==◌, if◌then◌else◌, List, [], ◌∷◌, ◌++◌, length, min, nat_lt, Option, Some, None, unwrap_or, is_none, option_and_then}
+use Rattle.std.specs.Prelude.{ℕ, ◌+◌, ◌*◌, ℤ, pos, negsuc, Bool, true, false, not, ◌&&◌, ◌||◌, ◌==◌, if◌then◌else◌, List, [], ◌∷◌, ◌++◌, length, min, nat_lt, replicate, Option, Some, None, unwrap_or, is_some}
 use Rattle.std.specs.List.{list_any}
 use Rattle.key_bytes.specs.declared.range.KeyRange.{KeyRange}
 use Rattle.key_bytes.specs.Keys.{key_lt, top}
 use Rattle.database_rules.specs.declared.Code.{Code}
-use Rattle.database_rules.specs.declared.TheConstants.{EXACT_MODE_WITHOUT_LIMITS, INVALID_MUTATION_TYPE, INVERTED_RANGE, KEY_LIMIT, KEY_OUTSIDE_LEGAL_RANGE, KEY_TOO_LARGE, SIZE_LIMIT, TRANSACTION_CANCELLED, TRANSACTION_TOO_LARGE, USED_DURING_COMMIT, VALUE_LIMIT, VALUE_TOO_LARGE}
+use Rattle.database_rules.specs.declared.TheConstants.{ACCESSED_UNREADABLE, CLIENT_INVALID_OPERATION, EXACT_MODE_WITHOUT_LIMITS, FUTURE_VERSION, INVALID_MUTATION_TYPE, INVERTED_RANGE, KEY_LIMIT, KEY_OUTSIDE_LEGAL_RANGE, KEY_TOO_LARGE, NOT_COMMITTED, READ_VERSION_ALREADY_SET, SIZE_LIMIT, TRANSACTION_CANCELLED, TRANSACTION_TOO_LARGE, USED_DURING_COMMIT, VALUE_LIMIT, VALUE_TOO_LARGE, VERSION_INVALID}
 use Rattle.database_rules.specs.declared.Phase.{Phase}
 use Rattle.database_rules.specs.declared.Phase.TheVariants as phase
+use Rattle.database_rules.specs.declared.Tried.TheVariants as tried
 use Rattle.database_rules.specs.declared.AtomicOp.{AtomicOp}
+use Rattle.database_rules.specs.declared.AtomicOp.TheVariants as atomic
 use Rattle.database_rules.specs.Atomics.{atomic_named, is_versionstamped}
 use Rattle.database_rules.specs.Databases.{Database, Mutation, Set, Clear, ClearRange, Atomic}
-use Rattle.database_rules.specs.States.{seen}
+use Rattle.database_rules.specs.States.{has_room, seen, stamped, stamped_bytes, unreadable}
+use Rattle.database_rules.specs.Intervals.{any_meet, interval}
 use Rattle.database_rules.specs.Reads.{Read, Get, GetKey, GetKeyRange, GetRange, Answer}
-use Rattle.database_rules.specs.Histories.{Script, Wrote, HasRead, written, Setting, at, last}
+use Rattle.database_rules.specs.Histories.{Script, Wrote, HasRead, written, declared_by, conflicts, Setting, at, last}
 
 pub record Transaction : Type 0 where
   -- the number of its life
@@ -21,18 +24,35 @@ pub record Transaction : Type 0 where
   pub version : Option ℕ
   -- what it did in this life
   pub script : Script
-  -- the keys that its ordinary reads rest on; none yet
+  -- the keys that it rests on: those of its ordinary reads, and those that it was told to rest on
   pub read_ranges : List KeyRange
+  -- the keys that it was told to declare, beside those that its writes declare; none of these ranges is empty
+  pub write_ranges : List KeyRange
   pub size : ℕ
+  -- its next write declares nothing (API reference, "FDB_TR_OPTION_NEXT_WRITE_NO_WRITE_CONFLICT_RANGE")
+  pub is_silenced : Bool
   pub phase : Phase
 
 -- a life before its first call
 abbrev pub fresh : ℕ → Transaction
-fresh life = record { life = life; version = None; script = []; read_ranges = []; size = 0; phase = phase.Active }
+fresh life = record {
+  life = life;
+  version = None;
+  script = [];
+  read_ranges = [];
+  write_ranges = [];
+  size = 0;
+  is_silenced = false;
+  phase = phase.Active;
+}
 
 -- the mutations that it wrote in this life, in their order
 abbrev pub writes_of : Transaction → List Mutation
 writes_of transaction = written transaction.script
+
+-- the keys that its commit declares to write, where this is the commit's versionstamp
+abbrev pub declared_of : (stamp : List ℕ) → Transaction → List KeyRange
+declared_of stamp transaction = declared_by stamp transaction.script ++ transaction.write_ranges
 
 abbrev pub number_of : Code → ℕ
 number_of code = code.0
@@ -60,6 +80,10 @@ is_tried _ = false
 -- a call on a life that takes no further call, and then other checks
 abbrev pub after_phase : Phase → List (Bool × ℕ) → List (Bool × ℕ)
 after_phase phase checks = (is_cancelled phase, TRANSACTION_CANCELLED) ∷ (is_tried phase, USED_DURING_COMMIT) ∷ checks
+
+abbrev pub is_positive : ℤ → Bool
+is_positive (pos n) = nat_lt 0 n
+is_positive (negsuc n) = false
 
 -- a key of a client is less than FF
 abbrev pub is_outside : List ℕ → Bool
@@ -91,23 +115,49 @@ set_code phase key value = first_failing (after_phase phase (key_checks key valu
 unfoldable pub clear_code : Phase → List ℕ → Option ℕ
 clear_code phase key = first_failing (after_phase phase ((is_outside key, KEY_OUTSIDE_LEGAL_RANGE) ∷ []))
 
-unfoldable pub clear_range_code : Phase → List ℕ → List ℕ → Option ℕ
-clear_range_code phase begin end = first_failing (after_phase phase
+-- of a call with a range: a cleared one, or one that is told to be rested on or declared
+unfoldable pub range_code : Phase → List ℕ → List ℕ → Option ℕ
+range_code phase begin end = first_failing (after_phase phase
     ((is_end_outside begin || is_end_outside end, KEY_OUTSIDE_LEGAL_RANGE) ∷ (key_lt end begin, INVERTED_RANGE) ∷ []))
 
--- an atomic operation by its name; those with a versionstamp have no name yet
-abbrev pub operation_named : List ℕ → Option AtomicOp
-operation_named name = option_and_then (λ op. if is_versionstamped op then None else Some op) (atomic_named name)
+-- the key that the checks of an atomic operation ask: of a stamped key, its template with ten 00
+abbrev pub key_asked : AtomicOp → List ℕ → List ℕ
+key_asked atomic.SetVersionstampedKey key = stamped (replicate 10 0) key
+key_asked op key = key
 
-unfoldable pub atomic_code : Phase → List ℕ → List ℕ → List ℕ → Option ℕ
-atomic_code phase name key operand = first_failing (after_phase phase
-    ((is_none (operation_named name), INVALID_MUTATION_TYPE) ∷ key_checks key operand))
+-- stamped bytes have no room for the versionstamp
+abbrev pub lacks_room : AtomicOp → (key operand : List ℕ) → Bool
+lacks_room op key operand = is_versionstamped op && not (has_room (stamped_bytes op key operand))
 
--- without a mutation the commit is read-only: it succeeds and makes no version
+abbrev pub op_checks : AtomicOp → (key operand : List ℕ) → List (Bool × ℕ)
+op_checks op key operand = (lacks_room op key operand, CLIENT_INVALID_OPERATION) ∷ key_checks (key_asked op key) operand
+
+unfoldable pub op_code : Phase → AtomicOp → (key operand : List ℕ) → Option ℕ
+op_code phase op key operand = first_failing (after_phase phase (op_checks op key operand))
+
+-- an atomic operation by its name, where the name is one of an operation
+abbrev pub named_checks : Option AtomicOp → (key operand : List ℕ) → List (Bool × ℕ)
+named_checks None key operand = (true, INVALID_MUTATION_TYPE) ∷ []
+named_checks (Some op) key operand = op_checks op key operand
+
+unfoldable pub atomic_code : Phase → (name key operand : List ℕ) → Option ℕ
+atomic_code phase name key operand = first_failing (after_phase phase (named_checks (atomic_named name) key operand))
+
+-- of a call with no other check
+unfoldable pub phase_code : Phase → Option ℕ
+phase_code phase = first_failing (after_phase phase [])
+
+-- of setting the read version: it is set or taken already, or the version isn't above 0
+unfoldable pub set_version_code : Phase → (taken : Option ℕ) → ℤ → Option ℕ
+set_version_code phase taken version = first_failing (after_phase phase
+    ((is_some taken, READ_VERSION_ALREADY_SET) ∷ (not (is_positive version), VERSION_INVALID) ∷ []))
+
+-- without a mutation, and without a range that it was told to declare, the commit is read-only: it succeeds and makes no
+-- version
 abbrev pub is_read_only : Transaction → Bool
-is_read_only transaction = nat_lt (length (writes_of transaction)) 1
+is_read_only transaction = nat_lt (length (writes_of transaction)) 1 && nat_lt (length transaction.write_ranges) 1
 
--- of a commit, where this is whether it is read-only, and the size
+-- of a commit before its version is taken, where this is whether it is read-only, and the size
 unfoldable pub commit_code : Phase → (read_only : Bool) → (size : ℕ) → Option ℕ
 commit_code phase read_only size =
     first_failing (after_phase phase ((not read_only && nat_lt SIZE_LIMIT size, TRANSACTION_TOO_LARGE) ∷ []))
@@ -125,14 +175,30 @@ view setting transaction = seen (writes_of transaction) (at setting.history (ver
 abbrev pub with_version : Setting → Transaction → Transaction
 with_version setting transaction = record transaction { version = Some (version_in setting transaction) }
 
--- the checks of a read at its version; none yet
-abbrev pub late_checks : Setting → Transaction → Read → List (Bool × ℕ)
-late_checks setting transaction read = []
+-- the version is above the last one
+abbrev pub is_ahead : Setting → Transaction → Bool
+is_ahead setting transaction = nat_lt (last setting.history) (version_in setting transaction)
 
--- the transaction after a read that was answered; one by snapshot leaves no trace
-abbrev pub with_read : Bool → Read → Answer → Transaction → Transaction
-with_read true read answer transaction = transaction
-with_read false read answer transaction = record transaction { script = transaction.script ++ HasRead read answer ∷ [] }
+-- the map at its version, before its mutations
+abbrev pub map_below : Setting → Transaction → Database
+map_below setting transaction = at setting.history (version_in setting transaction)
+
+-- the read rests on a key that a mutation makes unreadable
+abbrev pub is_hidden : Setting → Transaction → Read → Bool
+is_hidden setting transaction read = any_meet (interval read (view setting transaction)) (unreadable (writes_of transaction))
+
+-- the checks of a read at its version
+abbrev pub late_checks : Setting → Transaction → Read → List (Bool × ℕ)
+late_checks setting transaction read =
+    (is_ahead setting transaction, FUTURE_VERSION) ∷ (is_hidden setting transaction read, ACCESSED_UNREADABLE) ∷ []
+
+-- the transaction after a read that was answered and adds these ranges; one by snapshot leaves no trace
+abbrev pub with_read : Bool → Read → Answer → List KeyRange → Transaction → Transaction
+with_read true read answer ranges transaction = transaction
+with_read false read answer ranges transaction = record transaction {
+  script = transaction.script ++ HasRead read answer ∷ [];
+  read_ranges = transaction.read_ranges ++ ranges;
+}
 
 -- ---- writing
 
@@ -147,12 +213,52 @@ mutation_size (Clear key) = 2 * length key + 1
 mutation_size (ClearRange begin end) = length begin + length end
 mutation_size (Atomic op key operand) = length key + length operand
 
--- the transaction after an accepted write
+-- the transaction after an accepted write, which declares its keys unless it was told not to, once
 abbrev pub with_mutation : Transaction → Mutation → Transaction
 with_mutation transaction mutation = record transaction {
-  script = transaction.script ++ Wrote mutation ∷ [];
+  script = transaction.script ++ Wrote mutation (not transaction.is_silenced) ∷ [];
   size = grown transaction.size (mutation_size mutation);
+  is_silenced = false;
 }
+
+-- ---- what it is told to rest on and to declare
+
+abbrev pub range_size : KeyRange → ℕ
+range_size range = length range.begin + length range.end
+
+-- a list of ranges with one more, unless it is empty
+abbrev pub with_range : List KeyRange → KeyRange → List KeyRange
+with_range ranges range = if key_lt range.begin range.end then ranges ++ range ∷ [] else ranges
+
+abbrev pub with_read_range : Transaction → KeyRange → Transaction
+with_read_range transaction range = record transaction {
+  read_ranges = with_range transaction.read_ranges range;
+  size = grown transaction.size (range_size range);
+}
+
+abbrev pub with_write_range : Transaction → KeyRange → Transaction
+with_write_range transaction range = record transaction {
+  write_ranges = with_range transaction.write_ranges range;
+  size = grown transaction.size (range_size range);
+}
+
+abbrev pub silenced : Transaction → Transaction
+silenced transaction = record transaction { is_silenced = true }
+
+-- ---- its commit
+
+-- the checks of a commit at its version: it is above the last one, or a commit after it declares a key that the transaction
+-- rests on
+abbrev pub conflict_checks : Setting → Transaction → List (Bool × ℕ)
+conflict_checks setting transaction =
+    (is_ahead setting transaction, FUTURE_VERSION)
+    ∷ (conflicts setting.history (version_in setting transaction) transaction.read_ranges, NOT_COMMITTED)
+    ∷ []
+
+-- the version that a commit made, or -1
+abbrev pub version_made : Phase → ℤ
+version_made (phase.Tried (tried.Version version)) = pos version
+version_made _ = negsuc 0
 
 abbrev pub with_phase : Transaction → Phase → Transaction
 with_phase transaction phase = record transaction { phase = phase }

@@ -4,8 +4,9 @@
 //! Nothing here runs but a few types that definitions and code share. The crates above state their contracts by these
 //! words: `specs/Databases.antt` has the database and the mutations, `specs/Atomics.antt` the atomic operations,
 //! `specs/Reads.antt` the reads and their answers, by `specs/Selecting.antt` and `specs/Slices.antt`,
-//! `specs/Intervals.antt` the keys that a read rests on, `specs/Histories.antt` scripts, commits and the history,
-//! `specs/States.antt` what mutations say of one key, and `specs/Transactions.antt` a transaction and the checks of its calls.
+//! `specs/Intervals.antt` the keys that a read rests on, `specs/Histories.antt` scripts, commits, conflicts and the
+//! history, `specs/States.antt` what mutations say of one key, and `specs/Transactions.antt` a transaction and the checks of
+//! its calls.
 #![tactic(auto)]
 
 ghost use Rattle.std.specs.Prelude.{◌≡◌};
@@ -25,8 +26,20 @@ pub const VALUE_LIMIT: usize = 100_000;
 /// The greatest size of a transaction that may commit, in bytes.
 pub const SIZE_LIMIT: u64 = 10_000_000;
 
+/// A read version is above the last version.
+pub const FUTURE_VERSION: u16 = 1009;
+
+/// A commit after the read version declared a key that the transaction rests on.
+pub const NOT_COMMITTED: u16 = 1020;
+
 /// The life of the transaction was cancelled.
 pub const TRANSACTION_CANCELLED: u16 = 1025;
+
+/// A read rests on a key whose value isn't known until the commit.
+pub const ACCESSED_UNREADABLE: u16 = 1036;
+
+/// Stamped bytes have no room for a versionstamp.
+pub const CLIENT_INVALID_OPERATION: u16 = 2000;
 
 /// A key isn't less than `FF`, or an end of a range is greater.
 pub const KEY_OUTSIDE_LEGAL_RANGE: u16 = 2004;
@@ -34,8 +47,17 @@ pub const KEY_OUTSIDE_LEGAL_RANGE: u16 = 2004;
 /// The begin of a range is greater than its end.
 pub const INVERTED_RANGE: u16 = 2005;
 
+/// The read version is set, or taken, already.
+pub const READ_VERSION_ALREADY_SET: u16 = 2010;
+
+/// A read version isn't above 0.
+pub const VERSION_INVALID: u16 = 2011;
+
 /// A commit of this life was tried.
 pub const USED_DURING_COMMIT: u16 = 2017;
+
+/// The commit of the life was read-only, so there is no versionstamp.
+pub const NO_COMMIT_VERSION: u16 = 2021;
 
 /// No atomic operation has this name.
 pub const INVALID_MUTATION_TYPE: u16 = 2018;

@@ -9,7 +9,7 @@ pub struct Script {
 }
 
 /// All of them.
-pub const SCRIPTS: [Script; 20] = [
+pub const SCRIPTS: [Script; 22] = [
     Script {
         input: "first.kv",
         prefix: "p",
@@ -129,5 +129,17 @@ pub const SCRIPTS: [Script; 20] = [
         prefix: "p",
         status: 0,
         dump: "log_refused.dump",
+    },
+    Script {
+        input: "conflict.kv",
+        prefix: "p",
+        status: 0,
+        dump: "conflict.dump",
+    },
+    Script {
+        input: "versionstamped_key.kv",
+        prefix: "p",
+        status: 0,
+        dump: "versionstamped_key.dump",
     },
 ];

@@ -1,17 +1,23 @@
 -- A call on a transaction in its setting: what it answers, and what it leaves.
-use Rattle.std.specs.Prelude.{ℕ, ◌+◌, Bool, true, false, if◌then◌else◌, List, [], ◌∷◌, ◌++◌, Option, Some, None, unwrap_or}
+use Rattle.std.specs.Prelude.{ℕ, ◌+◌, ℤ, pos, unsigned_abs, Bool, true, false, if◌then◌else◌, List, [], ◌∷◌, ◌++◌, Option, Some, None, unwrap_or}
+use Rattle.key_bytes.specs.declared.range.KeyRange.{KeyRange}
 use Rattle.database_rules.specs.declared.TheConstants.{TRANSACTION_CANCELLED}
 use Rattle.database_rules.specs.declared.Code.{Code}
 use Rattle.database_rules.specs.declared.Tried.TheVariants as tried
 use Rattle.database_rules.specs.declared.Phase.{Phase}
 use Rattle.database_rules.specs.declared.Phase.TheVariants as phase
 use Rattle.database_rules.specs.declared.AtomicOp.{AtomicOp}
+use Rattle.database_rules.specs.Atomics.{atomic_named}
 use Rattle.database_rules.specs.Databases.{Mutation, Set, Clear, ClearRange, Atomic}
+use Rattle.database_rules.specs.States.{all_filled}
+use Rattle.database_rules.specs.Intervals.{added}
 use Rattle.database_rules.specs.Modes.{lacks_limit}
 use Rattle.database_rules.specs.Reads as read
 use Rattle.database_rules.specs.Reads.{Read, Answer, answer}
-use Rattle.database_rules.specs.Histories.{Setting, Commit, last}
-use Rattle.database_rules.specs.Transactions.{Transaction, fresh, first_failing, read_code, set_code, clear_code, clear_range_code, atomic_code, operation_named, commit_code, is_read_only, is_cancelled, is_retryable, view, late_checks, writes_of, with_version, with_read, with_mutation, with_phase, cancelled}
+use Rattle.database_rules.specs.Histories.{Setting, Commit, last, silent_by, stamp_of}
+use Rattle.database_rules.specs.Transactions.{Transaction, fresh, writes_of, declared_of, is_read_only, is_cancelled, is_retryable, version_made}
+use Rattle.database_rules.specs.Transactions.{first_failing, phase_code, read_code, set_code, clear_code, range_code, op_code, atomic_code, set_version_code, commit_code}
+use Rattle.database_rules.specs.Transactions.{version_in, map_below, view, late_checks, conflict_checks, with_version, with_read, with_mutation, with_read_range, with_write_range, silenced, with_phase, cancelled}
 use Rattle.fdb_calls.specs.declared.TxnCall.{TxnCall}
 use Rattle.fdb_calls.specs.declared.TxnCall.TheVariants as call
 use Rattle.fdb_calls.specs.declared.Reply.{Reply}
@@ -40,13 +46,15 @@ reply_of (read.ValueIs value) = reply.Value value
 reply_of (read.KeyIs key) = reply.KeyIs key
 reply_of (read.PairsAre pairs) = reply.PairsAre pairs
 
-abbrev pub read_answered : Bool → Read → Answer → Transaction → Called
-read_answered snapshot read answer transaction = answers (with_read snapshot read answer transaction) (reply_of answer)
+abbrev pub read_answered : Bool → Read → Answer → (ranges : List KeyRange) → Transaction → Called
+read_answered snapshot read answer ranges transaction = answers (with_read snapshot read answer ranges transaction) (reply_of answer)
 
 -- a read at its version, by the code of the first of its later checks that fails
 abbrev pub read_at_version : Option ℕ → Setting → Transaction → Bool → Read → Called
 read_at_version (Some code) setting transaction snapshot read = refuses transaction code
-read_at_version None setting transaction snapshot read = read_answered snapshot read (answer read (view setting transaction)) transaction
+read_at_version None setting transaction snapshot read =
+    read_answered snapshot read (answer read (view setting transaction))
+    (added read (map_below setting transaction) (writes_of transaction)) transaction
 
 -- a read that is refused by an earlier check takes no version; each other read takes it
 abbrev pub read_by : Option ℕ → Setting → Transaction → Bool → Read → Called
@@ -59,36 +67,60 @@ abbrev pub write_by : Option ℕ → Transaction → Mutation → Called
 write_by (Some code) transaction mutation = refuses transaction code
 write_by None transaction mutation = answers (with_mutation transaction mutation) reply.Done
 
--- an atomic operation by its name
+-- an atomic operation by its name; one of an unknown name is refused
 abbrev pub atomic_by : Option ℕ → Option AtomicOp → Transaction → List ℕ → List ℕ → Called
 atomic_by code None transaction key operand = refuses transaction (unwrap_or code 0)
 atomic_by code (Some op) transaction key operand = write_by code transaction (Atomic op key operand)
 
-abbrev pub commit_of : Transaction → Commit
-commit_of transaction = record { script = transaction.script; mutations = writes_of transaction }
+-- the version that a commit makes which comes next
+abbrev pub next_version : Setting → ℕ
+next_version setting = last setting.history + 1
+
+-- the commit of a transaction as the one with this versionstamp
+abbrev pub commit_of : (stamp : List ℕ) → Setting → Transaction → Commit
+commit_of stamp setting transaction = record {
+  version = version_in setting transaction;
+  script = transaction.script;
+  mutations = all_filled stamp (writes_of transaction);
+  read_ranges = transaction.read_ranges;
+  declared = declared_of stamp transaction;
+  silent = silent_by stamp transaction.script;
+}
 
 -- a commit that is not read-only makes the next version
 abbrev pub committed : Setting → Transaction → Called
 committed setting transaction = record {
-  transaction = with_phase (with_version setting transaction) (phase.Tried (tried.Version (last setting.history + 1)));
-  commits = commit_of transaction ∷ [];
+  transaction = with_phase transaction (phase.Tried (tried.Version (next_version setting)));
+  commits = commit_of (stamp_of (next_version setting)) setting transaction ∷ [];
   lives = 0;
   reply = reply.Done;
 }
 
-abbrev pub commit_allowed : Bool → Setting → Transaction → Called
-commit_allowed true setting transaction = answers (with_phase transaction (phase.Tried tried.ReadOnly)) reply.Done
-commit_allowed false setting transaction = committed setting transaction
-
--- one that is refused for its size was tried; one on a life that takes no call is only refused
+-- one that is refused was tried; one on a life that takes no call is only refused
 abbrev pub commit_refused : Phase → ℕ → Transaction → Called
 commit_refused phase.Active code transaction =
     answers (with_phase transaction (phase.Tried (tried.Refused (code_of code)))) (reply.Fault (code_of code))
 commit_refused _ code transaction = refuses transaction code
 
+-- at its version, by the code of the first of its later checks that fails
+abbrev pub commit_at_version : Option ℕ → Setting → Transaction → Called
+commit_at_version (Some code) setting transaction = commit_refused transaction.phase code transaction
+commit_at_version None setting transaction = committed setting transaction
+
+-- one that is read-only makes no version; each other takes its version
+abbrev pub commit_allowed : Bool → Setting → Transaction → Called
+commit_allowed true setting transaction = answers (with_phase transaction (phase.Tried tried.ReadOnly)) reply.Done
+commit_allowed false setting transaction =
+    commit_at_version (first_failing (conflict_checks setting (with_version setting transaction))) setting (with_version setting transaction)
+
 abbrev pub commit_by : Option ℕ → Setting → Transaction → Called
 commit_by (Some code) setting transaction = commit_refused transaction.phase code transaction
 commit_by None setting transaction = commit_allowed (is_read_only transaction) setting transaction
+
+-- a call that a check refuses, or that changes the transaction so and answers so
+abbrev pub does_by : Option ℕ → Transaction → Transaction → Reply → Called
+does_by (Some code) transaction after reply = refuses transaction code
+does_by None transaction after reply = answers after reply
 
 -- a new life of this number
 abbrev pub reset : ℕ → Called
@@ -116,16 +148,42 @@ abbrev pub clear_called : Transaction → List ℕ → Called
 clear_called transaction key = write_by (clear_code transaction.phase key) transaction (Clear key)
 
 abbrev pub clear_range_called : Transaction → List ℕ → List ℕ → Called
-clear_range_called transaction begin end = write_by (clear_range_code transaction.phase begin end) transaction (ClearRange begin end)
+clear_range_called transaction begin end = write_by (range_code transaction.phase begin end) transaction (ClearRange begin end)
 
--- an atomic operation that is known passes the checks of a set
 abbrev pub atomic_called : Transaction → AtomicOp → List ℕ → List ℕ → Called
-atomic_called transaction op key operand = write_by (set_code transaction.phase key operand) transaction (Atomic op key operand)
+atomic_called transaction op key operand = write_by (op_code transaction.phase op key operand) transaction (Atomic op key operand)
 
 -- one by its name
 abbrev pub named_atomic_called : Transaction → List ℕ → List ℕ → List ℕ → Called
 named_atomic_called transaction name key operand =
-    atomic_by (atomic_code transaction.phase name key operand) (operation_named name) transaction key operand
+    atomic_by (atomic_code transaction.phase name key operand) (atomic_named name) transaction key operand
+
+abbrev pub read_conflict_called : Transaction → KeyRange → Called
+read_conflict_called transaction range =
+    does_by (range_code transaction.phase range.begin range.end) transaction (with_read_range transaction range) reply.Done
+
+abbrev pub write_conflict_called : Transaction → KeyRange → Called
+write_conflict_called transaction range =
+    does_by (range_code transaction.phase range.begin range.end) transaction (with_write_range transaction range) reply.Done
+
+abbrev pub no_write_conflict_called : Transaction → Called
+no_write_conflict_called transaction = does_by (phase_code transaction.phase) transaction (silenced transaction) reply.Done
+
+-- the version is answered also where it is above the last one
+abbrev pub read_version_called : Setting → Transaction → Called
+read_version_called setting transaction =
+    does_by (phase_code transaction.phase) transaction (with_version setting transaction) (reply.Version (pos (version_in setting transaction)))
+
+abbrev pub set_read_version_called : Transaction → ℤ → Called
+set_read_version_called transaction version =
+    does_by (set_version_code transaction.phase transaction.version version) transaction
+    (record transaction { version = Some (unsigned_abs version) }) reply.Done
+
+abbrev pub committed_version_called : Transaction → Called
+committed_version_called transaction = answers transaction (reply.Version (version_made transaction.phase))
+
+abbrev pub versionstamp_called : Transaction → Called
+versionstamp_called transaction = does_by (phase_code transaction.phase) transaction transaction (reply.Life transaction.life)
 
 abbrev pub commit_called : Setting → Transaction → Called
 commit_called setting transaction = commit_by (commit_code transaction.phase (is_read_only transaction) transaction.size) setting transaction
@@ -149,6 +207,13 @@ called setting life transaction (call.Set key value) = set_called transaction ke
 called setting life transaction (call.Clear key) = clear_called transaction key
 called setting life transaction (call.ClearRange range) = clear_range_called transaction range.begin range.end
 called setting life transaction (call.Atomic name key operand) = named_atomic_called transaction name key operand
+called setting life transaction (call.ReadConflict range) = read_conflict_called transaction range
+called setting life transaction (call.WriteConflict range) = write_conflict_called transaction range
+called setting life transaction call.NoWriteConflict = no_write_conflict_called transaction
+called setting life transaction call.ReadVersion = read_version_called setting transaction
+called setting life transaction (call.SetReadVersion version) = set_read_version_called transaction version
+called setting life transaction call.CommittedVersion = committed_version_called transaction
+called setting life transaction call.Versionstamp = versionstamp_called transaction
 called setting life transaction call.Commit = commit_called setting transaction
 called setting life transaction (call.OnError code) = on_error_called life transaction code
 called setting life transaction call.Reset = reset life

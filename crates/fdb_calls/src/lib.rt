@@ -17,7 +17,8 @@ pub use tr::Tr;
 /// A call on a transaction (API reference, "Transaction").
 #[derive(Debug, Drop)]
 pub enum TxnCall {
-    /// Reads the value of a key (`fdb_transaction_get`). Whether by snapshot changes no answer.
+    /// Reads the value of a key (`fdb_transaction_get`). A read by snapshot has the same answer, and no commit is refused
+    /// for it.
     Get {
         key: Key,
         snapshot: bool,
@@ -64,6 +65,26 @@ pub enum TxnCall {
         key: Key,
         operand: Bytes,
     },
+    /// Lets the commit rest on the keys of a range, as if they had been read (`fdb_transaction_add_conflict_range`).
+    ReadConflict {
+        range: KeyRange,
+    },
+    /// Lets the commit declare the keys of a range, as if they were written (`fdb_transaction_add_conflict_range`).
+    WriteConflict {
+        range: KeyRange,
+    },
+    /// Lets the next write declare nothing (`FDB_TR_OPTION_NEXT_WRITE_NO_WRITE_CONFLICT_RANGE`).
+    NoWriteConflict,
+    /// Takes the read version (`fdb_transaction_get_read_version`).
+    ReadVersion,
+    /// Sets the read version (`fdb_transaction_set_read_version`).
+    SetReadVersion {
+        version: i64,
+    },
+    /// The version that the transaction's commit made, or -1 (`fdb_transaction_get_committed_version`).
+    CommittedVersion,
+    /// The life whose commit's versionstamp is promised (`fdb_transaction_get_versionstamp`).
+    Versionstamp,
     /// Commits what the transaction wrote (`fdb_transaction_commit`).
     Commit,
     /// Begins anew after an error that allows it (`fdb_transaction_on_error`).
@@ -101,6 +122,10 @@ pub enum Reply {
     KeyIs(Key),
     /// The pairs of a range.
     PairsAre(Pairs),
+    /// A version, or -1.
+    Version(i64),
+    /// The number of a life.
+    Life(u64),
     /// The first check that failed has this code.
     Fault(Code),
     /// Memory ran out.

@@ -9,6 +9,8 @@ ghost use Rattle.database_rules.specs.declared.AtomicOp.TheVariants as atomic;
 ghost use Rattle.fdb_calls.specs.declared.Reply.TheVariants as reply;
 ghost use Rattle.fdb_calls.specs.Answers.{Answered};
 ghost use Rattle.fdb_calls.specs.Calling.{read_called, set_called, clear_called, clear_range_called, atomic_called};
+ghost use Rattle.fdb_calls.specs.Calling.{no_write_conflict_called, write_conflict_called};
+ghost use Rattle.database_rules.specs.Intervals.{one};
 
 use crate::fault::TrFault;
 use database_rules::AtomicOp;
@@ -24,10 +26,11 @@ pub trait Tr {
     // the atomic operations that it takes
     ghost takes: { AnyOp → Bool };
 
-    // it is still over the same transaction and the same store
+    // it is still over the same transaction, and the same of whatever else it reads and is judged by
     ghost same: { Self → Self → Type 0 };
 
-    /// The value of `key` that the transaction sees (`fdb_transaction_get`). Whether by snapshot changes no answer.
+    /// The value of `key` that the transaction sees (`fdb_transaction_get`). A read by snapshot has the same answer, and adds
+    /// nothing to the keys that the transaction rests on.
     fn get(&mut self, key: &[u8], snapshot: bool) -> Result<Option<Bytes>, TrFault>
         ensures answer { (setting : Setting) (t : Transaction) → stands self.old setting t
             → Answered reply.Value result (stands self.new setting) t (read_called setting t false snapshot (read.Get key.now)) }
@@ -71,6 +74,18 @@ pub trait Tr {
         requires { takes op ≡ true }
         ensures answer { (setting : Setting) (t : Transaction) → stands self.old setting t
             → Answered (λ _. reply.Done) result (stands self.new setting) t (atomic_called t op key.now operand.now) }
+        ensures same { same self.old self.new };
+
+    /// Lets the next write declare nothing (`FDB_TR_OPTION_NEXT_WRITE_NO_WRITE_CONFLICT_RANGE`).
+    fn no_write_conflict(&mut self) -> Result<(), TrFault>
+        ensures answer { (setting : Setting) (t : Transaction) → stands self.old setting t
+            → Answered (λ _. reply.Done) result (stands self.new setting) t (no_write_conflict_called t) }
+        ensures same { same self.old self.new };
+
+    /// Declares `key`, as if it were written (`fdb_transaction_add_conflict_range`).
+    fn write_conflict_key(&mut self, key: &[u8]) -> Result<(), TrFault>
+        ensures answer { (setting : Setting) (t : Transaction) → stands self.old setting t
+            → Answered (λ _. reply.Done) result (stands self.new setting) t (write_conflict_called t (one key.now)) }
         ensures same { same self.old self.new };
 
     // each takes ADD

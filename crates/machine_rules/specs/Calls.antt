@@ -1,13 +1,12 @@
 -- What an instruction that makes a request pops, and the request that it makes (bindingApiTester.md).
-use Rattle.std.specs.Prelude.{ℕ, ◌-◌, Bool, List, length, map, take, reverse, pos, Option, Some, None, Ok, unwrap_or, option_and_then, if◌then◌else◌}
+use Rattle.std.specs.Prelude.{ℕ, ◌-◌, ℤ, pos, Bool, List, length, map, take, reverse, Ok, unwrap_or}
 use Rattle.std.specs.List.{enumerate_from}
-use Rattle.std.specs.Option.{option_map_or}
 use Rattle.key_bytes.specs.Keys.{top}
 use Rattle.key_bytes.specs.Successors.{strinc}
-use Rattle.database_rules.specs.Atomics.{is_versionstamped, atomic_named}
+use Rattle.key_bytes.specs.declared.range.KeyRange.{KeyRange}
+use Rattle.database_rules.specs.Intervals.{one}
 use Rattle.database_rules.specs.declared.selector.Selector.{Selector}
 use Rattle.database_rules.specs.declared.mode.Mode.{Mode}
-use Rattle.fdb_tuple.specs.declared.tuple.Elem.{Elem}
 use Rattle.fdb_tuple.specs.Tuples.{Int, Empty, Single}
 use Rattle.fdb_tuple.specs.Listed.{before}
 use Rattle.fdb_tuple.specs.Spelling.{spelling}
@@ -25,7 +24,7 @@ use Rattle.machine_rules.specs.declared.TransactionOperation.{TransactionOperati
 use Rattle.machine_rules.specs.declared.TransactionOperation.TheVariants as on_transaction
 use Rattle.machine_rules.specs.declared.Scope.{Scope}
 use Rattle.machine_rules.specs.declared.Scope.TheVariants as scope
-use Rattle.machine_rules.specs.Operands.{◌>>=◌, Popped, bytes_of, operand_by, bytes_operand, code_operand, flag_operand, offset_operand, limit_operand, mode_operand, two_operands}
+use Rattle.machine_rules.specs.Operands.{◌>>=◌, Popped, bytes_operand, code_operand, flag_operand, offset_operand, limit_operand, mode_operand, two_operands}
 
 -- ---- calls on the database
 
@@ -35,12 +34,19 @@ Calls = TxnCall × Awaits
 
 abbrev pub written_in : Scope → Awaits
 written_in scope.Transaction = awaits.Nothing
+written_in scope.Snapshot = awaits.Nothing
 written_in scope.Database = awaits.NotPresent
 
-abbrev pub get_call : List Item → Popped Calls
-get_call stack = do
+-- a read in this scope is by snapshot
+abbrev pub is_snapshot : Scope → Bool
+is_snapshot scope.Transaction = Bool.false
+is_snapshot scope.Snapshot = Bool.true
+is_snapshot scope.Database = Bool.false
+
+abbrev pub get_call : Scope → List Item → Popped Calls
+get_call scope stack = do
   key ← bytes_operand stack
-  Ok ((call.Get key.0 Bool.false, awaits.Value), key.1)
+  Ok ((call.Get key.0 (is_snapshot scope), awaits.Value), key.1)
 
 -- a selector: its key, whether a key that equals it counts among those before, and its offset
 abbrev pub selector_operand : List Item → Popped Selector
@@ -50,11 +56,11 @@ selector_operand stack = do
   offset ← offset_operand or_equal.1
   Ok (record { key = key.0; or_equal = or_equal.0; offset = offset.0 }, offset.1)
 
-abbrev pub get_key_call : List Item → Popped Calls
-get_key_call stack = do
+abbrev pub get_key_call : Scope → List Item → Popped Calls
+get_key_call scope stack = do
   selector ← selector_operand stack
   prefix ← bytes_operand selector.1
-  Ok ((call.GetKey selector.0 Bool.false, awaits.Key prefix.0), prefix.1)
+  Ok ((call.GetKey selector.0 (is_snapshot scope), awaits.Key prefix.0), prefix.1)
 
 -- how a range is read: the limit, whether reversed, and the mode
 pub record Manner : Type 0 where
@@ -69,32 +75,32 @@ manner_operand stack = do
   mode ← mode_operand reverse.1
   Ok (record { limit = limit.0; reverse = reverse.0; mode = mode.0 }, mode.1)
 
-abbrev pub get_between : List ℕ → List ℕ → Manner → TxnCall
-get_between begin end manner =
-    call.GetKeyRange (record { begin = begin; end = end }) manner.limit manner.reverse manner.mode Bool.false
+abbrev pub get_between : Scope → List ℕ → List ℕ → Manner → TxnCall
+get_between scope begin end manner =
+    call.GetKeyRange (record { begin = begin; end = end }) manner.limit manner.reverse manner.mode (is_snapshot scope)
 
-abbrev pub get_range_call : List Item → Popped Calls
-get_range_call stack = do
+abbrev pub get_range_call : Scope → List Item → Popped Calls
+get_range_call scope stack = do
   ends ← two_operands bytes_operand bytes_operand stack
   manner ← manner_operand ends.1
-  Ok ((get_between ends.0.0 ends.0.1 manner.0, awaits.Pairs), manner.1)
+  Ok ((get_between scope ends.0.0 ends.0.1 manner.0, awaits.Pairs), manner.1)
 
 -- the end of the range of the keys that begin with a prefix: the least key above them, or FF where there is none
 abbrev pub prefix_end : List ℕ → List ℕ
 prefix_end prefix = unwrap_or (strinc prefix) top
 
-abbrev pub get_range_starts_with_call : List Item → Popped Calls
-get_range_starts_with_call stack = do
+abbrev pub get_range_starts_with_call : Scope → List Item → Popped Calls
+get_range_starts_with_call scope stack = do
   prefix ← bytes_operand stack
   manner ← manner_operand prefix.1
-  Ok ((get_between prefix.0 (prefix_end prefix.0) manner.0, awaits.Pairs), manner.1)
+  Ok ((get_between scope prefix.0 (prefix_end prefix.0) manner.0, awaits.Pairs), manner.1)
 
-abbrev pub get_range_selector_call : List Item → Popped Calls
-get_range_selector_call stack = do
+abbrev pub get_range_selector_call : Scope → List Item → Popped Calls
+get_range_selector_call scope stack = do
   ends ← two_operands selector_operand selector_operand stack
   manner ← manner_operand ends.1
   prefix ← bytes_operand manner.1
-  Ok ((call.GetRange ends.0.0 ends.0.1 manner.0.limit manner.0.reverse manner.0.mode Bool.false, awaits.PairsWithin prefix.0), prefix.1)
+  Ok ((call.GetRange ends.0.0 ends.0.1 manner.0.limit manner.0.reverse manner.0.mode (is_snapshot scope), awaits.PairsWithin prefix.0), prefix.1)
 
 abbrev pub set_call : Scope → List Item → Popped Calls
 set_call scope stack = do
@@ -119,25 +125,18 @@ clear_range_starts_with_call scope stack = do
   prefix ← bytes_operand stack
   Ok ((clear_between prefix.0 (prefix_end prefix.0), written_in scope), prefix.1)
 
--- the name of an atomic operation; a versionstamped one is refused as an operand, for now
-abbrev pub name_of_atomic : List ℕ → Option (List ℕ)
-name_of_atomic name = if option_map_or is_versionstamped (atomic_named name) Bool.false then None else Some name
-
-abbrev pub atomic_name : Elem → Option (List ℕ)
-atomic_name element = option_and_then name_of_atomic (bytes_of element)
-
 abbrev pub atomic_call : Scope → List Item → Popped Calls
 atomic_call scope stack = do
-  operands ← two_operands (operand_by atomic_name) (two_operands bytes_operand bytes_operand) stack
+  operands ← two_operands bytes_operand (two_operands bytes_operand bytes_operand) stack
   Ok ((call.Atomic operands.0.0 operands.0.1.0 operands.0.1.1, written_in scope), operands.1)
 
 -- the call that an operation makes in this scope, by what it pops
 abbrev pub call_of : DatabaseOperation → Scope → List Item → Popped Calls
-call_of on_database.Get scope stack = get_call stack
-call_of on_database.GetKey scope stack = get_key_call stack
-call_of on_database.GetRange scope stack = get_range_call stack
-call_of on_database.GetRangeStartsWith scope stack = get_range_starts_with_call stack
-call_of on_database.GetRangeSelector scope stack = get_range_selector_call stack
+call_of on_database.Get scope stack = get_call scope stack
+call_of on_database.GetKey scope stack = get_key_call scope stack
+call_of on_database.GetRange scope stack = get_range_call scope stack
+call_of on_database.GetRangeStartsWith scope stack = get_range_starts_with_call scope stack
+call_of on_database.GetRangeSelector scope stack = get_range_selector_call scope stack
 call_of on_database.Set scope stack = set_call scope stack
 call_of on_database.Clear scope stack = clear_call scope stack
 call_of on_database.ClearRange scope stack = clear_range_call scope stack
@@ -147,6 +146,7 @@ call_of on_database.AtomicOp scope stack = atomic_call scope stack
 -- the request that makes a call in this scope, where this is the current name
 abbrev pub request_in : Scope → List ℕ → TxnCall → Request
 request_in scope.Transaction name call = request.On name call
+request_in scope.Snapshot name call = request.On name call
 request_in scope.Database name call = request.Database call
 
 -- ---- LOG_STACK
@@ -167,15 +167,38 @@ log_entries stack = map log_entry (enumerate_from (length stack - LOG_BATCH) (re
 abbrev pub on_current : List ℕ → TxnCall → List Item → Popped Request
 on_current name call stack = Ok (request.On name call, stack)
 
--- the request that an operation makes, where this is the current name
-abbrev pub request_of : TransactionOperation → List ℕ → List Item → Popped Request
-request_of on_transaction.NewTransaction name stack = Ok (request.New name, stack)
-request_of on_transaction.OnError name stack = do
+-- the call of an operation that pops the two ends of a range
+abbrev pub range_request : List ℕ → (KeyRange → TxnCall) → List Item → Popped Request
+range_request name call_on stack = do
+  ends ← two_operands bytes_operand bytes_operand stack
+  Ok (request.On name (call_on (record { begin = ends.0.0; end = ends.0.1 })), ends.1)
+
+-- the call of an operation that pops a key, on the range of it alone
+abbrev pub key_request : List ℕ → (KeyRange → TxnCall) → List Item → Popped Request
+key_request name call_on stack = do
+  key ← bytes_operand stack
+  Ok (request.On name (call_on (one key.0)), key.1)
+
+abbrev pub on_error_request : List ℕ → List Item → Popped Request
+on_error_request name stack = do
   code ← code_operand stack
   Ok (request.On name (call.OnError (record { 0 = code.0 })), code.1)
-request_of on_transaction.Reset name stack = on_current name call.Reset stack
-request_of on_transaction.Cancel name stack = on_current name call.Cancel stack
-request_of on_transaction.Commit name stack = on_current name call.Commit stack
+
+-- the request that an operation makes, where these are the current name and the last version seen
+abbrev pub request_of : TransactionOperation → List ℕ → ℤ → List Item → Popped Request
+request_of on_transaction.NewTransaction name seen stack = Ok (request.New name, stack)
+request_of on_transaction.OnError name seen stack = on_error_request name stack
+request_of on_transaction.Reset name seen stack = on_current name call.Reset stack
+request_of on_transaction.Cancel name seen stack = on_current name call.Cancel stack
+request_of on_transaction.Commit name seen stack = on_current name call.Commit stack
+request_of on_transaction.GetReadVersion name seen stack = on_current name call.ReadVersion stack
+request_of on_transaction.SetReadVersion name seen stack = on_current name (call.SetReadVersion seen) stack
+request_of on_transaction.GetCommittedVersion name seen stack = on_current name call.CommittedVersion stack
+request_of on_transaction.ReadConflictRange name seen stack = range_request name call.ReadConflict stack
+request_of on_transaction.WriteConflictRange name seen stack = range_request name call.WriteConflict stack
+request_of on_transaction.ReadConflictKey name seen stack = key_request name call.ReadConflict stack
+request_of on_transaction.WriteConflictKey name seen stack = key_request name call.WriteConflict stack
+request_of on_transaction.DisableWriteConflict name seen stack = on_current name call.NoWriteConflict stack
 
 abbrev pub awaits_of : TransactionOperation → Awaits
 awaits_of on_transaction.NewTransaction = awaits.Nothing
@@ -183,3 +206,11 @@ awaits_of on_transaction.OnError = awaits.NotPresent
 awaits_of on_transaction.Reset = awaits.Nothing
 awaits_of on_transaction.Cancel = awaits.Nothing
 awaits_of on_transaction.Commit = awaits.NotPresent
+awaits_of on_transaction.GetReadVersion = awaits.ReadVersion
+awaits_of on_transaction.SetReadVersion = awaits.Nothing
+awaits_of on_transaction.GetCommittedVersion = awaits.CommittedVersion
+awaits_of on_transaction.ReadConflictRange = awaits.ConflictRange
+awaits_of on_transaction.WriteConflictRange = awaits.ConflictRange
+awaits_of on_transaction.ReadConflictKey = awaits.ConflictKey
+awaits_of on_transaction.WriteConflictKey = awaits.ConflictKey
+awaits_of on_transaction.DisableWriteConflict = awaits.Nothing

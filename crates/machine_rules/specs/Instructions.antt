@@ -45,20 +45,34 @@ transaction_operation name =
     else if bytes_eq name (codes "RESET") then Some on_transaction.Reset
     else if bytes_eq name (codes "CANCEL") then Some on_transaction.Cancel
     else if bytes_eq name (codes "COMMIT") then Some on_transaction.Commit
+    else if bytes_eq name (codes "GET_READ_VERSION") then Some on_transaction.GetReadVersion
+    else if bytes_eq name (codes "GET_READ_VERSION_SNAPSHOT") then Some on_transaction.GetReadVersion
+    else if bytes_eq name (codes "SET_READ_VERSION") then Some on_transaction.SetReadVersion
+    else if bytes_eq name (codes "GET_COMMITTED_VERSION") then Some on_transaction.GetCommittedVersion
+    else if bytes_eq name (codes "READ_CONFLICT_RANGE") then Some on_transaction.ReadConflictRange
+    else if bytes_eq name (codes "WRITE_CONFLICT_RANGE") then Some on_transaction.WriteConflictRange
+    else if bytes_eq name (codes "READ_CONFLICT_KEY") then Some on_transaction.ReadConflictKey
+    else if bytes_eq name (codes "WRITE_CONFLICT_KEY") then Some on_transaction.WriteConflictKey
+    else if bytes_eq name (codes "DISABLE_WRITE_CONFLICT") then Some on_transaction.DisableWriteConflict
     else None
 
--- the call of two forms of a name, with its form
+-- the call of a name, with its form
 abbrev pub database_operation : List ℕ → Option (DatabaseOperation × Scope)
 database_operation name =
     if bytes_eq name (codes "GET") then Some (on_database.Get, scope.Transaction)
+    else if bytes_eq name (codes "GET_SNAPSHOT") then Some (on_database.Get, scope.Snapshot)
     else if bytes_eq name (codes "GET_DATABASE") then Some (on_database.Get, scope.Database)
     else if bytes_eq name (codes "GET_KEY") then Some (on_database.GetKey, scope.Transaction)
+    else if bytes_eq name (codes "GET_KEY_SNAPSHOT") then Some (on_database.GetKey, scope.Snapshot)
     else if bytes_eq name (codes "GET_KEY_DATABASE") then Some (on_database.GetKey, scope.Database)
     else if bytes_eq name (codes "GET_RANGE") then Some (on_database.GetRange, scope.Transaction)
+    else if bytes_eq name (codes "GET_RANGE_SNAPSHOT") then Some (on_database.GetRange, scope.Snapshot)
     else if bytes_eq name (codes "GET_RANGE_DATABASE") then Some (on_database.GetRange, scope.Database)
     else if bytes_eq name (codes "GET_RANGE_STARTS_WITH") then Some (on_database.GetRangeStartsWith, scope.Transaction)
+    else if bytes_eq name (codes "GET_RANGE_STARTS_WITH_SNAPSHOT") then Some (on_database.GetRangeStartsWith, scope.Snapshot)
     else if bytes_eq name (codes "GET_RANGE_STARTS_WITH_DATABASE") then Some (on_database.GetRangeStartsWith, scope.Database)
     else if bytes_eq name (codes "GET_RANGE_SELECTOR") then Some (on_database.GetRangeSelector, scope.Transaction)
+    else if bytes_eq name (codes "GET_RANGE_SELECTOR_SNAPSHOT") then Some (on_database.GetRangeSelector, scope.Snapshot)
     else if bytes_eq name (codes "GET_RANGE_SELECTOR_DATABASE") then Some (on_database.GetRangeSelector, scope.Database)
     else if bytes_eq name (codes "SET") then Some (on_database.Set, scope.Transaction)
     else if bytes_eq name (codes "SET_DATABASE") then Some (on_database.Set, scope.Database)

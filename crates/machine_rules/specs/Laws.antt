@@ -8,7 +8,7 @@ use Rattle.machine_rules.specs.declared.TheConstants.{LOG_BATCH}
 use Rattle.machine_rules.specs.declared.Item.{Item}
 use Rattle.machine_rules.specs.declared.State.{State}
 use Rattle.machine_rules.specs.declared.State.TheVariants as state
-use Rattle.machine_rules.specs.Machines.{Registers, Machine, Progress, Act, Does, Stops, Asks, silent, acted, next_act, advance_by, advance, logs_on, Use, Goes, Pushes, Fails, LogsOn, use_of, used, resumed, resumed_by}
+use Rattle.machine_rules.specs.Machines.{Registers, Machine, Progress, Act, Does, Stops, Asks, silent, acted, next_act, advance_by, advance, logs_on, Use, Goes, Pushes, Keeps, Fails, LogsOn, use_of, used, resumed, resumed_by}
 use Rattle.machine_rules.specs.Runs.{Run, is_running, rested, at_rest, take_place, run_from}
 
 -- ---- one step of a machine
@@ -124,6 +124,7 @@ logs_go machine (top ∷ below) prefix is =
 used_goes : (machine : Machine) (used_for : Use) → GoesOn machine (acted machine (used machine.next machine.registers used_for))
 used_goes machine Goes = does_go machine machine.registers
 used_goes machine (Pushes element) = does_go machine _
+used_goes machine (Keeps version element) = does_go machine _
 used_goes machine (Fails word element) = does_go machine _
 used_goes machine (LogsOn prefix) = logs_go machine machine.registers.stack prefix refl
 

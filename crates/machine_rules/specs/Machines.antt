@@ -1,5 +1,5 @@
 -- A machine and its instructions (bindingApiTester.md).
-use Rattle.std.specs.Prelude.{ℕ, ◌+◌, if◌then◌else◌, List, [], ◌∷◌, ◌++◌, drop, flat_map, Option, Some, None, Ok, Err, slice_get, codes, decimal}
+use Rattle.std.specs.Prelude.{ℕ, ◌+◌, ℤ, if◌then◌else◌, List, [], ◌∷◌, ◌++◌, drop, flat_map, Option, Some, None, Ok, Err, slice_get, codes, decimal}
 use Rattle.std.specs.List.{filter}
 use Rattle.key_bytes.specs.Keys.{key_lt, begins_with}
 use Rattle.database_rules.specs.Slices.{Entries}
@@ -35,6 +35,8 @@ use Rattle.machine_rules.specs.Instructions.{instruction_of}
 pub record Registers : Type 0 where
   -- the name of the current transaction
   pub name : List ℕ
+  -- the last version seen, which may be -1
+  pub last_seen : ℤ
   -- the items, the top first
   pub stack : List Item
   -- the errors that were noted, the earliest first
@@ -143,7 +145,7 @@ act_of number registers (Some (instruction.Push element)) = Does (pushing number
 act_of number registers (Some (instruction.OnStack operation)) = does number registers (operated operation number registers.stack)
 act_of number registers (Some instruction.UseTransaction) = uses number registers (bytes_operand registers.stack)
 act_of number registers (Some (instruction.OnTransaction operation)) =
-    asks number registers (awaits_of operation) (request_of operation registers.name registers.stack)
+    asks number registers (awaits_of operation) (request_of operation registers.name registers.last_seen registers.stack)
 act_of number registers (Some (instruction.OnDatabase operation scope)) =
     calls number registers scope (call_of operation scope registers.stack)
 act_of number registers (Some instruction.LogStack) = logs_stack number registers (bytes_operand registers.stack)
@@ -166,9 +168,21 @@ advance machine = advance_by machine.state machine
 
 -- ---- using a reply
 
--- the fixed text, a byte string
+-- the fixed texts, byte strings
 abbrev pub result_not_present : Elem
 result_not_present = elem.Bytes (codes "RESULT_NOT_PRESENT")
+
+abbrev pub got_read_version : Elem
+got_read_version = elem.Bytes (codes "GOT_READ_VERSION")
+
+abbrev pub got_committed_version : Elem
+got_committed_version = elem.Bytes (codes "GOT_COMMITTED_VERSION")
+
+abbrev pub set_conflict_range : Elem
+set_conflict_range = elem.Bytes (codes "SET_CONFLICT_RANGE")
+
+abbrev pub set_conflict_key : Elem
+set_conflict_key = elem.Bytes (codes "SET_CONFLICT_KEY")
 
 -- the item that tells of a code
 abbrev pub error_item : ℕ → Elem
@@ -193,6 +207,8 @@ pairs_within prefix pairs = filter (λ e. begins_with e.0 prefix) pairs
 pub data Use : Type 0 where
   Goes : Use
   Pushes : (element : Elem) → Use
+  -- a version is kept as the last one seen, and an element pushed
+  Keeps : (version : ℤ) (element : Elem) → Use
   -- a fault is noted by its word, and an element pushed
   Fails : (word : List ℕ) (element : Elem) → Use
   -- LOG_STACK goes on
@@ -207,12 +223,17 @@ use_of (awaits.Key prefix) (reply.KeyIs key) = Pushes (elem.Bytes (key_within pr
 use_of awaits.Pairs (reply.PairsAre pairs) = Pushes (packed_pairs pairs)
 use_of (awaits.PairsWithin prefix) (reply.PairsAre pairs) = Pushes (packed_pairs (pairs_within prefix pairs))
 use_of (awaits.Logged prefix) reply.Done = LogsOn prefix
+use_of awaits.ReadVersion (reply.Version version) = Keeps version got_read_version
+use_of awaits.CommittedVersion (reply.Version version) = Keeps version got_committed_version
+use_of awaits.ConflictRange reply.Done = Pushes set_conflict_range
+use_of awaits.ConflictKey reply.Done = Pushes set_conflict_key
 use_of awaits reply = Goes
 
 -- in the instruction of this number
 abbrev pub used : ℕ → Registers → Use → Act
 used number registers Goes = Does registers
 used number registers (Pushes element) = Does (pushing number registers element)
+used number registers (Keeps version element) = Does (pushing number (record registers { last_seen = version }) element)
 used number registers (Fails word element) = Does (failing number registers word element)
 used number registers (LogsOn prefix) = logs_on registers.stack registers prefix
 

@@ -1,5 +1,5 @@
 -- A run over an order of requests, and its dump.
-use Rattle.std.specs.Prelude.{◌≡◌, ℕ, zero, suc, ◌+◌, ◌-◌, Bool, true, false, if◌then◌else◌, List, [], ◌∷◌, ◌++◌, length, map, filter, flat_map, reverse, Option, Some, option_and_then, option_map, slice_get, slice_set, IsTrue, codes}
+use Rattle.std.specs.Prelude.{◌≡◌, ℕ, zero, suc, pos, ◌+◌, ◌-◌, Bool, true, false, if◌then◌else◌, List, [], ◌∷◌, ◌++◌, length, map, filter, flat_map, reverse, Option, Some, option_and_then, option_map, slice_get, slice_set, IsTrue, codes}
 use Rattle.std.specs.List.{enumerate_from, list_all}
 use Rattle.std.specs.FinMap as finite
 use Rattle.key_bytes.specs.Keys.{within}
@@ -55,7 +55,7 @@ started world number prefix = record {
   instructions = instructions_in (newest world) prefix;
   next = 0;
   polls = POLLS;
-  registers = record { name = prefix; stack = []; errors = [] };
+  registers = record { name = prefix; last_seen = pos 0; stack = []; errors = [] };
   state = state.Running;
 }
 

@@ -63,6 +63,14 @@ pub enum Awaits {
     PairsWithin { prefix: Bytes },
     /// The next items are logged under the prefix, until none is left.
     Logged { prefix: Bytes },
+    /// The version is kept as the last one seen, and the fixed text `GOT_READ_VERSION` is pushed.
+    ReadVersion,
+    /// The version is kept as the last one seen, and the fixed text `GOT_COMMITTED_VERSION` is pushed.
+    CommittedVersion,
+    /// The fixed text `SET_CONFLICT_RANGE` is pushed.
+    ConflictRange,
+    /// The fixed text `SET_CONFLICT_KEY` is pushed.
+    ConflictKey,
 }
 
 /// What a machine is about to do.
@@ -111,7 +119,8 @@ pub enum StackOperation {
     UnitTests,
 }
 
-/// A call on the database that has two forms (bindingApiTester.md): on the current transaction, or with `_DATABASE`.
+/// A call on the database that has more forms than one (bindingApiTester.md): on the current transaction, with `_DATABASE`,
+/// and, where it reads, with `_SNAPSHOT`.
 #[derive(Clone, Copy, Debug, PartialEq, Eq)]
 pub enum DatabaseOperation {
     /// Pops a key, and pushes its value.
@@ -137,11 +146,13 @@ pub enum DatabaseOperation {
     AtomicOp,
 }
 
-/// Where a call of two forms is made.
+/// Where a call is made that has more forms than one.
 #[derive(Clone, Copy, Debug, PartialEq, Eq)]
 pub enum Scope {
     /// On the current transaction.
     Transaction,
+    /// On the current transaction, by snapshot.
+    Snapshot,
     /// On a transaction of its own, which is then committed.
     Database,
 }
@@ -159,6 +170,22 @@ pub enum TransactionOperation {
     Cancel,
     /// Commits.
     Commit,
+    /// Takes the read version, which is the last one seen from then on.
+    GetReadVersion,
+    /// Sets the read version to the last one seen.
+    SetReadVersion,
+    /// The version that the commit made is the last one seen from then on, or -1.
+    GetCommittedVersion,
+    /// Pops two keys, and lets the commit rest on the range between them.
+    ReadConflictRange,
+    /// Pops two keys, and declares the range between them.
+    WriteConflictRange,
+    /// Pops a key, and lets the commit rest on it.
+    ReadConflictKey,
+    /// Pops a key, and declares it.
+    WriteConflictKey,
+    /// Lets the next write declare nothing.
+    DisableWriteConflict,
 }
 
 /// An instruction that the machine knows.
@@ -172,7 +199,7 @@ pub enum Instruction {
     UseTransaction,
     /// Works on the current transaction.
     OnTransaction(TransactionOperation),
-    /// Calls the database in one of two forms.
+    /// Calls the database in one of its forms.
     OnDatabase(DatabaseOperation, Scope),
     /// Pops a prefix, and writes all items of the stack under it, at most `LOG_BATCH` in one commit.
     LogStack,

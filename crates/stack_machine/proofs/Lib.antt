@@ -1,3 +1,4 @@
 pub mod Again
 pub mod Elements
+pub mod Forms
 pub mod Within

@@ -1,5 +1,7 @@
 pub mod Acts
+pub mod Forms
 pub mod MachineModel
 pub mod Packed
+pub mod Ranges
 pub mod Steps
 pub mod Pushes

@@ -4,6 +4,7 @@ ghost use Rattle.std.specs.Prelude.{◌≡◌, [], IfOk, IfSome, option_to_list}
 ghost use Rattle.machine_rules.specs.Operands.{bytes_of};
 ghost use Rattle.machine_rules.specs.Instructions.{stack_operation, transaction_operation, database_operation};
 ghost use Rattle.machine_rules.specs.Instructions.{bare_instruction, named_instruction, instruction_in, instruction_of};
+ghost use Rattle.stack_machine.specs.Forms.{read_form, write_form};
 ghost use Rattle.stack_machine.specs.Pushes.{PushesAnElement};
 ghost use Rattle.fdb_tuple.specs.Listed.{IsElement};
 ghost use Rattle.stack_machine.specs.Pushes.{AreElements};
@@ -85,6 +86,24 @@ fn transaction_operation(name: &[u8]) -> Option<TransactionOperation>
         Some(TransactionOperation::Cancel)
     } else if name == b"COMMIT".as_slice() {
         Some(TransactionOperation::Commit)
+    } else if name == b"GET_READ_VERSION".as_slice()
+        || name == b"GET_READ_VERSION_SNAPSHOT".as_slice()
+    {
+        Some(TransactionOperation::GetReadVersion)
+    } else if name == b"SET_READ_VERSION".as_slice() {
+        Some(TransactionOperation::SetReadVersion)
+    } else if name == b"GET_COMMITTED_VERSION".as_slice() {
+        Some(TransactionOperation::GetCommittedVersion)
+    } else if name == b"READ_CONFLICT_RANGE".as_slice() {
+        Some(TransactionOperation::ReadConflictRange)
+    } else if name == b"WRITE_CONFLICT_RANGE".as_slice() {
+        Some(TransactionOperation::WriteConflictRange)
+    } else if name == b"READ_CONFLICT_KEY".as_slice() {
+        Some(TransactionOperation::ReadConflictKey)
+    } else if name == b"WRITE_CONFLICT_KEY".as_slice() {
+        Some(TransactionOperation::WriteConflictKey)
+    } else if name == b"DISABLE_WRITE_CONFLICT".as_slice() {
+        Some(TransactionOperation::DisableWriteConflict)
     } else {
         None
     }
@@ -93,46 +112,60 @@ fn transaction_operation(name: &[u8]) -> Option<TransactionOperation>
 fn database_operation(name: &[u8]) -> Option<(DatabaseOperation, Scope)>
     ensures { result ≡ database_operation name.now }
 {
-    if name == b"GET".as_slice() {
-        Some((DatabaseOperation::Get, Scope::Transaction))
-    } else if name == b"GET_DATABASE".as_slice() {
-        Some((DatabaseOperation::Get, Scope::Database))
-    } else if name == b"GET_KEY".as_slice() {
-        Some((DatabaseOperation::GetKey, Scope::Transaction))
-    } else if name == b"GET_KEY_DATABASE".as_slice() {
-        Some((DatabaseOperation::GetKey, Scope::Database))
-    } else if name == b"GET_RANGE".as_slice() {
-        Some((DatabaseOperation::GetRange, Scope::Transaction))
-    } else if name == b"GET_RANGE_DATABASE".as_slice() {
-        Some((DatabaseOperation::GetRange, Scope::Database))
-    } else if name == b"GET_RANGE_STARTS_WITH".as_slice() {
-        Some((DatabaseOperation::GetRangeStartsWith, Scope::Transaction))
-    } else if name == b"GET_RANGE_STARTS_WITH_DATABASE".as_slice() {
-        Some((DatabaseOperation::GetRangeStartsWith, Scope::Database))
-    } else if name == b"GET_RANGE_SELECTOR".as_slice() {
-        Some((DatabaseOperation::GetRangeSelector, Scope::Transaction))
-    } else if name == b"GET_RANGE_SELECTOR_DATABASE".as_slice() {
-        Some((DatabaseOperation::GetRangeSelector, Scope::Database))
-    } else if name == b"SET".as_slice() {
-        Some((DatabaseOperation::Set, Scope::Transaction))
-    } else if name == b"SET_DATABASE".as_slice() {
-        Some((DatabaseOperation::Set, Scope::Database))
-    } else if name == b"CLEAR".as_slice() {
-        Some((DatabaseOperation::Clear, Scope::Transaction))
-    } else if name == b"CLEAR_DATABASE".as_slice() {
-        Some((DatabaseOperation::Clear, Scope::Database))
-    } else if name == b"CLEAR_RANGE".as_slice() {
-        Some((DatabaseOperation::ClearRange, Scope::Transaction))
-    } else if name == b"CLEAR_RANGE_DATABASE".as_slice() {
-        Some((DatabaseOperation::ClearRange, Scope::Database))
-    } else if name == b"CLEAR_RANGE_STARTS_WITH".as_slice() {
-        Some((DatabaseOperation::ClearRangeStartsWith, Scope::Transaction))
-    } else if name == b"CLEAR_RANGE_STARTS_WITH_DATABASE".as_slice() {
-        Some((DatabaseOperation::ClearRangeStartsWith, Scope::Database))
-    } else if name == b"ATOMIC_OP".as_slice() {
-        Some((DatabaseOperation::AtomicOp, Scope::Transaction))
-    } else if name == b"ATOMIC_OP_DATABASE".as_slice() {
-        Some((DatabaseOperation::AtomicOp, Scope::Database))
+    if let Some(scope) = read_form(name, b"GET") {
+        Some((DatabaseOperation::Get, scope))
+    } else if let Some(scope) = read_form(name, b"GET_KEY") {
+        Some((DatabaseOperation::GetKey, scope))
+    } else if let Some(scope) = read_form(name, b"GET_RANGE") {
+        Some((DatabaseOperation::GetRange, scope))
+    } else if let Some(scope) = read_form(name, b"GET_RANGE_STARTS_WITH") {
+        Some((DatabaseOperation::GetRangeStartsWith, scope))
+    } else if let Some(scope) = read_form(name, b"GET_RANGE_SELECTOR") {
+        Some((DatabaseOperation::GetRangeSelector, scope))
+    } else if let Some(scope) = write_form(name, b"SET") {
+        Some((DatabaseOperation::Set, scope))
+    } else if let Some(scope) = write_form(name, b"CLEAR") {
+        Some((DatabaseOperation::Clear, scope))
+    } else if let Some(scope) = write_form(name, b"CLEAR_RANGE") {
+        Some((DatabaseOperation::ClearRange, scope))
+    } else if let Some(scope) = write_form(name, b"CLEAR_RANGE_STARTS_WITH") {
+        Some((DatabaseOperation::ClearRangeStartsWith, scope))
+    } else if let Some(scope) = write_form(name, b"ATOMIC_OP") {
+        Some((DatabaseOperation::AtomicOp, scope))
+    } else {
+        None
+    }
+}
+
+// The form of a name of a call that reads: alone, or with an ending.
+#[tactic(auto, using(crate::proofs::Forms::forms))]
+fn read_form(name: &[u8], call: &[u8]) -> Option<Scope>
+    ensures { result ≡ read_form name.now call.now }
+{
+    let ending = name.strip_prefix(call)?;
+    if ending == b"_SNAPSHOT".as_slice() {
+        Some(Scope::Snapshot)
+    } else {
+        form_by(ending)
+    }
+}
+
+// The form of a name of a call that writes.
+#[tactic(auto, using(crate::proofs::Forms::forms))]
+fn write_form(name: &[u8], call: &[u8]) -> Option<Scope>
+    ensures { result ≡ write_form name.now call.now }
+{
+    form_by(name.strip_prefix(call)?)
+}
+
+// The form that every call has with this ending.
+fn form_by(ending: &[u8]) -> Option<Scope>
+    ensures { result ≡ write_form ending.now [] }
+{
+    if ending.is_empty() {
+        Some(Scope::Transaction)
+    } else if ending == b"_DATABASE".as_slice() {
+        Some(Scope::Database)
     } else {
         None
     }

@@ -13,6 +13,7 @@ mod packed;
 mod reads;
 mod registers;
 mod replies;
+mod requests;
 
 pub use errors::Errors;
 pub use machine::{Machine, Step};

@@ -1,6 +1,6 @@
 //! A machine and its steps.
 
-ghost use Rattle.std.specs.Prelude.{◌≡◌, ◌+◌, ◌<◌, false, true, [], length, Some, Ok, option_copied, slice_get, IfOk, IsErr, OnErr};
+ghost use Rattle.std.specs.Prelude.{◌≡◌, ◌+◌, ◌<◌, false, true, pos, [], length, Some, Ok, option_copied, slice_get, IfOk, IsErr, OnErr};
 ghost use Rattle.machine_rules.specs.declared.State.TheVariants.{Running};
 ghost use Rattle.machine_rules.specs.Machines.{stopped, done, silent, acted, next_act, advance, resumed};
 ghost use Rattle.stack_machine.specs.Acts.{act_with};
@@ -87,7 +87,7 @@ impl Machine {
           instructions = values_of instructions;
           next = 0;
           polls = polls;
-          registers = record { name = prefix; stack = []; errors = [] };
+          registers = record { name = prefix; last_seen = pos 0; stack = []; errors = [] };
           state = Running;
         }) }
         ensures ready { IfOk result (λ machine. machine.is_out_of_memory ≡ false) }

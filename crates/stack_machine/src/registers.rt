@@ -1,6 +1,6 @@
 //! What a machine's instructions work on.
 
-ghost use Rattle.std.specs.Prelude.{◌≡◌, [], ◌∷◌, ◌++◌, IfOk, OnOk};
+ghost use Rattle.std.specs.Prelude.{◌≡◌, pos, [], ◌∷◌, ◌++◌, IfOk, OnOk};
 ghost use Rattle.fdb_tuple.specs.Listed.{IsElement};
 ghost use Rattle.machine_rules.specs.Operands.{bytes_operand};
 ghost use Rattle.machine_rules.specs.StackOperations.{operated};
@@ -11,8 +11,9 @@ ghost use Rattle.stack_machine.specs.Acts.{act_with};
 ghost use Rattle.stack_machine.specs.Pushes.{PushesAnElement};
 
 use crate::act::{Act, refused};
-use crate::call::{awaits_of, pop_call, pop_request};
+use crate::call::pop_call;
 use crate::errors::Errors;
+use crate::requests::{awaits_of, pop_request};
 use fdb_calls::{Request, TxnCall};
 use fdb_tuple::Elem;
 use key_bytes::Bytes;
@@ -28,6 +29,7 @@ use std::marker::Model;
 #[derive(Debug, Drop)]
 pub struct Registers {
     name: Bytes,
+    last_seen: i64,
     stack: Stack,
     errors: Errors,
     alloc: Global,
@@ -45,18 +47,20 @@ impl Model for Registers {
 
     ghost view = { λ registers. record {
       name = registers.name;
+      last_seen = registers.last_seen;
       stack = registers.stack;
       errors = registers.errors;
     } };
 }
 
 impl Registers {
-    /// The registers as a machine is started: a current name, no item and no error.
+    /// The registers as a machine is started: a current name, 0 as the last version seen, no item and no error.
     pub fn new(alloc: Global, name: Bytes) -> Registers
-        ensures { result ≡ record { name = name; stack = []; errors = [] } }
+        ensures { result ≡ record { name = name; last_seen = pos 0; stack = []; errors = [] } }
     {
         Registers {
             name,
+            last_seen: 0,
             stack: Stack::new(alloc),
             errors: Errors::new(alloc),
             alloc,
@@ -120,6 +124,13 @@ impl Registers {
         Ok(())
     }
 
+    // A version is the last one seen from now on.
+    pub(crate) fn see(&mut self, version: i64)
+        ensures { self.new ≡ record self.old { last_seen = version } }
+    {
+        self.last_seen = version;
+    }
+
     // An operation on the stack alone.
     fn operate(&mut self, number: u64, operation: StackOperation) -> Result<Act, AllocError>
         ensures { IfOk result (λ act. act_with self.new act ≡ does number self.old (operated operation number self.old.stack)) }
@@ -150,16 +161,16 @@ impl Registers {
         operation: TransactionOperation,
     ) -> Result<Act, AllocError>
         ensures { IfOk result (λ act. act_with self.new act
-            ≡ asks number self.old (awaits_of operation) (request_of operation self.old.name self.old.stack)) }
+            ≡ asks number self.old (awaits_of operation) (request_of operation self.old.name self.old.last_seen self.old.stack)) }
     {
         let name = self.name.copy()?;
-        match pop_request(&mut self.stack, operation, name) {
+        match pop_request(&mut self.stack, self.alloc, operation, name, self.last_seen) {
             Ok(request) => Ok(Act::Asks(request, awaits_of(operation))),
             Err(fault) => refused(number, fault),
         }
     }
 
-    // A call of two forms.
+    // A call on the database, in one of its forms.
     fn on_database(
         &mut self,
         number: u64,
@@ -179,7 +190,7 @@ impl Registers {
         ensures { IfOk result (λ request. request ≡ request_in scope self.now.name call) }
     {
         match scope {
-            Scope::Transaction => {
+            Scope::Transaction | Scope::Snapshot => {
                 let name = self.name.copy()?;
                 Ok(Request::On { name, call })
             }
@@ -212,6 +223,7 @@ impl Registers {
         let prefix = prefix.copy()?;
         Ok(Act::Asks(request, Awaits::Logged { prefix }))
     }
+
     // The allocator.
     pub(crate) fn alloc(&self) -> Global {
         self.alloc

@@ -38,6 +38,14 @@ impl Registers {
                 self.push_pairs(number, prefix.as_slice(), pairs)
             }
             (Awaits::Logged { prefix }, Reply::Done) => self.log_on(prefix),
+            (Awaits::ReadVersion, Reply::Version(version)) => {
+                self.keep_version(number, *version, b"GOT_READ_VERSION")
+            }
+            (Awaits::CommittedVersion, Reply::Version(version)) => {
+                self.keep_version(number, *version, b"GOT_COMMITTED_VERSION")
+            }
+            (Awaits::ConflictRange, Reply::Done) => self.push_text(number, b"SET_CONFLICT_RANGE"),
+            (Awaits::ConflictKey, Reply::Done) => self.push_text(number, b"SET_CONFLICT_KEY"),
             _ => Ok(Act::Does),
         }
     }
@@ -56,8 +64,24 @@ impl Registers {
     fn push_not_present(&mut self, number: u64) -> Result<Act, AllocError>
         ensures { IfOk result (λ act. act_with self.new act ≡ Does (pushing number self.old result_not_present)) }
     {
-        let text = Bytes::from_slice(self.alloc(), b"RESULT_NOT_PRESENT")?;
+        self.push_text(number, b"RESULT_NOT_PRESENT")
+    }
+
+    // Pushes a fixed text.
+    fn push_text(&mut self, number: u64, text: &[u8]) -> Result<Act, AllocError>
+        ensures { IfOk result (λ act. act_with self.new act ≡ Does (pushing number self.old (Elem.Bytes text.now))) }
+    {
+        let text = Bytes::from_slice(self.alloc(), text)?;
         self.push(number, Elem::Bytes(text))
+    }
+
+    // Keeps a version as the last one seen, and pushes a fixed text.
+    fn keep_version(&mut self, number: u64, version: i64, text: &[u8]) -> Result<Act, AllocError>
+        ensures { IfOk result (λ act. act_with self.new act
+            ≡ Does (pushing number (record self.old { last_seen = version }) (Elem.Bytes text.now))) }
+    {
+        self.see(version);
+        self.push_text(number, text)
     }
 
     // Pushes a value, or the fixed text where there is none.

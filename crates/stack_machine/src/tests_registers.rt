@@ -1,13 +1,20 @@
+ghost use Rattle.std.specs.Prelude.{◌≤◌, IfOk};
+ghost use Rattle.fdb_tuple.specs.Listed.{IsElement};
+
 use crate::act::Act;
 use crate::registers::Registers;
+use crate::tests::Course;
 use Course::{Asks, Bad, Under};
-use DatabaseOperation::{GetKey, GetRange, GetRangeSelector, GetRangeStartsWith};
+use DatabaseOperation::{Get, GetKey, GetRange, GetRangeSelector, GetRangeStartsWith};
 use Lying::{Bool, Int, Str};
-use Scope::{Database, Transaction};
-use fdb_calls::{Code, Reply, Request};
+use TransactionOperation::{
+    DisableWriteConflict, GetCommittedVersion, GetReadVersion, ReadConflictKey, ReadConflictRange,
+    SetReadVersion, WriteConflictKey, WriteConflictRange,
+};
+use fdb_calls::{Code, Reply, Request, TxnCall};
 use fdb_tuple::Elem;
-use key_bytes::{Bytes, Pair, Pairs};
-use machine_rules::{Awaits, DatabaseOperation, End, Instruction, Scope};
+use key_bytes::{Bytes, KeyRange, Pair, Pairs};
+use machine_rules::{Awaits, DatabaseOperation, End, Instruction, Scope, TransactionOperation};
 use stack_items::bytes_of;
 use std::alloc::{AllocError, Global};
 use std::test::Fail;
@@ -23,19 +30,29 @@ enum Lying {
     Bool(bool),
 }
 
-// Puts an item on the stack, as the instruction of this number.
-fn lay(alloc: Global, registers: &mut Registers, item: Lying, number: u64) -> Result<(), Fail> {
-    let act = match item {
-        Lying::Str(bytes) => registers.push(number, Elem::Bytes(Bytes::from_slice(alloc, bytes)?))?,
-        Lying::Int(value) => registers.push(number, Elem::Int(value))?,
-        Lying::Bool(value) => registers.push(number, Elem::Bool(value))?,
-    };
-    let _done = act;
+fn element(alloc: Global, item: Lying) -> Result<Elem, AllocError>
+    ensures { IfOk result IsElement }
+{
+    match item {
+        Lying::Str(bytes) => Ok(Elem::Bytes(Bytes::from_slice(alloc, bytes)?)),
+        Lying::Int(value) => Ok(Elem::Int(value)),
+        Lying::Bool(value) => Ok(Elem::Bool(value)),
+    }
+}
+
+fn lay(
+    alloc: Global,
+    registers: &mut Registers,
+    item: Lying,
+    number: u64,
+) -> Result<(), AllocError> {
+    let element = element(alloc, item)?;
+    let _act = registers.push(number, element)?;
     Ok(())
 }
 
 // Registers with these items, the first the oldest, by the instructions of their places.
-fn registers_with(alloc: Global, items: &[Lying]) -> Result<Registers, Fail> {
+fn registers_with(alloc: Global, items: &[Lying]) -> Result<Registers, AllocError> {
     let mut registers = Registers::new(alloc, Bytes::from_slice(alloc, b"p")?);
     for (place, item) in items.iter().enumerate() {
         lay(alloc, &mut registers, *item, place as u64)?;
@@ -45,20 +62,13 @@ fn registers_with(alloc: Global, items: &[Lying]) -> Result<Registers, Fail> {
 
 // The bytes of the top item; none where it is no string.
 fn top_bytes(registers: &Registers) -> &[u8] {
-    let top = registers.stack().as_slice().last();
-    top.and_then(|item| bytes_of(&item.element)).unwrap_or(&[])
+    match registers.stack().as_slice().last() {
+        Some(item) => bytes_of(&item.element).unwrap_or(&[]),
+        None => &[],
+    }
 }
 
 // ---- operands
-
-// How an instruction goes on: it asks, or an operand is bad or missing.
-#[derive(Clone, Copy, PartialEq, Eq)]
-enum Course {
-    Asks,
-    Bad,
-    Under,
-    Other,
-}
 
 fn course_of(act: &Act) -> Course {
     match act {
@@ -70,20 +80,47 @@ fn course_of(act: &Act) -> Course {
 }
 
 // The items before an operation, the top last; how it goes on, and how many items it leaves.
-type Row = (&'static [Lying], DatabaseOperation, Scope, Course, usize);
+type Row = (&'static [Lying], Course, usize);
 
-fn is_answered(alloc: Global, row: Row) -> Result<bool, Fail> {
-    let (items, operation, scope, course, left) = row;
+fn is_answered(
+    alloc: Global,
+    operation: DatabaseOperation,
+    scope: Scope,
+    row: Row,
+) -> Result<bool, AllocError> {
+    let (items, course, left) = row;
     let mut registers = registers_with(alloc, items)?;
     let act = registers.run(RUN, Some(Instruction::OnDatabase(operation, scope)))?;
     Ok(course_of(&act) == course && registers.stack().len() == left)
 }
 
-// The first of the rows that is not answered as it says.
-fn first_other(alloc: Global, rows: &[Row]) -> Result<Option<usize>, Fail> {
+// The first of the rows that an operation in this scope doesn't answer as it says.
+fn first_other_in(
+    alloc: Global,
+    operation: DatabaseOperation,
+    scope: Scope,
+    rows: &[Row],
+) -> Result<Option<usize>, AllocError> {
     for (place, row) in rows.iter().enumerate() {
-        if !is_answered(alloc, *row)? {
+        if !is_answered(alloc, operation, scope, *row)? {
             return Ok(Some(place));
+        }
+    }
+    Ok(None)
+}
+
+const SCOPES: [Scope; 3] = [Scope::Transaction, Scope::Snapshot, Scope::Database];
+
+// The same in each scope in turn.
+fn first_other(
+    alloc: Global,
+    operation: DatabaseOperation,
+    rows: &[Row],
+) -> Result<Option<usize>, AllocError> {
+    for scope in SCOPES {
+        let other = first_other_in(alloc, operation, scope, rows)?;
+        if other.is_some() {
+            return Ok(other);
         }
     }
     Ok(None)
@@ -91,206 +128,316 @@ fn first_other(alloc: Global, rows: &[Row]) -> Result<Option<usize>, Fail> {
 
 const K: Lying = Str(b"k");
 
+const ZERO: Lying = Int(0);
+
+const ONE: Lying = Int(1);
+
 const PAST: i128 = 2_147_483_648;
 
 const KEY_READS: &[Row] = &[
-    (&[K, Int(1), Int(0), K], GetKey, Transaction, Asks, 0),
-    (&[K, Int(1), Bool(true), K], GetKey, Database, Asks, 0),
-    (&[K, Int(1), Int(0), Int(5)], GetKey, Transaction, Bad, 3),
-    (&[K, Int(1), K, K], GetKey, Transaction, Bad, 2),
-    (&[K, Int(PAST), Int(0), K], GetKey, Transaction, Bad, 1),
-    (&[Int(1), Int(1), Int(0), K], GetKey, Transaction, Bad, 0),
-    (&[Int(1), Int(0), K], GetKey, Transaction, Under, 0),
-    (&[Int(PAST), Int(0), K], GetKey, Transaction, Bad, 0),
-    (&[], GetKey, Database, Under, 0),
+    (&[K, ONE, ZERO, K], Asks, 0),
+    (&[K, ONE, Bool(true), K], Asks, 0),
+    (&[K, ONE, ZERO, Int(5)], Bad, 3),
+    (&[K, ONE, K, K], Bad, 2),
+    (&[K, Int(PAST), ZERO, K], Bad, 1),
+    (&[ONE, ONE, ZERO, K], Bad, 0),
+    (&[ONE, ZERO, K], Under, 0),
+    (&[Int(PAST), ZERO, K], Bad, 0),
+    (&[], Under, 0),
 ];
 
 const RANGE_READS: &[Row] = &[
-    (
-        &[Int(-2), Bool(true), Int(0), K, K],
-        GetRange,
-        Transaction,
-        Asks,
-        0,
-    ),
-    (
-        &[Int(4), Int(7), Int(PAST - 1), K, K],
-        GetRange,
-        Database,
-        Asks,
-        0,
-    ),
-    (
-        &[Int(5), Int(0), Int(0), K, K],
-        GetRange,
-        Transaction,
-        Bad,
-        0,
-    ),
-    (
-        &[Bool(true), Int(0), Int(0), K, K],
-        GetRange,
-        Transaction,
-        Bad,
-        0,
-    ),
-    (&[Int(0), K, Int(0), K, K], GetRange, Transaction, Bad, 1),
-    (
-        &[Int(0), Int(0), Int(PAST), K, K],
-        GetRange,
-        Transaction,
-        Bad,
-        2,
-    ),
-    (
-        &[Int(0), Int(0), Int(-1), K, K],
-        GetRange,
-        Transaction,
-        Bad,
-        2,
-    ),
-    (
-        &[Int(0), Int(0), Int(0), Int(0), K],
-        GetRange,
-        Transaction,
-        Bad,
-        3,
-    ),
-    (
-        &[Int(0), Int(0), Int(0), K, Int(0)],
-        GetRange,
-        Transaction,
-        Bad,
-        4,
-    ),
-    (&[Int(0), Int(0), K, K], GetRange, Transaction, Under, 0),
-    (
-        &[Int(0), Int(0), Int(0), K],
-        GetRangeStartsWith,
-        Transaction,
-        Asks,
-        0,
-    ),
-    (
-        &[Int(0), Int(0), Int(0), K],
-        GetRangeStartsWith,
-        Database,
-        Asks,
-        0,
-    ),
-    (
-        &[Int(-3), Int(0), Int(0), K],
-        GetRangeStartsWith,
-        Transaction,
-        Bad,
-        0,
-    ),
-    (
-        &[Int(0), Int(0), K],
-        GetRangeStartsWith,
-        Transaction,
-        Under,
-        0,
-    ),
+    (&[Int(-2), Bool(true), ZERO, K, K], Asks, 0),
+    (&[Int(4), Int(7), Int(PAST - 1), K, K], Asks, 0),
+    (&[Int(5), ZERO, ZERO, K, K], Bad, 0),
+    (&[Bool(true), ZERO, ZERO, K, K], Bad, 0),
+    (&[ZERO, K, ZERO, K, K], Bad, 1),
+    (&[ZERO, ZERO, Int(PAST), K, K], Bad, 2),
+    (&[ZERO, ZERO, Int(-1), K, K], Bad, 2),
+    (&[ZERO, ZERO, ZERO, ZERO, K], Bad, 3),
+    (&[ZERO, ZERO, ZERO, K, ZERO], Bad, 4),
+    (&[ZERO, ZERO, K, K], Under, 0),
+];
+
+const PREFIX_READS: &[Row] = &[
+    (&[ZERO, ZERO, ZERO, K], Asks, 0),
+    (&[Int(-3), ZERO, ZERO, K], Bad, 0),
+    (&[ZERO, ZERO, K], Under, 0),
 ];
 
 const SELECTOR_READS: &[Row] = &[
     (
-        &[
-            K,
-            Int(0),
-            Int(0),
-            Int(3),
-            Int(1),
-            Int(0),
-            K,
-            Int(1),
-            Int(0),
-            K,
-        ],
-        GetRangeSelector,
-        Transaction,
+        &[K, ZERO, ZERO, Int(3), ONE, ZERO, K, ONE, ZERO, K],
         Asks,
         0,
     ),
     (
-        &[
-            K,
-            Int(0),
-            Int(0),
-            Int(3),
-            Int(1),
-            Int(0),
-            K,
-            Int(PAST),
-            Int(0),
-            K,
-        ],
-        GetRangeSelector,
-        Transaction,
+        &[K, ZERO, ZERO, Int(3), ONE, ZERO, K, Int(PAST), ZERO, K],
         Bad,
         7,
     ),
     (
-        &[
-            K,
-            Int(0),
-            Int(0),
-            Int(3),
-            Int(1),
-            Int(0),
-            Int(1),
-            Int(1),
-            Int(0),
-            K,
-        ],
-        GetRangeSelector,
-        Database,
+        &[K, ZERO, ZERO, Int(3), ONE, ZERO, ONE, ONE, ZERO, K],
         Bad,
         6,
     ),
     (
-        &[
-            Int(0),
-            Int(0),
-            Int(0),
-            Int(3),
-            Int(1),
-            Int(0),
-            K,
-            Int(1),
-            Int(0),
-            K,
-        ],
-        GetRangeSelector,
-        Transaction,
+        &[ZERO, ZERO, ZERO, Int(3), ONE, ZERO, K, ONE, ZERO, K],
         Bad,
         0,
     ),
-    (
-        &[Int(0), Int(0), Int(3), Int(1), Int(0), K, Int(1), Int(0), K],
-        GetRangeSelector,
-        Transaction,
-        Under,
-        0,
-    ),
+    (&[ZERO, ZERO, Int(3), ONE, ZERO, K, ONE, ZERO, K], Under, 0),
 ];
 
 #[test]
 fn operands_are_judged_one_at_a_time(rt: HostRuntime) -> Result<(), Fail> {
-    assert_eq!(rt; first_other(rt.alloc(), KEY_READS)?, None);
-    assert_eq!(rt; first_other(rt.alloc(), RANGE_READS)?, None);
-    assert_eq!(rt; first_other(rt.alloc(), SELECTOR_READS)?, None);
+    assert_eq!(rt; first_other(rt.alloc(), GetKey, KEY_READS)?, None);
+    assert_eq!(rt; first_other(rt.alloc(), GetRange, RANGE_READS)?, None);
+    assert_eq!(rt;
+        first_other(rt.alloc(), GetRangeStartsWith, PREFIX_READS)?,
+        None
+    );
+    assert_eq!(rt;
+        first_other(rt.alloc(), GetRangeSelector, SELECTOR_READS)?,
+        None
+    );
+    Ok(())
+}
+
+// ---- reads by snapshot
+
+// What each read pops.
+const READS: &[(&[Lying], DatabaseOperation)] = &[
+    (&[K], Get),
+    (&[K, ONE, ZERO, K], GetKey),
+    (&[ZERO, ZERO, ZERO, K, K], GetRange),
+    (&[ZERO, ZERO, ZERO, K], GetRangeStartsWith),
+    (
+        &[K, ZERO, ZERO, ZERO, ONE, ZERO, K, ONE, ZERO, K],
+        GetRangeSelector,
+    ),
+];
+
+// Whether a call reads by snapshot; none where it is no read.
+fn snapshot_of(call: &TxnCall) -> Option<bool> {
+    match call {
+        TxnCall::Get { snapshot, .. }
+        | TxnCall::GetKey { snapshot, .. }
+        | TxnCall::GetRange { snapshot, .. }
+        | TxnCall::GetKeyRange { snapshot, .. } => Some(*snapshot),
+        _ => None,
+    }
+}
+
+// Whether an act asks a read, by snapshot or not, and on the transaction `p` or on one of its own.
+fn is_read(act: &Act, is_by_snapshot: bool, is_named: bool) -> bool {
+    match act {
+        Act::Asks(Request::On { name, call }, _) => {
+            is_named
+                && name.as_slice() == b"p".as_slice()
+                && snapshot_of(call) == Some(is_by_snapshot)
+        }
+        Act::Asks(Request::Database { call }, _) => {
+            !is_named && snapshot_of(call) == Some(is_by_snapshot)
+        }
+        _ => false,
+    }
+}
+
+fn reads_in(
+    alloc: Global,
+    row: (&[Lying], DatabaseOperation),
+    scope: Scope,
+) -> Result<bool, AllocError> {
+    let (items, operation) = row;
+    let mut registers = registers_with(alloc, items)?;
+    let act = registers.run(RUN, Some(Instruction::OnDatabase(operation, scope)))?;
+    let is_by_snapshot = scope == Scope::Snapshot;
+    let is_named = scope != Scope::Database;
+    Ok(is_read(&act, is_by_snapshot, is_named))
+}
+
+// The first of the reads that asks otherwise in this scope.
+fn first_other_read(alloc: Global, scope: Scope) -> Result<Option<usize>, AllocError> {
+    for (place, row) in READS.iter().enumerate() {
+        if !reads_in(alloc, *row, scope)? {
+            return Ok(Some(place));
+        }
+    }
+    Ok(None)
+}
+
+#[test]
+fn reads_are_by_snapshot_where_their_name_says_so(rt: HostRuntime) -> Result<(), Fail> {
+    assert_eq!(rt; first_other_read(rt.alloc(), Scope::Transaction)?, None);
+    assert_eq!(rt; first_other_read(rt.alloc(), Scope::Snapshot)?, None);
+    assert_eq!(rt; first_other_read(rt.alloc(), Scope::Database)?, None);
+    Ok(())
+}
+
+// ---- versions and conflict ranges
+
+// A call on the transaction `p` that was asked.
+#[derive(Clone, Copy)]
+enum Asked {
+    ReadVersion,
+    SetReadVersion(i64),
+    CommittedVersion,
+    NoWriteConflict,
+    ReadConflict(&'static [u8], &'static [u8]),
+    WriteConflict(&'static [u8], &'static [u8]),
+}
+
+fn is_range(range: &KeyRange, begin: &[u8], end: &[u8]) -> bool {
+    range.begin.as_slice() == begin && range.end.as_slice() == end
+}
+
+fn is_call(call: &TxnCall, asked: Asked) -> bool {
+    match (call, asked) {
+        (TxnCall::ReadVersion, Asked::ReadVersion) => true,
+        (TxnCall::SetReadVersion { version }, Asked::SetReadVersion(wanted)) => *version == wanted,
+        (TxnCall::CommittedVersion, Asked::CommittedVersion) => true,
+        (TxnCall::NoWriteConflict, Asked::NoWriteConflict) => true,
+        (TxnCall::ReadConflict { range }, Asked::ReadConflict(begin, end)) => is_range(
+            range, begin, end,
+        ),
+        (TxnCall::WriteConflict { range }, Asked::WriteConflict(begin, end)) => is_range(
+            range, begin, end,
+        ),
+        _ => false,
+    }
+}
+
+fn is_asked(request: &Request, asked: Asked) -> bool {
+    match request {
+        Request::On { name, call } => { name.as_slice() == b"p".as_slice() && is_call(call, asked) }
+        _ => false,
+    }
+}
+
+// The reply that a call has.
+fn reply_to(asked: Asked) -> Reply {
+    match asked {
+        Asked::ReadVersion | Asked::CommittedVersion => Reply::Version(7),
+        _ => Reply::Done,
+    }
+}
+
+// The items before an operation; what it asks, and the text that the reply pushes, where it pushes one.
+type Work = (
+    &'static [Lying],
+    TransactionOperation,
+    Asked,
+    Option<&'static [u8]>,
+);
+
+// Whether the items left are this text alone, or none.
+fn is_left(registers: &Registers, text: Option<&[u8]>) -> bool {
+    match text {
+        Some(text) => registers.stack().len() == 1 && top_bytes(registers) == text,
+        None => registers.stack().is_empty(),
+    }
+}
+
+// Uses the reply to an act's request, if it asks this; whether it does.
+fn replies(registers: &mut Registers, act: &Act, asked: Asked) -> Result<bool, AllocError> {
+    match act {
+        Act::Asks(request, awaits) if is_asked(request, asked) => {
+            let _act = registers.use_reply(RUN, awaits, &reply_to(asked))?;
+            Ok(true)
+        }
+        _ => Ok(false),
+    }
+}
+
+fn works(alloc: Global, work: Work) -> Result<bool, AllocError> {
+    let (items, operation, asked, text) = work;
+    let mut registers = registers_with(alloc, items)?;
+    let act = registers.run(RUN, Some(Instruction::OnTransaction(operation)))?;
+    Ok(replies(&mut registers, &act, asked)? && is_left(&registers, text))
+}
+
+const WORKS: &[Work] = &[
+    (
+        &[],
+        GetReadVersion,
+        Asked::ReadVersion,
+        Some(b"GOT_READ_VERSION"),
+    ),
+    (&[], SetReadVersion, Asked::SetReadVersion(0), None),
+    (
+        &[],
+        GetCommittedVersion,
+        Asked::CommittedVersion,
+        Some(b"GOT_COMMITTED_VERSION"),
+    ),
+    (&[], DisableWriteConflict, Asked::NoWriteConflict, None),
+    (
+        &[Str(b"e"), Str(b"b")],
+        ReadConflictRange,
+        Asked::ReadConflict(b"b", b"e"),
+        Some(b"SET_CONFLICT_RANGE"),
+    ),
+    (
+        &[Str(b"e"), Str(b"b")],
+        WriteConflictRange,
+        Asked::WriteConflict(b"b", b"e"),
+        Some(b"SET_CONFLICT_RANGE"),
+    ),
+    (
+        &[K],
+        ReadConflictKey,
+        Asked::ReadConflict(b"k", b"k\x00"),
+        Some(b"SET_CONFLICT_KEY"),
+    ),
+    (
+        &[K],
+        WriteConflictKey,
+        Asked::WriteConflict(b"k", b"k\x00"),
+        Some(b"SET_CONFLICT_KEY"),
+    ),
+];
+
+// The first of the operations that works otherwise.
+fn first_other_work(alloc: Global) -> Result<Option<usize>, AllocError> {
+    for (place, work) in WORKS.iter().enumerate() {
+        if !works(alloc, *work)? {
+            return Ok(Some(place));
+        }
+    }
+    Ok(None)
+}
+
+// Whether SET_READ_VERSION hands on this version after this reply.
+fn hands_on(
+    alloc: Global,
+    awaits: &Awaits,
+    reply: &Reply,
+    version: i64,
+) -> Result<bool, AllocError> {
+    let mut registers = registers_with(alloc, &[])?;
+    let _act = registers.use_reply(RUN, awaits, reply)?;
+    let act = registers.run(RUN, Some(Instruction::OnTransaction(SetReadVersion)))?;
+    replies(&mut registers, &act, Asked::SetReadVersion(version))
+}
+
+#[test]
+fn versions_and_conflict_ranges_are_asked(rt: HostRuntime) -> Result<(), Fail> {
+    let alloc = rt.alloc();
+    assert_eq!(rt; first_other_work(alloc)?, None);
+    assert!(rt; hands_on(alloc, &Awaits::ReadVersion, &Reply::Version(7), 7)?);
+    assert!(rt; hands_on(alloc, &Awaits::CommittedVersion, &Reply::Version(-1), -1)?);
+    assert!(rt; hands_on(alloc, &Awaits::ReadVersion, &Reply::Fault(Code(1025)), 0)?);
     Ok(())
 }
 
 // ---- replies
 
 // Whether the reply pushes these bytes.
-fn pushes(alloc: Global, awaits: &Awaits, reply: &Reply, bytes: &[u8]) -> Result<bool, Fail> {
+fn pushes(alloc: Global, awaits: &Awaits, reply: &Reply, bytes: &[u8]) -> Result<bool, AllocError> {
     let mut registers = registers_with(alloc, &[])?;
-    let act = registers.use_reply(RUN, awaits, reply)?;
-    Ok(matches!(act, Act::Does) && registers.stack().len() == 1 && top_bytes(&registers) == bytes)
+    let _act = registers.use_reply(RUN, awaits, reply)?;
+    Ok(is_left(&registers, Some(bytes)))
 }
 
 // A prefix, a key that was found, and what is pushed.
@@ -302,17 +449,14 @@ const KEYS: &[(&[u8], &[u8], &[u8])] = &[
     (b"d", b"d", b"d"),
 ];
 
-fn pushes_key(alloc: Global, row: (&[u8], &[u8], &[u8])) -> Result<bool, Fail> {
-    let (prefix, key, pushed) = row;
-    let awaits = Awaits::Key {
-        prefix: Bytes::from_slice(alloc, prefix)?,
-    };
-    let reply = Reply::KeyIs(Bytes::from_slice(alloc, key)?);
-    pushes(alloc, &awaits, &reply, pushed)
+fn pushes_key(alloc: Global, row: (&[u8], &[u8], &[u8])) -> Result<bool, AllocError> {
+    let prefix = Bytes::from_slice(alloc, row.0)?;
+    let key = Bytes::from_slice(alloc, row.1)?;
+    pushes(alloc, &Awaits::Key { prefix }, &Reply::KeyIs(key), row.2)
 }
 
 // The first row whose key is not pushed as it says.
-fn first_other_key(alloc: Global) -> Result<Option<usize>, Fail> {
+fn first_other_key(alloc: Global) -> Result<Option<usize>, AllocError> {
     for (place, row) in KEYS.iter().enumerate() {
         if !pushes_key(alloc, *row)? {
             return Ok(Some(place));
@@ -321,40 +465,39 @@ fn first_other_key(alloc: Global) -> Result<Option<usize>, Fail> {
     Ok(None)
 }
 
-#[test]
-fn a_key_is_pushed_as_its_prefix_lets_it(rt: HostRuntime) -> Result<(), Fail> {
-    assert_eq!(rt; first_other_key(rt.alloc())?, None);
-    Ok(())
-}
-
 fn pair(alloc: Global, key: &[u8], value: &[u8]) -> Result<Pair, AllocError> {
     let key = Bytes::from_slice(alloc, key)?;
     let value = Bytes::from_slice(alloc, value)?;
     Ok(Pair { key, value })
 }
 
-fn two_pairs(alloc: Global) -> Result<Reply, AllocError> {
+fn two_pairs(alloc: Global) -> Result<Pairs, AllocError> {
     let mut pairs = Pairs::new(alloc);
     pairs.push(pair(alloc, b"g", b"7")?)?;
     pairs.push(pair(alloc, b"d", b"4")?)?;
-    Ok(Reply::PairsAre(pairs))
+    Ok(pairs)
 }
 
-fn pushes_all_pairs(alloc: Global) -> Result<bool, Fail> {
-    let all = b"\x01g\x00\x017\x00\x01d\x00\x014\x00";
-    pushes(alloc, &Awaits::Pairs, &two_pairs(alloc)?, all)
+// Whether two pairs are pushed as these bytes.
+fn pushes_pairs(alloc: Global, awaits: &Awaits, bytes: &[u8]) -> Result<bool, AllocError> {
+    let reply = Reply::PairsAre(two_pairs(alloc)?);
+    pushes(alloc, awaits, &reply, bytes)
 }
 
-fn pushes_pairs_within(alloc: Global) -> Result<bool, Fail> {
-    let awaits = Awaits::PairsWithin {
-        prefix: Bytes::from_slice(alloc, b"d")?,
-    };
-    pushes(alloc, &awaits, &two_pairs(alloc)?, b"\x01d\x00\x014\x00")
+fn pushes_pairs_within(alloc: Global) -> Result<bool, AllocError> {
+    let prefix = Bytes::from_slice(alloc, b"d")?;
+    pushes_pairs(
+        alloc,
+        &Awaits::PairsWithin { prefix },
+        b"\x01d\x00\x014\x00",
+    )
 }
 
 #[test]
-fn pairs_are_pushed_packed(rt: HostRuntime) -> Result<(), Fail> {
-    assert!(rt; pushes_all_pairs(rt.alloc())?);
+fn what_was_read_is_pushed(rt: HostRuntime) -> Result<(), Fail> {
+    let all = b"\x01g\x00\x017\x00\x01d\x00\x014\x00";
+    assert_eq!(rt; first_other_key(rt.alloc())?, None);
+    assert!(rt; pushes_pairs(rt.alloc(), &Awaits::Pairs, all)?);
     assert!(rt; pushes_pairs_within(rt.alloc())?);
     Ok(())
 }
@@ -369,60 +512,56 @@ fn entry_count(request: &Request) -> usize {
     }
 }
 
-// How many entries a request of LOG_STACK has, 0 where there is none, and what its reply comes to.
-fn logged(registers: &mut Registers, act: Act, reply: &Reply) -> Result<(usize, Act), Fail> {
+// How many entries an act's request has, 0 where there is none, and what its reply comes to.
+fn logged(registers: &mut Registers, act: Act, reply: &Reply) -> Result<(usize, Act), AllocError> {
     match act {
         Act::Asks(request, awaits) => {
-            Ok((
-                entry_count(&request),
-                registers.use_reply(RUN, &awaits, reply)?,
-            ))
+            let next = registers.use_reply(RUN, &awaits, reply)?;
+            Ok((entry_count(&request), next))
         }
-        Act::Does => Ok((0, Act::Does)),
-        Act::Stops(end) => Ok((0, Act::Stops(end))),
+        _ => Ok((0, act)),
     }
 }
 
-// How many entries the requests of LOG_STACK have, and the registers that it leaves.
-fn logs(alloc: Global, count: u64, second: &Reply) -> Result<([usize; 4], Registers), Fail> {
-    let mut registers = registers_with(alloc, &[])?;
-    for number in 0..count {
-        lay(alloc, &mut registers, Int(7), number)?;
-    }
-    lay(alloc, &mut registers, Str(b"L"), count)?;
+// How many entries the requests of LOG_STACK have, where the second has this reply.
+fn log_all(registers: &mut Registers, second: &Reply) -> Result<[usize; 4], AllocError> {
     let act = registers.run(RUN, Some(Instruction::LogStack))?;
-    let (newest, act) = logged(&mut registers, act, &Reply::Done)?;
-    let (middle, act) = logged(&mut registers, act, second)?;
-    let (oldest, act) = logged(&mut registers, act, &Reply::Done)?;
-    let (none, _act) = logged(&mut registers, act, &Reply::Done)?;
-    Ok(([newest, middle, oldest, none], registers))
+    let (newest, act) = logged(registers, act, &Reply::Done)?;
+    let (middle, act) = logged(registers, act, second)?;
+    let (oldest, act) = logged(registers, act, &Reply::Done)?;
+    let (none, _act) = logged(registers, act, &Reply::Done)?;
+    Ok([newest, middle, oldest, none])
 }
 
-fn log_sizes(alloc: Global, count: u64) -> Result<[usize; 4], Fail> {
-    Ok(logs(alloc, count, &Reply::Done)?.0)
+// Whether one error was noted, and the item that tells of it is on top.
+fn is_refused(registers: &Registers) -> bool {
+    let top = registers.stack().as_slice().last();
+    registers.errors().len() == 1
+        && top_bytes(registers) == b"\x01ERROR\x00\x012102\x00".as_slice()
+        && matches!(top, Some(item) if item.instruction == RUN)
 }
 
-// Where the second request is refused: whether the items below stay, and the error item is on them.
-fn stops_at_a_refusal(alloc: Global) -> Result<bool, Fail> {
-    let (sizes, registers) = logs(alloc, 205, &Reply::Fault(Code(2102)))?;
-    Ok(
-        sizes == [100, 100, 0, 0]
-            && registers.stack().len() == 6
-            && registers.errors().len() == 1
-            && top_bytes(&registers) == b"\x01ERROR\x00\x012102\x00".as_slice()
-            && registers
-                .stack()
-                .as_slice()
-                .last()
-                .is_some_and(|item| item.instruction == RUN),
-    )
+// The prefix, and so many items below it.
+const LOGGED: [Lying; 206] = [Str(b"L"); 206];
+
+// How many entries the requests have, how many items are left, and whether the second was refused.
+type Outcome = ([usize; 4], usize, bool);
+
+fn logs(alloc: Global, count: usize, second: &Reply) -> Result<Outcome, AllocError>
+    requires { count ≤ 205 }
+{
+    let mut registers = registers_with(alloc, &LOGGED[..count + 1])?;
+    let sizes = log_all(&mut registers, second)?;
+    Ok((sizes, registers.stack().len(), is_refused(&registers)))
 }
 
 #[test]
 fn a_stack_is_logged_in_batches(rt: HostRuntime) -> Result<(), Fail> {
-    assert_eq!(rt; log_sizes(rt.alloc(), 205)?, [100, 100, 5, 0]);
-    assert_eq!(rt; log_sizes(rt.alloc(), 2)?, [2, 0, 0, 0]);
-    assert_eq!(rt; log_sizes(rt.alloc(), 0)?, [0, 0, 0, 0]);
-    assert!(rt; stops_at_a_refusal(rt.alloc())?);
+    let alloc = rt.alloc();
+    let refused = Reply::Fault(Code(2102));
+    assert!(rt; logs(alloc, 205, &Reply::Done)? == ([100, 100, 5, 0], 0, false));
+    assert!(rt; logs(alloc, 2, &Reply::Done)? == ([2, 0, 0, 0], 0, false));
+    assert!(rt; logs(alloc, 0, &Reply::Done)? == ([0, 0, 0, 0], 0, false));
+    assert!(rt; logs(alloc, 205, &refused)? == ([100, 100, 0, 0], 6, true));
     Ok(())
 }

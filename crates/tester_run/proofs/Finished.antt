@@ -1,6 +1,6 @@
 -- A machine that has stopped ends the run: what is rendered is its dump and its status.
 use Rattle.std.proofs.Common.{◌≡◌, ℕ, Bool, true, false, ◌&&◌, cond, subst, List, [], ◌∷◌, ◌++◌, Some, refl, sym, ap, ◌∙◌, arith}
-use Rattle.std.specs.Prelude.{IsTrue}
+use Rattle.std.specs.Prelude.{pos, IsTrue}
 use Rattle.std.specs.List.{flat_map}
 use Rattle.std.proofs.lemmas.List.{append-nil}
 use Rattle.std.proofs.lemmas.List.Concat.{flat_map-cons}
@@ -39,7 +39,7 @@ first_machine database prefix = record {
   instructions = instructions_in database prefix;
   next = 0;
   polls = POLLS;
-  registers = record { name = prefix; stack = []; errors = [] };
+  registers = record { name = prefix; last_seen = pos 0; stack = []; errors = [] };
   state = state.Running;
 }
 

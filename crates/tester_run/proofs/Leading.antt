@@ -182,6 +182,8 @@ stands_after reply.Done core words stepped is answers = answers
 stands_after (reply.Value value) core words stepped is answers = answers
 stands_after (reply.KeyIs key) core words stepped is answers = answers
 stands_after (reply.PairsAre pairs) core words stepped is answers = answers
+stands_after (reply.Version version) core words stepped is answers = answers
+stands_after (reply.Life life) core words stepped is answers = answers
 stands_after (reply.Fault code) core words stepped is answers = answers
 stands_after reply.NoMemory core words stepped is answers = absurd (is refl)
 

@@ -1,6 +1,6 @@
 //! The run of machine 0, from the pairs of an input to the dump.
 
-ghost use Rattle.std.specs.Prelude.{◌≡◌, [], ◌∷◌, ◌++◌, false, if◌then◌else◌, IfOk};
+ghost use Rattle.std.specs.Prelude.{◌≡◌, pos, [], ◌∷◌, ◌++◌, false, if◌then◌else◌, IfOk};
 ghost use Rattle.machine_rules.specs.declared.State.TheVariants.{Running};
 ghost use Rattle.machine_rules.specs.Runs.{has_ended, instructions_in, packed_prefix};
 ghost use Rattle.version_store.specs.Versions.{at, last_of};
@@ -57,7 +57,7 @@ fn start(alloc: Global, core: &Core, prefix: &[u8]) -> Result<Machine, AllocErro
       instructions = instructions_in (at core.now.store (last_of core.now.store)) prefix.now;
       next = 0;
       polls = POLLS;
-      registers = record { name = prefix.now; stack = []; errors = [] };
+      registers = record { name = prefix.now; last_seen = pos 0; stack = []; errors = [] };
       state = Running;
     }) }
     ensures ready { IfOk result (λ machine. machine.is_out_of_memory ≡ false) }

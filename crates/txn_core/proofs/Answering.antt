@@ -1,25 +1,26 @@
 -- What a read or a write of a transaction of the code is answered, as a call.
-use Rattle.std.proofs.Common.{◌≡◌, ℕ, ◌+◌, Bool, true, cond, List, [], ◌∷◌, ◌++◌, Option, Some, None, Result, Ok, Err, inl, refl, sym, ap, subst, ◌∙◌, append-nil}
-use Rattle.std.specs.Prelude.{false, OnErr}
+use Rattle.std.proofs.Common.{◌≡◌, ℕ, ◌+◌, Bool, true, cond, List, [], ◌∷◌, ◌++◌, Option, Some, None, Result, Ok, Err, inl, inr, refl, sym, ap, subst, ◌∙◌, append-nil}
+use Rattle.std.specs.Prelude.{pos, false, OnErr}
 use Rattle.database_rules.specs.declared.AtomicOp.{AtomicOp}
 use Rattle.database_rules.specs.Databases.{Mutation, Atomic}
 use Rattle.database_rules.specs.Reads.{Read}
-use Rattle.database_rules.specs.Histories.{History, Setting, grown_by, last}
+use Rattle.database_rules.specs.Histories.{History, Setting, grown_by, stamp_of}
 use Rattle.database_rules.specs.declared.Code.{Code}
 use Rattle.database_rules.specs.declared.Phase.{Phase}
 use Rattle.database_rules.specs.declared.Phase.TheVariants as phase
 use Rattle.database_rules.specs.declared.Tried.TheVariants as tried
-use Rattle.database_rules.specs.Transactions.{Transaction, read_code, is_read_only, with_version, with_phase}
+use Rattle.database_rules.specs.Transactions.{Transaction, first_failing, phase_code, read_code, late_checks, is_read_only, version_in, version_made, with_version, with_phase}
+use Rattle.edge_map.specs.Edges.{Edges}
 use Rattle.fdb_calls.specs.declared.fault.TrFault.{TrFault}
 use Rattle.fdb_calls.specs.declared.fault.TrFault.TheVariants as fault
 use Rattle.fdb_calls.specs.declared.Reply.{Reply}
 use Rattle.fdb_calls.specs.declared.Reply.TheVariants as reply
 use Rattle.fdb_calls.specs.Answers.{Answered}
-use Rattle.fdb_calls.specs.Calling.{Called, refuses, read_by, read_called, write_by, atomic_by, commit_of, commit_allowed, commit_refused, commit_by, commit_called}
+use Rattle.fdb_calls.specs.Calling.{Called, answers, refuses, does_by, read_version_called, committed_version_called, versionstamp_called, read_at_version, read_by, read_called, write_by, atomic_by, next_version, commit_of, commit_at_version, commit_allowed, commit_refused, commit_by, commit_called}
 use Rattle.version_store.specs.Versions.{Versions}
 use Rattle.txn_core.specs.declared.answer.Answer.{Answer}
-use Rattle.txn_core.specs.Answering.{Tells}
-use Rattle.txn_core.specs.Judging.{commit_refusal}
+use Rattle.txn_core.specs.Answering.{MayLack, Tells, TellsOf}
+use Rattle.txn_core.specs.Judging.{Promises, TakesVersion, commit_refusal, conflict_refusal}
 use Rattle.txn_core.specs.Stands.{Kept, StandsFor, Keeps, StandsStill, Answers}
 use Rattle.txn_core.specs.Accesses.{Writes, WritesNamed, IsRefusedBy}
 
@@ -45,7 +46,11 @@ read_in_place setting t lacks snapshot read = by_code (read_code t.phase lacks r
   where
     by_code : (code : Option ℕ) → IsInPlace (read_by code setting t snapshot read)
     by_code (Some code) = record { commits = refl; lives = refl }
-    by_code None = record { commits = refl; lives = refl }
+    by_code None = by_late (first_failing (late_checks setting (with_version setting t) read))
+      where
+        by_late : (code : Option ℕ) → IsInPlace (read_at_version code setting (with_version setting t) snapshot read)
+        by_late (Some code) = record { commits = refl; lives = refl }
+        by_late None = record { commits = refl; lives = refl }
 
 pub write_in_place : (code : Option ℕ) (t : Transaction) (mutation : Mutation) → IsInPlace (write_by code t mutation)
 write_in_place (Some code) t mutation = record { commits = refl; lives = refl }
@@ -56,49 +61,100 @@ pub atomic_in_place : (code : Option ℕ) (op : Option AtomicOp) (t : Transactio
 atomic_in_place code None t key operand = record { commits = refl; lives = refl }
 atomic_in_place code (Some op) t key operand = write_in_place code t (Atomic op key operand)
 
+pub does_in_place : (code : Option ℕ) (t after : Transaction) (reply : Reply) → IsInPlace (does_by code t after reply)
+does_in_place (Some code) t after reply = record { commits = refl; lives = refl }
+does_in_place None t after reply = record { commits = refl; lives = refl }
+
 -- a call in place leaves the history as it was
-keeps_in_place : (store : Versions) (setting : Setting) (called : Called) → IsInPlace called → Keeps store setting
-    → Keeps store (grown_by setting called.commits)
-keeps_in_place store setting called place keeps =
-    subst (λ (h : History). Keeps store (record setting { history = h }))
+keeps_in_place : (store : Versions) (index : Edges ℕ) (setting : Setting) (called : Called) → IsInPlace called → Keeps store index setting
+    → Keeps store index (grown_by setting called.commits)
+keeps_in_place store index setting called place keeps =
+    subst (λ (h : History). Keeps store index (record setting { history = h }))
     (sym (ap (λ commits. setting.history ++ commits) place.commits ∙ append-nil setting.history)) keeps
 
 -- an answer that tells of a result answers the call
-pub told_in_place : {A : Type 0} (replied : A → Reply) (result : Result A TrFault) (answer : Answer) (kept : Kept) (store : Versions)
+pub told_in_place : {A : Type 0} (replied : A → Reply) (result : Result A TrFault) (answer : Answer) (kept : Kept) (store : Versions) (index : Edges ℕ)
     (setting : Setting) (t : Transaction) (called : Called)
-    → IsInPlace called → Keeps store setting → Answered replied result (StandsFor kept) t called → Tells replied result answer
-    → Answers answer kept store setting called
-told_in_place replied (Ok value) answer kept store setting t called place keeps answered tells = record {
+    → IsInPlace called → Keeps store index setting → Answered replied result (StandsFor kept) t called → Tells replied result answer
+    → Answers answer kept store index setting called
+told_in_place replied (Ok value) answer kept store index setting t called place keeps answered tells = record {
   reply = tells.0 ∙ answered.0;
   lives = ap (λ b. cond b 1 0) tells.1 ∙ sym place.lives;
   stands = answered.1;
-  keeps = keeps_in_place store setting called place keeps;
+  keeps = keeps_in_place store index setting called place keeps;
 }
-told_in_place replied (Err (fault.Code code)) answer kept store setting t called place keeps answered tells = record {
+told_in_place replied (Err (fault.Code code)) answer kept store index setting t called place keeps answered tells = record {
   reply = tells.0 ∙ answered.0;
   lives = ap (λ b. cond b 1 0) tells.1 ∙ sym place.lives;
   stands = answered.1;
-  keeps = keeps_in_place store setting called place keeps;
+  keeps = keeps_in_place store index setting called place keeps;
 }
-told_in_place replied (Err fault.NoMemory) answer kept store setting t called place keeps answered tells = absurd tells
+told_in_place replied (Err fault.NoMemory) answer kept store index setting t called place keeps answered tells = absurd tells
 
 -- a read or a write in which memory ran out left the transaction and the store as they were
-pub left_standing : {A : Type 0} (replied : A → Reply) (result : Result A TrFault) (kept : Kept) (store : Versions) (setting : Setting)
+pub left_standing : {A : Type 0} (replied : A → Reply) (result : Result A TrFault) (kept : Kept) (store : Versions) (index : Edges ℕ) (setting : Setting)
     (t : Transaction) (called : Called)
-    → result ≡ Err fault.NoMemory → Answered replied result (StandsFor kept) t called → Keeps store setting
-    → StandsStill (StandsFor kept) setting t × Keeps store setting
-left_standing replied (Ok value) kept store setting t called refused answered keeps = absurd cc
-left_standing replied (Err (fault.Code code)) kept store setting t called refused answered keeps = absurd cc
-left_standing replied (Err fault.NoMemory) kept store setting t called refused answered keeps = (inl answered, keeps)
+    → result ≡ Err fault.NoMemory → Answered replied result (StandsFor kept) t called → Keeps store index setting
+    → StandsStill (StandsFor kept) setting t × Keeps store index setting
+left_standing replied (Ok value) kept store index setting t called refused answered keeps = absurd cc
+left_standing replied (Err (fault.Code code)) kept store index setting t called refused answered keeps = absurd cc
+left_standing replied (Err fault.NoMemory) kept store index setting t called refused answered keeps = (inl answered, keeps)
+
+-- a call that may take the version stood for the transaction before, or for that one with its version taken
+pub left_lacking : (result : Result ℕ TrFault) (kept : Kept) (setting : Setting) (t : Transaction) → MayLack result
+    → Answered (λ version. reply.Version (pos version)) result (StandsFor kept) t (read_version_called setting t)
+    → StandsStill (StandsFor kept) setting t
+left_lacking (Ok version) kept setting t lacks answered = still (phase_code t.phase) answered.1
+  where
+    still : (code : Option ℕ)
+        → StandsFor kept (does_by code t (with_version setting t) (reply.Version (pos (version_in setting t)))).transaction
+        → StandsStill (StandsFor kept) setting t
+    still (Some code) stands = inl stands
+    still None stands = inr stands
+left_lacking (Err (fault.Code code)) kept setting t lacks answered = absurd lacks
+left_lacking (Err fault.NoMemory) kept setting t lacks answered = inl answered
+
+-- a promise is answered as is said
+pub promise_answered : (result : Result ℕ Code) (answer : Answer) (kept : Kept) (store : Versions) (index : Edges ℕ)
+    (setting : Setting) (t : Transaction)
+    → StandsFor kept t → Keeps store index setting → Promises result kept → TellsOf result answer
+    → Answers answer kept store index setting (versionstamp_called t)
+promise_answered (Ok life) answer kept store index setting t stands keeps promises tells =
+    subst (λ (code : Option ℕ). Answers answer kept store index setting (does_by code t t (reply.Life t.life)))
+    (sym (sym (ap phase_code stands.phase) ∙ promises.0)) (record {
+      reply = tells.0 ∙ ap (λ life. reply.Life life) (promises.1 ∙ stands.life);
+      lives = ap (λ b. cond b 1 0) tells.1;
+      stands = stands;
+      keeps = keeps_in_place store index setting (answers t (reply.Life t.life)) (record { commits = refl; lives = refl }) keeps;
+    })
+promise_answered (Err code) answer kept store index setting t stands keeps promises tells =
+    subst (λ (checked : Option ℕ). Answers answer kept store index setting (does_by checked t t (reply.Life t.life)))
+    (sym (sym (ap phase_code stands.phase) ∙ promises)) (record {
+      reply = tells.0;
+      lives = ap (λ b. cond b 1 0) tells.1;
+      stands = stands;
+      keeps = keeps_in_place store index setting (refuses t code.0) (record { commits = refl; lives = refl }) keeps;
+    })
+
+-- the version that a commit made is answered as is said
+pub version_answered : (answer : Answer) (kept : Kept) (store : Versions) (index : Edges ℕ) (setting : Setting) (t : Transaction)
+    → StandsFor kept t → Keeps store index setting → answer.reply ≡ reply.Version (version_made kept.phase) → answer.drew_life ≡ false
+    → Answers answer kept store index setting (committed_version_called t)
+version_answered answer kept store index setting t stands keeps replied drew = record {
+  reply = replied ∙ ap (λ now. reply.Version (version_made now)) stands.phase;
+  lives = ap (λ b. cond b 1 0) drew;
+  stands = stands;
+  keeps = keeps_in_place store index setting (committed_version_called t) (record { commits = refl; lives = refl }) keeps;
+}
 
 -- the same answer, over a store that keeps its history
-pub answered_on : {A : Type 0} (replied : A → Reply) (result : Result A TrFault) (kept : Kept) (store : Versions) (setting : Setting)
+pub answered_on : {A : Type 0} (replied : A → Reply) (result : Result A TrFault) (kept : Kept) (store : Versions) (index : Edges ℕ) (setting : Setting)
     (t : Transaction) (called : Called)
-    → Keeps store setting → Answered replied result (StandsFor kept) t called
-    → Answered replied result (λ t. StandsFor kept t × Keeps store setting) t called
-answered_on replied (Ok value) kept store setting t called keeps answered = (answered.0, (answered.1, keeps))
-answered_on replied (Err (fault.Code code)) kept store setting t called keeps answered = (answered.0, (answered.1, keeps))
-answered_on replied (Err fault.NoMemory) kept store setting t called keeps answered = (answered, keeps)
+    → Keeps store index setting → Answered replied result (StandsFor kept) t called
+    → Answered replied result (λ t. StandsFor kept t × Keeps store index setting) t called
+answered_on replied (Ok value) kept store index setting t called keeps answered = (answered.0, (answered.1, keeps))
+answered_on replied (Err (fault.Code code)) kept store index setting t called keeps answered = (answered.0, (answered.1, keeps))
+answered_on replied (Err fault.NoMemory) kept store index setting t called keeps answered = (answered, keeps)
 
 -- ---- writes
 
@@ -138,62 +194,84 @@ named_answered result old new t code made (Some op) key operand same stands writ
 -- ---- commits
 
 -- one that is allowed, and has nothing to write
-pub committed_read_only : (answer : Answer) (kept : Kept) (store : Versions) (setting : Setting) (t : Transaction)
+pub committed_read_only : (answer : Answer) (kept : Kept) (store : Versions) (index : Edges ℕ) (setting : Setting) (t : Transaction)
     → commit_refusal t ≡ None → is_read_only t ≡ true → answer.reply ≡ reply.Done → answer.drew_life ≡ false
-    → StandsFor kept (with_phase t (phase.Tried tried.ReadOnly)) → Keeps store setting
-    → Answers answer kept store setting (commit_called setting t)
-committed_read_only answer kept store setting t allowed read_only replied drew stands keeps =
+    → StandsFor kept (with_phase t (phase.Tried tried.ReadOnly)) → Keeps store index setting
+    → Answers answer kept store index setting (commit_called setting t)
+committed_read_only answer kept store index setting t allowed read_only replied drew stands keeps =
     let called : commit_called setting t ≡ commit_allowed true setting t =
     ap (λ (code : Option ℕ). commit_by code setting t) allowed ∙ ap (λ b. commit_allowed b setting t) read_only in
-    subst (λ (made : Called). Answers answer kept store setting made) (sym called) (record {
+    subst (λ (made : Called). Answers answer kept store index setting made) (sym called) (record {
       reply = replied;
       lives = ap (λ b. cond b 1 0) drew;
       stands = stands;
-      keeps = keeps_in_place store setting (commit_allowed true setting t) (record { commits = refl; lives = refl }) keeps;
+      keeps = keeps_in_place store index setting (commit_allowed true setting t) (record { commits = refl; lives = refl }) keeps;
     })
 
+-- one that goes on to its version
+takes_version : (setting : Setting) (t : Transaction) (code : Option ℕ) → TakesVersion t → conflict_refusal setting t ≡ code
+    → commit_called setting t ≡ commit_at_version code setting (with_version setting t)
+takes_version setting t code takes is =
+    ap (λ (code : Option ℕ). commit_by code setting t) takes.allowed ∙ ap (λ b. commit_allowed b setting t) takes.writes
+    ∙ ap (λ (code : Option ℕ). commit_at_version code setting (with_version setting t)) is
+
 -- one that is allowed, and makes a version
-pub committed_version : (answer : Answer) (kept : Kept) (store : Versions) (setting : Setting) (t : Transaction)
-    → commit_refusal t ≡ None → is_read_only t ≡ false → answer.reply ≡ reply.Done → answer.drew_life ≡ false
-    → StandsFor kept (with_phase (with_version setting t) (phase.Tried (tried.Version (last setting.history + 1))))
-    → Keeps store (grown_by setting (commit_of t ∷ []))
-    → Answers answer kept store setting (commit_called setting t)
-committed_version answer kept store setting t allowed writes replied drew stands keeps =
-    let called : commit_called setting t ≡ commit_allowed false setting t =
-    ap (λ (code : Option ℕ). commit_by code setting t) allowed ∙ ap (λ b. commit_allowed b setting t) writes in
-    subst (λ (made : Called). Answers answer kept store setting made) (sym called) (record {
+pub committed_version : (answer : Answer) (kept : Kept) (store : Versions) (index : Edges ℕ) (setting : Setting) (t : Transaction)
+    → TakesVersion t → conflict_refusal setting t ≡ None → answer.reply ≡ reply.Done → answer.drew_life ≡ false
+    → StandsFor kept (with_phase (with_version setting t) (phase.Tried (tried.Version (next_version setting))))
+    → Keeps store index (grown_by setting (commit_of (stamp_of (next_version setting)) setting (with_version setting t) ∷ []))
+    → Answers answer kept store index setting (commit_called setting t)
+committed_version answer kept store index setting t takes none replied drew stands keeps =
+    subst (λ (made : Called). Answers answer kept store index setting made) (sym (takes_version setting t None takes none)) (record {
       reply = replied;
       lives = ap (λ b. cond b 1 0) drew;
       stands = stands;
       keeps = keeps;
     })
 
--- one that is refused
-pub commit_refused_is : (answer : Answer) (kept : Kept) (store : Versions) (setting : Setting) (t : Transaction) (code : Code)
+-- one that is refused, before its version is taken or after
+refused_by_phase : (answer : Answer) (kept : Kept) (store : Versions) (index : Edges ℕ) (setting : Setting) (t : Transaction) (code : Code) (now : Phase)
+    → answer.reply ≡ reply.Fault code → answer.drew_life ≡ false → Keeps store index setting
+    → StandsFor kept (commit_refused now code.0 t).transaction → Answers answer kept store index setting (commit_refused now code.0 t)
+refused_by_phase answer kept store index setting t code phase.Active replied drew keeps stands = record {
+  reply = replied;
+  lives = ap (λ b. cond b 1 0) drew;
+  stands = stands;
+  keeps = keeps_in_place store index setting (commit_refused phase.Active code.0 t) (record { commits = refl; lives = refl }) keeps;
+}
+refused_by_phase answer kept store index setting t code phase.Cancelled replied drew keeps stands = record {
+  reply = replied;
+  lives = ap (λ b. cond b 1 0) drew;
+  stands = stands;
+  keeps = keeps_in_place store index setting (refuses t code.0) (record { commits = refl; lives = refl }) keeps;
+}
+refused_by_phase answer kept store index setting t code (phase.Tried outcome) replied drew keeps stands = record {
+  reply = replied;
+  lives = ap (λ b. cond b 1 0) drew;
+  stands = stands;
+  keeps = keeps_in_place store index setting (refuses t code.0) (record { commits = refl; lives = refl }) keeps;
+}
+
+pub commit_refused_early : (answer : Answer) (kept : Kept) (store : Versions) (index : Edges ℕ) (setting : Setting) (t : Transaction) (code : Code)
     → commit_refusal t ≡ Some code.0 → answer.reply ≡ reply.Fault code → answer.drew_life ≡ false
-    → StandsFor kept (commit_refused t.phase code.0 t).transaction → Keeps store setting
-    → Answers answer kept store setting (commit_called setting t)
-commit_refused_is answer kept store setting t code refused replied drew stands keeps =
-    subst (λ (made : Called). Answers answer kept store setting made) (sym (ap (λ (code : Option ℕ). commit_by code setting t) refused))
-    (by_phase t.phase stands)
-  where
-    by_phase : (now : Phase) → StandsFor kept (commit_refused now code.0 t).transaction
-        → Answers answer kept store setting (commit_refused now code.0 t)
-    by_phase phase.Active stands = record {
-      reply = replied;
-      lives = ap (λ b. cond b 1 0) drew;
-      stands = stands;
-      keeps = keeps_in_place store setting (commit_refused phase.Active code.0 t) (record { commits = refl; lives = refl }) keeps;
-    }
-    by_phase phase.Cancelled stands = record {
-      reply = replied;
-      lives = ap (λ b. cond b 1 0) drew;
-      stands = stands;
-      keeps = keeps_in_place store setting (refuses t code.0) (record { commits = refl; lives = refl }) keeps;
-    }
-    by_phase (phase.Tried outcome) stands = record {
-      reply = replied;
-      lives = ap (λ b. cond b 1 0) drew;
-      stands = stands;
-      keeps = keeps_in_place store setting (refuses t code.0) (record { commits = refl; lives = refl }) keeps;
-    }
+    → StandsFor kept (commit_refused t.phase code.0 t).transaction → Keeps store index setting
+    → Answers answer kept store index setting (commit_called setting t)
+commit_refused_early answer kept store index setting t code refused replied drew stands keeps =
+    subst (λ (made : Called). Answers answer kept store index setting made) (sym (ap (λ (code : Option ℕ). commit_by code setting t) refused))
+    (refused_by_phase answer kept store index setting t code t.phase replied drew keeps stands)
+
+pub commit_refused_late : (answer : Answer) (kept : Kept) (store : Versions) (index : Edges ℕ) (setting : Setting) (t : Transaction) (code : Code)
+    → TakesVersion t → conflict_refusal setting t ≡ Some code.0 → answer.reply ≡ reply.Fault code → answer.drew_life ≡ false
+    → StandsFor kept (commit_refused t.phase code.0 (with_version setting t)).transaction → Keeps store index setting
+    → Answers answer kept store index setting (commit_called setting t)
+commit_refused_late answer kept store index setting t code takes refused replied drew stands keeps =
+    subst (λ (made : Called). Answers answer kept store index setting made) (sym (takes_version setting t (Some code.0) takes refused))
+    (refused_by_phase answer kept store index setting (with_version setting t) code t.phase replied drew keeps stands)
+
+-- ---- other calls
+
+-- one that no check refuses
+pub does_done : (code : Option ℕ) (t after : Transaction) (reply : Reply) (kept : Kept) → code ≡ None → StandsFor kept after
+    → (reply ≡ (does_by code t after reply).reply) × StandsFor kept (does_by code t after reply).transaction
+does_done code t after reply kept none stands =
+    subst (λ c. (reply ≡ (does_by c t after reply).reply) × StandsFor kept (does_by c t after reply).transaction) (sym none) (refl, stands)

@@ -6,3 +6,5 @@ pub mod Changes
 pub mod Stored
 pub mod States
 pub mod Modified
+mod LastKeys
+pub mod Named

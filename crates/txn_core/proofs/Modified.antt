@@ -10,7 +10,6 @@ use Rattle.database_rules.specs.Atomics.{is_versionstamped}
 use Rattle.database_rules.specs.Databases.{Mutation, Set, Clear, ClearRange, Atomic}
 use Rattle.database_rules.specs.States.{KeyState, Unmodified, Decided, Depends, after_atomic, state_after, states_after, state_under, is_unmodified}
 use Rattle.database_rules.specs.KeyByKey.{modifies, is_modified_by}
-use Rattle.txn_core.specs.Stands.{SameMutations}
 
 -- ---- states of changed keys
 
@@ -113,9 +112,9 @@ state_modified mutations q other = by_modified (is_modified_by mutations q) refl
 
 -- each changed key has another state under mutations that the mutations agree with
 pub each_modified : (kept : List Mutation) (changes : List (List ℕ × Option (List ℕ))) (mutations : List Mutation)
-    → SameMutations kept mutations
+    → ((key : List ℕ) → state_under kept key ≡ state_under mutations key)
     → All (λ change. is_modified_by kept change.0 ≡ true) changes → All (λ change. is_unmodified (state_under mutations change.0) ≡ false)
     changes
 each_modified kept changes mutations same only =
     All-weaker (λ change. is_modified_by kept change.0 ≡ true) (λ change. is_unmodified (state_under mutations change.0) ≡ false)
-    (λ change is. ap is_unmodified (sym (same.state_same change.0)) ∙ modified_state kept change.0 is) changes only
+    (λ change is. ap is_unmodified (sym (same change.0)) ∙ modified_state kept change.0 is) changes only

@@ -1,27 +1,46 @@
 -- A transaction of the code goes on standing for each one that it stood for.
-use Rattle.std.proofs.Common.{◌≡◌, ℕ, Bool, true, false, List, [], ◌∷◌, ◌++◌, length, Some, nat_lt, refl, sym, ap, subst, ◌∙◌, append-nil, length-append, le-ltb, arith}
+use Rattle.std.proofs.Common.{◌≡◌, ◌⊎◌, inl, inr, ℕ, Bool, true, false, cond, not, ◌&&◌, ◌||◌, List, [], ◌∷◌, ◌++◌, length, Some, nat_lt, refl, sym, ap, subst, ◌∙◌, length-append, le-ltb, arith}
+use Rattle.std.proofs.lemmas.List.{length-map}
 use Rattle.std.specs.Prelude.{if◌then◌else◌}
+use Rattle.key_bytes.specs.declared.range.KeyRange.{KeyRange}
+use Rattle.key_bytes.specs.Keys.{key_lt}
+use Rattle.key_bytes.specs.Ranges.{has}
 use Rattle.database_rules.specs.declared.Phase.{Phase}
 use Rattle.database_rules.specs.declared.Phase.TheVariants as phase
 use Rattle.database_rules.specs.Databases.{Mutation}
 use Rattle.database_rules.specs.Reads.{Read, Answer, answer}
-use Rattle.database_rules.specs.Histories.{Script, Wrote, HasRead, written, Setting}
-use Rattle.database_rules.specs.Transactions.{Transaction, writes_of, is_tried, grown, mutation_size, version_in, with_version, with_read, with_mutation, with_phase, cancelled}
-use Rattle.txn_core.specs.Stands.{Kept, SameMutations, StandsFor}
+use Rattle.database_rules.specs.States.{covers, filled, all_filled}
+use Rattle.database_rules.specs.Histories.{Setting, write_range, declared_by}
+use Rattle.database_rules.specs.Transactions.{Transaction, writes_of, declared_of, is_tried, grown, mutation_size, range_size, with_range, version_in, with_version, with_read, with_mutation, with_read_range, with_write_range, silenced, with_phase, cancelled}
+use Rattle.database_rules.proofs.States.{covers-append, filled-append}
+use Rattle.database_rules.proofs.Ranges.{covers_with_range}
+use Rattle.database_rules.proofs.Declaring.{written_wrote, written_read, declared_wrote, declared_read}
+use Rattle.txn_core.specs.Stands.{Kept, SameMutations, StandsFor, declared_among}
 use Rattle.txn_core.specs.Accesses.{StandsWritten}
 use Rattle.txn_core.proofs.States.{same_more}
 
--- ---- scripts
+pub or_false : (x : Bool) → (x || false) ≡ x
+or_false true = refl
+or_false false = refl
 
-written-append : (first second : Script) → written (first ++ second) ≡ written first ++ written second
-written-append [] second = refl
-written-append (Wrote mutation ∷ first) second = ap (λ list. mutation ∷ list) (written-append first second)
-written-append (HasRead read answer ∷ first) second = written-append first second
+pub and_false : (x : Bool) → (x && false) ≡ false
+and_false true = refl
+and_false false = refl
+
+pub and_true : (x : Bool) → (x && true) ≡ x
+and_true true = refl
+and_true false = refl
+
+-- ranges that have a key are not none
+pub not_bare : (ranges : List KeyRange) (key : List ℕ) → covers ranges key ≡ true → nat_lt (length ranges) 1 ≡ false
+not_bare [] key there = absurd cc
+not_bare (range ∷ ranges) key there = le-ltb (length (range ∷ ranges)) 1 (omega arith)
 
 -- a read that is noted leaves the mutations as they are
-writes_read : (snapshot : Bool) (read : Read) (answer : Answer) (t : Transaction) → writes_of (with_read snapshot read answer t) ≡ writes_of t
-writes_read true read answer t = refl
-writes_read false read answer t = written-append t.script (HasRead read answer ∷ []) ∙ append-nil (writes_of t)
+writes_read : (snapshot : Bool) (read : Read) (answer : Answer) (ranges : List KeyRange) (t : Transaction)
+    → writes_of (with_read snapshot read answer ranges t) ≡ writes_of t
+writes_read true read answer ranges t = refl
+writes_read false read answer ranges t = written_read t.script read answer
 
 -- ---- fields that change alike
 
@@ -30,10 +49,12 @@ pub versioned : (setting : Setting) (kept : Kept) (version : ℕ) (t : Transacti
 versioned setting kept version t stands is = record {
   mutations = stands.mutations;
   writes = stands.writes;
+  declared = stands.declared;
   life = stands.life;
   version = ap (λ v. Some v) is;
   reads = stands.reads;
   size = stands.size;
+  silenced = stands.silenced;
   phase = stands.phase;
 }
 
@@ -41,44 +62,234 @@ pub phased : (now : Phase) (kept : Kept) (t : Transaction) → StandsFor kept t 
 phased now kept t stands = record {
   mutations = stands.mutations;
   writes = stands.writes;
+  declared = stands.declared;
   life = stands.life;
   version = stands.version;
   reads = stands.reads;
   size = stands.size;
+  silenced = stands.silenced;
   phase = refl;
 }
+
+-- ---- a write
 
 appended_not_empty : (mutations : List Mutation) (mutation : Mutation) → nat_lt (length (mutations ++ mutation ∷ [])) 1 ≡ false
 appended_not_empty mutations mutation =
     le-ltb (length (mutations ++ mutation ∷ [])) 1 (omega (arith, length-append mutations (mutation ∷ [])))
 
+-- the keys of one mutation, where it declares them
+abbrev of_one : Bool → Mutation → List KeyRange
+of_one declares mutation = if declares then write_range mutation ∷ [] else []
+
+-- where nothing is left of one of the two, no mutation declares anything
+pub none_declared : (mutations : List Mutation) (declares : List Bool) → (length mutations ≡ 0) ⊎ (length declares ≡ 0)
+    → declared_among mutations declares ≡ []
+none_declared [] declares none = refl
+none_declared (m ∷ mutations) [] none = refl
+none_declared (m ∷ mutations) (b ∷ declares) (inl none) = absurd (omega (arith, none))
+none_declared (m ∷ mutations) (b ∷ declares) (inr none) = absurd (omega (arith, none))
+
+declared_more : (mutations : List Mutation) (declares : List Bool) (mutation : Mutation) (one : Bool)
+    → length declares ≡ length mutations
+    → declared_among (mutations ++ mutation ∷ []) (declares ++ one ∷ []) ≡ declared_among mutations declares ++ of_one one mutation
+declared_more [] [] mutation true same = refl
+declared_more [] [] mutation false same = refl
+declared_more [] (b ∷ declares) mutation one same = absurd (omega (arith, same))
+declared_more (m ∷ mutations) [] mutation one same = absurd (omega (arith, same))
+declared_more (m ∷ mutations) (true ∷ declares) mutation one same =
+    ap (λ list. write_range m ∷ list) (declared_more mutations declares mutation one (omega (arith, same)))
+declared_more (m ∷ mutations) (false ∷ declares) mutation one same = declared_more mutations declares mutation one (omega (arith, same))
+
+moved : (x y z : Bool) → ((x || y) || z) ≡ ((x || z) || y)
+moved true y z = refl
+moved false true true = refl
+moved false true false = refl
+moved false false true = refl
+moved false false false = refl
+
+-- a list of ranges that more were put into before the last of them
+covers_between : (first more last : List KeyRange) (key : List ℕ)
+    → covers ((first ++ more) ++ last) key ≡ (covers (first ++ last) key || covers more key)
+covers_between first more last key =
+    covers-append (first ++ more) last key ∙ ap (λ b. b || covers last key) (covers-append first more key)
+    ∙ moved (covers first key) (covers more key) (covers last key) ∙ ap (λ b. b || covers more key) (sym (covers-append first last key))
+
+-- the keys that are declared, by the code and by the definitions, after a mutation more
+declared_written : (kept : Kept) (t : Transaction) (mutation : Mutation) (stamp key : List ℕ) → length kept.declares ≡ length kept.mutations
+    → StandsFor kept t → length stamp ≡ 10
+    → covers (declared_among (all_filled stamp (kept.mutations ++ mutation ∷ [])) (kept.declares ++ not kept.is_silenced ∷ []) ++ kept.write_ranges) key
+    ≡ covers (declared_of stamp (with_mutation t mutation)) key
+declared_written kept t mutation stamp key same stands ten =
+    let filled_one = of_one (not kept.is_silenced) (filled stamp mutation) in
+    ap (λ list. covers (list ++ kept.write_ranges) key)
+    (ap (λ list. declared_among list (kept.declares ++ not kept.is_silenced ∷ [])) (filled-append stamp kept.mutations (mutation ∷ []))
+    ∙ declared_more (all_filled stamp kept.mutations) kept.declares (filled stamp mutation) (not kept.is_silenced)
+    (same ∙ sym (length-map kept.mutations (filled stamp))))
+    ∙ covers_between (declared_among (all_filled stamp kept.mutations) kept.declares) filled_one kept.write_ranges key
+    ∙ (λ i. stands.declared stamp key ten i || covers (of_one (not (stands.silenced i)) (filled stamp mutation)) key)
+    ∙ sym (covers_between (declared_by stamp t.script) (of_one (not t.is_silenced) (filled stamp mutation)) t.write_ranges key)
+    ∙ ap (λ list. covers (list ++ t.write_ranges) key) (sym (declared_wrote stamp t.script mutation (not t.is_silenced)))
+
 -- what is kept with one mutation more, which counts so many bytes
-pub stands_written : (mutation : Mutation) (kept new : Kept)
-    → new ≡ record kept { mutations = kept.mutations ++ mutation ∷ []; size = grown kept.size (mutation_size mutation) }
+pub stands_written : (mutation : Mutation) (kept new : Kept) → length kept.declares ≡ length kept.mutations
+    → new ≡ record kept {
+      mutations = kept.mutations ++ mutation ∷ [];
+      declares = kept.declares ++ not kept.is_silenced ∷ [];
+      size = grown kept.size (mutation_size mutation);
+      is_silenced = false;
+    }
     → StandsWritten kept new mutation
-stands_written mutation kept new is t stands = subst (λ k. StandsFor k (with_mutation t mutation)) (sym is) (record {
-  mutations = subst (λ list. SameMutations (kept.mutations ++ mutation ∷ []) list) (sym (written-append t.script (Wrote mutation ∷ [])))
+stands_written mutation kept new same is t stands = subst (λ k. StandsFor k (with_mutation t mutation)) (sym is) (record {
+  mutations = subst (λ list. SameMutations (kept.mutations ++ mutation ∷ []) list) (sym (written_wrote t.script mutation (not t.is_silenced)))
       (same_more kept.mutations (writes_of t) (mutation ∷ []) stands.mutations);
-  writes = appended_not_empty kept.mutations mutation
-      ∙ sym (ap (λ list. nat_lt (length list) 1) (written-append t.script (Wrote mutation ∷ [])) ∙ appended_not_empty (writes_of t) mutation);
+  writes =
+      ap (λ b. b && nat_lt (length kept.write_ranges) 1) (appended_not_empty kept.mutations mutation)
+      ∙ sym (ap (λ b. b && nat_lt (length t.write_ranges) 1)
+      (ap (λ list. nat_lt (length list) 1) (written_wrote t.script mutation (not t.is_silenced)) ∙ appended_not_empty (writes_of t) mutation));
+  declared = λ stamp key ten. declared_written kept t mutation stamp key same stands ten;
   life = stands.life;
   version = stands.version;
   reads = stands.reads;
   size = ap (λ n. grown n (mutation_size mutation)) stands.size;
+  silenced = refl;
   phase = stands.phase;
 })
 
--- a read that is noted changes nothing that is kept
-pub stands_read : (snapshot : Bool) (read : Read) (answer : Answer) (kept : Kept) (t : Transaction) → StandsFor kept t
-    → StandsFor kept (with_read snapshot read answer t)
-stands_read true read answer kept t stands = stands
-stands_read false read answer kept t stands = record {
-  mutations = subst (λ list. SameMutations kept.mutations list) (sym (writes_read false read answer t)) stands.mutations;
-  writes = stands.writes ∙ ap (λ list. nat_lt (length list) 1) (sym (writes_read false read answer t));
+-- ---- a read
+
+-- one that is noted, and adds ranges of which the code has the keys
+pub stands_read : (snapshot : Bool) (read : Read) (answer : Answer) (ranges : List KeyRange) (kept : Kept) (t : Transaction)
+    → StandsFor (record kept { read_ranges = t.read_ranges }) t
+    → ((key : List ℕ) → covers kept.read_ranges key ≡ (covers t.read_ranges key || (not snapshot && covers ranges key)))
+    → StandsFor kept (with_read snapshot read answer ranges t)
+stands_read true read answer ranges kept t stands noted = record {
+  mutations = stands.mutations;
+  writes = stands.writes;
+  declared = stands.declared;
+  life = stands.life;
+  version = stands.version;
+  reads = λ key. noted key ∙ or_false (covers t.read_ranges key);
+  size = stands.size;
+  silenced = stands.silenced;
+  phase = stands.phase;
+}
+stands_read false read answer ranges kept t stands noted = record {
+  mutations = subst (λ list. SameMutations kept.mutations list) (sym (writes_read false read answer ranges t)) stands.mutations;
+  writes =
+      stands.writes ∙ ap (λ list. nat_lt (length list) 1 && nat_lt (length t.write_ranges) 1) (sym (writes_read false read answer ranges t));
+  declared = λ stamp key ten.
+      stands.declared stamp key ten ∙ ap (λ list. covers (list ++ t.write_ranges) key) (sym (declared_read stamp t.script read answer));
+  life = stands.life;
+  version = stands.version;
+  reads = λ key. noted key ∙ sym (covers-append t.read_ranges ranges key);
+  size = stands.size;
+  silenced = stands.silenced;
+  phase = stands.phase;
+}
+
+-- ---- what it is told to rest on and to declare
+
+pub stands_reads : (range : KeyRange) (kept : Kept) (t : Transaction) (ranges : List KeyRange) → StandsFor kept t
+    → ((key : List ℕ) → covers ranges key ≡ (covers kept.read_ranges key || has range key))
+    → StandsFor (record kept { read_ranges = ranges; size = grown kept.size (range_size range) }) (with_read_range t range)
+stands_reads range kept t ranges stands added = record {
+  mutations = stands.mutations;
+  writes = stands.writes;
+  declared = stands.declared;
+  life = stands.life;
+  version = stands.version;
+  reads = λ key. added key ∙ ap (λ b. b || has range key) (stands.reads key) ∙ sym (covers_with_range t.read_ranges range key);
+  size = ap (λ n. grown n (range_size range)) stands.size;
+  silenced = stands.silenced;
+  phase = stands.phase;
+}
+
+or_moved : (x y z : Bool) → (x || (y || z)) ≡ ((x || y) || z)
+or_moved true y z = refl
+or_moved false y z = refl
+
+-- a range that is declared; an empty one changes nothing but the size
+pub stands_writes : (range : KeyRange) (kept : Kept) (t : Transaction) (ranges : List KeyRange) → StandsFor kept t
+    → ((key : List ℕ) → covers ranges key ≡ (covers kept.write_ranges key || has range key))
+    → nat_lt (length ranges) 1 ≡ (nat_lt (length kept.write_ranges) 1 && not (key_lt range.begin range.end))
+    → StandsFor (record kept { write_ranges = ranges; size = grown kept.size (range_size range) }) (with_write_range t range)
+stands_writes range kept t ranges stands added bare = record {
+  mutations = stands.mutations;
+  writes =
+      ap (λ b. nat_lt (length kept.mutations) 1 && b) bare
+      ∙ and_moved (nat_lt (length kept.mutations) 1) (nat_lt (length kept.write_ranges) 1) (not (key_lt range.begin range.end))
+      ∙ ap (λ b. b && not (key_lt range.begin range.end)) stands.writes
+      ∙ sym (and_moved (nat_lt (length (writes_of t)) 1) (nat_lt (length t.write_ranges) 1) (not (key_lt range.begin range.end)))
+      ∙ ap (λ b. nat_lt (length (writes_of t)) 1 && b) (sym (with_range_bare t.write_ranges range));
+  declared = λ stamp key ten.
+      covers-append (declared_among (all_filled stamp kept.mutations) kept.declares) ranges key
+      ∙ ap (λ b. covers (declared_among (all_filled stamp kept.mutations) kept.declares) key || b) (added key)
+      ∙ or_moved (covers (declared_among (all_filled stamp kept.mutations) kept.declares) key) (covers kept.write_ranges key) (has range key)
+      ∙ ap (λ b. b || has range key)
+      (sym (covers-append (declared_among (all_filled stamp kept.mutations) kept.declares) kept.write_ranges key) ∙ stands.declared stamp key ten
+      ∙ covers-append (declared_by stamp t.script) t.write_ranges key)
+      ∙ sym (or_moved (covers (declared_by stamp t.script) key) (covers t.write_ranges key) (has range key))
+      ∙ ap (λ b. covers (declared_by stamp t.script) key || b) (sym (covers_with_range t.write_ranges range key))
+      ∙ sym (covers-append (declared_by stamp t.script) (with_range t.write_ranges range) key);
+  life = stands.life;
+  version = stands.version;
+  reads = stands.reads;
+  size = ap (λ n. grown n (range_size range)) stands.size;
+  silenced = stands.silenced;
+  phase = stands.phase;
+}
+  where
+    and_moved : (x y z : Bool) → (x && (y && z)) ≡ ((x && y) && z)
+    and_moved true y z = refl
+    and_moved false y z = refl
+
+    with_range_bare : (ranges : List KeyRange) (range : KeyRange)
+        → nat_lt (length (with_range ranges range)) 1 ≡ (nat_lt (length ranges) 1 && not (key_lt range.begin range.end))
+    with_range_bare ranges range = by_order (key_lt range.begin range.end)
+      where
+        by_order : (b : Bool) → nat_lt (length (cond b (ranges ++ range ∷ []) ranges)) 1 ≡ (nat_lt (length ranges) 1 && not b)
+        by_order true = le-ltb (length (ranges ++ range ∷ [])) 1 (omega (arith, length-append ranges (range ∷ []))) ∙ sym (and_false (nat_lt (length ranges) 1))
+        by_order false = sym (and_true (nat_lt (length ranges) 1))
+
+pub stands_silenced : (kept : Kept) (t : Transaction) → StandsFor kept t → StandsFor (record kept { is_silenced = true }) (silenced t)
+stands_silenced kept t stands = record {
+  mutations = stands.mutations;
+  writes = stands.writes;
+  declared = stands.declared;
   life = stands.life;
   version = stands.version;
   reads = stands.reads;
   size = stands.size;
+  silenced = refl;
+  phase = stands.phase;
+}
+
+pub stands_set_version : (kept : Kept) (t : Transaction) (version : ℕ) → StandsFor kept t
+    → StandsFor (record kept { version = Some version }) (record t { version = Some version })
+stands_set_version kept t version stands = record {
+  mutations = stands.mutations;
+  writes = stands.writes;
+  declared = stands.declared;
+  life = stands.life;
+  version = refl;
+  reads = stands.reads;
+  size = stands.size;
+  silenced = stands.silenced;
+  phase = stands.phase;
+}
+
+-- read ranges with the same keys stand for the same transactions
+pub stands_same_reads : (kept : Kept) (t : Transaction) (ranges : List KeyRange) → ((key : List ℕ) → covers ranges key ≡ covers kept.read_ranges key)
+    → StandsFor kept t → StandsFor (record kept { read_ranges = ranges }) t
+stands_same_reads kept t ranges same stands = record {
+  mutations = stands.mutations;
+  writes = stands.writes;
+  declared = stands.declared;
+  life = stands.life;
+  version = stands.version;
+  reads = λ key. same key ∙ stands.reads key;
+  size = stands.size;
+  silenced = stands.silenced;
   phase = stands.phase;
 }
 

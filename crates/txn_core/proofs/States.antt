@@ -1,5 +1,5 @@
 -- Mutations that agree lead from each map to the same map, and still agree with the same mutations behind them.
-use Rattle.std.proofs.Common.{◌≡◌, ℕ, List, ◌++◌, sym, ap, ◌∙◌}
+use Rattle.std.proofs.Common.{◌≡◌, ℕ, List, ◌++◌, length, sym, ap, ◌∙◌}
 use Rattle.std.specs.Prelude.{◌||◌}
 use Rattle.std.specs.FinMap as finite
 use Rattle.std.specs.Cmp.Lexicographic.{nat_list_cmp_total}
@@ -37,3 +37,13 @@ same_more kept mutations more same = record {
       ∙ states_more (all_filled stamp kept) (all_filled stamp mutations) (all_filled stamp more) key (same.filled_same stamp key ten)
       ∙ sym (ap (λ list. state_under list key) (filled-append stamp mutations more));
 }
+
+-- with a versionstamp filled in they do so too
+pub same_filled_maps : (kept mutations : List Mutation) (stamp : List ℕ) → SameMutations kept mutations → length stamp ≡ 10
+    → SameMaps (all_filled stamp kept) (all_filled stamp mutations)
+same_filled_maps kept mutations stamp same ten database =
+    finite.same_map nat_list_cmp_total exact_bytes _ _
+    (λ q.
+    get-under (all_filled stamp kept) database q
+    ∙ ap (λ state. value_in state (finite.get database q)) (same.filled_same stamp q ten)
+    ∙ sym (get-under (all_filled stamp mutations) database q))

@@ -1,5 +1,6 @@
 -- What a store has, for a history that it keeps.
-use Rattle.std.proofs.Common.{◌≡◌, ℕ, ◌+◌, ◌≤◌, ◌<◌, ◌⊎◌, inl, inr, [], ◌∷◌, ◌++◌, length-append, min, refl, sym, ap, ◌∙◌, arith}
+use Rattle.std.proofs.Common.{◌≡◌, ℕ, ◌+◌, ◌≤◌, ◌<◌, ◌⊎◌, inl, inr, List, [], ◌∷◌, ◌++◌, length-append, min, refl, sym, ap, ◌∙◌, arith}
+use Rattle.std.specs.Prelude.{if◌then◌else◌}
 use Rattle.std.specs.FinMap as finite
 use Rattle.std.proofs.lemmas.Bool.{cases_lt}
 use Rattle.std.proofs.lemmas.List.{take_min, take_all, take-append-le}
@@ -7,6 +8,10 @@ use Rattle.database_rules.specs.Databases.{Database, do_all}
 use Rattle.database_rules.specs.Histories.{Commit, History, Setting, grown_by, after_commits, at, last}
 use Rattle.version_store.specs.Versions.{Versions, last_of}
 use Rattle.version_store.specs.Versions as versions
+use Rattle.database_rules.specs.States.{covers}
+use Rattle.database_rules.proofs.Newest.{newest_push}
+use Rattle.edge_map.specs.Edges.{Edges}
+use Rattle.conflict_ranges.specs.Writes.{newest_at}
 use Rattle.txn_core.specs.Stands.{Keeps}
 
 -- a version above the last has the last map
@@ -14,18 +19,20 @@ at_min : (history : History) (version : ℕ) → at history (min version (last h
 at_min history version = ap (λ h. after_commits h finite.empty) (take_min version history)
 
 -- what the store has at a version, or at the last one, is what the history has at that version
-pub keeps_at : (store : Versions) (setting : Setting) (version : ℕ) → Keeps store setting
+pub keeps_at : (store : Versions) (index : Edges ℕ) (setting : Setting) (version : ℕ) → Keeps store index setting
     → versions.at store (min version (last_of store)) ≡ at setting.history version
-keeps_at store setting version keeps =
+keeps_at store index setting version keeps =
     keeps.at_is (min version (last_of store)) (omega (arith, keeps.last_is))
     ∙ ap (λ n. at setting.history (min version n)) keeps.last_is ∙ at_min setting.history version
 
--- a store that reads as before keeps what it kept
-pub keeps_same : (old new : Versions) (setting : Setting) → Keeps old setting → last_of new ≡ last_of old
-    → ((version : ℕ) → versions.at new version ≡ versions.at old version) → Keeps new setting
-keeps_same old new setting keeps last_same reads = record {
+-- a store that reads as before, and an index that judges as before, keep what they kept
+pub keeps_same : (old new : Versions) (index after : Edges ℕ) (setting : Setting) → Keeps old index setting → last_of new ≡ last_of old
+    → ((version : ℕ) → versions.at new version ≡ versions.at old version)
+    → ((key : List ℕ) → newest_at after key ≡ newest_at index key) → Keeps new after setting
+keeps_same old new index after setting keeps last_same reads judges = record {
   last_is = last_same ∙ keeps.last_is;
   at_is = λ version le. reads version ∙ keeps.at_is version le;
+  newest_is = λ key. judges key ∙ keeps.newest_is key;
 }
 
 after_commits-push : (history : History) (commit : Commit) (database : Database)
@@ -46,15 +53,21 @@ at_next history commit =
     ∙ after_commits-push history commit finite.empty
     ∙ ap (λ h. do_all commit.mutations (after_commits h finite.empty)) (sym (take_all (last history) history (omega arith)))
 
--- a store with one version more, which the mutations of a commit make, keeps the history with that commit
-pub keeps_next : (old new : Versions) (setting : Setting) (commit : Commit) → Keeps old setting → last_of new ≡ last_of old + 1
+-- a store with one version more, which the mutations of a commit make, and an index where the keys that it declares have this
+-- version, keep the history with that commit
+pub keeps_next : (old new : Versions) (index later : Edges ℕ) (setting : Setting) (commit : Commit) → Keeps old index setting
+    → last_of new ≡ last_of old + 1
     → ((version : ℕ) → version ≤ last_of old → versions.at new version ≡ versions.at old version)
     → versions.at new (last_of old + 1) ≡ do_all commit.mutations (versions.at old (last_of old))
-    → Keeps new (grown_by setting (commit ∷ []))
-keeps_next old new setting commit keeps next before after = record {
+    → ((key : List ℕ) → newest_at later key ≡ (if covers commit.declared key then last_of old + 1 else newest_at index key))
+    → Keeps new later (grown_by setting (commit ∷ []))
+keeps_next old new index later setting commit keeps next before after judges = record {
   last_is = next ∙ ap (λ n. n + 1) keeps.last_is ∙ sym (length-append setting.history (commit ∷ []));
   at_is = λ version le. by_version version (cases_lt (last setting.history) version)
       (omega (arith, le, length-append setting.history (commit ∷ [])));
+  newest_is = λ key.
+      judges key ∙ (λ i. if covers commit.declared key then keeps.last_is i + 1 else keeps.newest_is key i)
+      ∙ sym (newest_push setting.history commit key);
 }
   where
     by_version : (version : ℕ) → (last setting.history < version) ⊎ (version ≤ last setting.history) → version ≤ last setting.history + 1

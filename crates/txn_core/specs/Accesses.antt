@@ -1,15 +1,19 @@
 -- What one read and one write of a transaction of the code do.
-use Rattle.std.specs.Prelude.{◌≡◌, ℕ, Bool, List, Option, Some, None, Result, Ok, Err, min, unwrap_or}
+use Rattle.std.specs.Prelude.{◌≡◌, ◌⊎◌, ℕ, Bool, true, false, ◌||◌, List, [], ◌∷◌, Option, Some, None, Result, Ok, Err, min, nat_lt, unwrap_or}
+use Rattle.key_bytes.specs.declared.range.KeyRange.{KeyRange}
 use Rattle.database_rules.specs.declared.AtomicOp.{AtomicOp}
+use Rattle.database_rules.specs.declared.TheConstants.{ACCESSED_UNREADABLE, EXACT_MODE_WITHOUT_LIMITS, FUTURE_VERSION, KEY_OUTSIDE_LEGAL_RANGE}
 use Rattle.database_rules.specs.Databases.{Database, Mutation, Atomic}
-use Rattle.database_rules.specs.States.{seen}
+use Rattle.database_rules.specs.States.{covers, seen, unreadable}
+use Rattle.database_rules.specs.Intervals.{any_meet, decided, without}
 use Rattle.database_rules.specs.Histories.{Setting}
 use Rattle.database_rules.specs.Reads.{Read, Answer}
-use Rattle.database_rules.specs.Transactions.{Transaction, with_mutation}
+use Rattle.database_rules.specs.Transactions.{Transaction, first_failing, after_phase, with_mutation}
 use Rattle.fdb_calls.specs.declared.fault.TrFault.{TrFault}
 use Rattle.fdb_calls.specs.declared.fault.TrFault.TheVariants as fault
 use Rattle.fdb_calls.specs.Answers.{Answered}
-use Rattle.fdb_calls.specs.Calling.{reply_of, read_called}
+use Rattle.fdb_calls.specs.declared.Reply.{Reply}
+use Rattle.fdb_calls.specs.Calling.{Called, reply_of, read_called}
 use Rattle.version_store.specs.Versions.{Versions, last_of}
 use Rattle.version_store.specs.Versions as versions
 use Rattle.txn_core.specs.Stands.{Kept, StandsFor}
@@ -43,6 +47,30 @@ IsRefusedBy (Ok _) old new code = ⊥
 IsRefusedBy (Err (fault.Code refused)) old new code = (code ≡ Some refused.0) × StandsOn old new
 IsRefusedBy (Err fault.NoMemory) old new code = StandsOn old new
 
+-- its version is above the last one of a store
+abbrev pub is_ahead_of : Kept → Versions → Bool
+is_ahead_of kept store = nat_lt (last_of store) (version_of kept store)
+
+-- it has taken its version, and rests on the keys of these ranges too but for those that its mutations decide
+pub record HasRested (old new : Kept) (version : ℕ) (ranges : List KeyRange) : Type 0 where
+  pub rest : new ≡ record old { version = Some version; read_ranges = new.read_ranges }
+  pub ranges_are : (key : List ℕ) → covers new.read_ranges key ≡ (covers old.read_ranges key || covers (without (decided old.mutations) ranges) key)
+
+-- the ranges of a read, of which one by snapshot has none
+abbrev pub ranges_of : (snapshot : Bool) → List KeyRange → List KeyRange
+ranges_of true interval = []
+ranges_of false interval = interval
+
+-- A read that is let through rests on its interval; one that is refused, since a key of the interval is unreadable, has its
+-- version taken; after want of memory it rests on the same keys as before.
+abbrev pub Rests : {A : Type 0} → Result A TrFault → (old new : Kept) → Versions → (snapshot : Bool) → List KeyRange → Type 0
+Rests (Ok _) old new store snapshot interval =
+    (any_meet interval (unreadable old.mutations) ≡ false) × HasRested old new (version_of old store) (ranges_of snapshot interval)
+Rests (Err (fault.Code code)) old new store snapshot interval =
+    (code.0 ≡ ACCESSED_UNREADABLE) × (any_meet interval (unreadable old.mutations) ≡ true) × HasRested old new (version_of old store) []
+Rests (Err fault.NoMemory) old new store snapshot interval =
+    (new ≡ record old { read_ranges = new.read_ranges }) × ((key : List ℕ) → covers new.read_ranges key ≡ covers old.read_ranges key)
+
 -- A read, which answers a value of this form: for each transaction that it stands for, it is answered as the definitions say.
 abbrev pub Reads : {A : Type 0} → (A → Answer) → Result A TrFault → Kept → Kept → Setting → (lacks snapshot : Bool) → Read → Type 0
 Reads shown result old new setting lacks snapshot read =
@@ -53,3 +81,24 @@ Reads shown result old new setting lacks snapshot read =
 abbrev pub WritesNamed : {A : Type 0} → Result A TrFault → Kept → Kept → Option ℕ → Option AtomicOp → (key operand : List ℕ) → Type 0
 WritesNamed result old new code None key operand = IsRefusedBy result old new code
 WritesNamed result old new code (Some op) key operand = Writes result old new code (Atomic op key operand)
+
+-- the code of the first check of a read that fails before its version is taken, by whether one of its keys is outside, and
+-- whether it lacks a limit that its mode wants
+abbrev pub early_code : Kept → (outside lacks : Bool) → Option ℕ
+early_code kept outside lacks = first_failing (after_phase kept.phase
+    ((outside, KEY_OUTSIDE_LEGAL_RANGE) ∷ (lacks, EXACT_MODE_WITHOUT_LIMITS) ∷ []))
+
+-- A read is let through to its answer: no earlier check refuses it, and its version isn't above the last one. It is refused by
+-- an earlier check, and all is as before; or since its version is above the last one, and has it taken. It takes no memory.
+abbrev pub Admits : {A : Type 0} → Result A TrFault → (old new : Kept) → Versions → (outside lacks : Bool) → Type 0
+Admits (Ok _) old new store outside lacks =
+    (early_code old outside lacks ≡ None) × (is_ahead_of old store ≡ false) × (new ≡ old)
+Admits (Err (fault.Code code)) old new store outside lacks =
+    ((early_code old outside lacks ≡ Some code.0) × (new ≡ old))
+    ⊎ ((early_code old outside lacks ≡ None) × (is_ahead_of old store ≡ true) × (code.0 ≡ FUTURE_VERSION)
+    × (new ≡ record old { version = Some (version_of old store) }))
+Admits (Err fault.NoMemory) old new store outside lacks = ⊥
+
+-- A call that is no read and no commit is answered as the definitions say, for each transaction that it stands for.
+abbrev pub Calls : {A : Type 0} → (A → Reply) → Result A TrFault → Kept → Kept → (Transaction → Called) → Type 0
+Calls replied result old new called = (t : Transaction) → StandsFor old t → Answered replied result (StandsFor new) t (called t)

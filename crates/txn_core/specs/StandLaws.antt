@@ -1,7 +1,21 @@
 -- What is kept of a transaction stands for it.
-use Rattle.std.specs.Prelude.{refl}
+use Rattle.std.specs.Prelude.{◌≡◌, ℕ, Bool, true, false, List, [], ◌∷◌, ◌++◌, refl}
+use Rattle.database_rules.specs.States.{covers, filled, all_filled}
+use Rattle.database_rules.specs.Histories.{Script, Wrote, HasRead, written, write_range, declared_by}
 use Rattle.database_rules.specs.Transactions.{Transaction, writes_of}
-use Rattle.txn_core.specs.Stands.{Kept, StandsFor}
+use Rattle.txn_core.specs.Stands.{Kept, StandsFor, declared_among}
+
+-- of each mutation of a script whether it declares the keys that it writes
+abbrev pub declaring : Script → List Bool
+declaring [] = []
+declaring (Wrote mutation declares ∷ script) = declares ∷ declaring script
+declaring (HasRead read answer ∷ script) = declaring script
+
+declared_same : (stamp : List ℕ) (script : Script) → declared_among (all_filled stamp (written script)) (declaring script) ≡ declared_by stamp script
+declared_same stamp [] = refl
+declared_same stamp (Wrote mutation true ∷ script) = λ i. write_range (filled stamp mutation) ∷ declared_same stamp script i
+declared_same stamp (Wrote mutation false ∷ script) = declared_same stamp script
+declared_same stamp (HasRead read answer ∷ script) = declared_same stamp script
 
 -- all that the code keeps of a transaction
 abbrev pub kept_of : Transaction → Kept
@@ -9,8 +23,11 @@ kept_of transaction = record {
   life = transaction.life;
   version = transaction.version;
   mutations = writes_of transaction;
+  declares = declaring transaction.script;
   read_ranges = transaction.read_ranges;
+  write_ranges = transaction.write_ranges;
   size = transaction.size;
+  is_silenced = transaction.is_silenced;
   phase = transaction.phase;
 }
 
@@ -18,9 +35,11 @@ pub stands_for_it : (transaction : Transaction) → StandsFor (kept_of transacti
 stands_for_it transaction = record {
   mutations = record { unreadable_same = λ key. refl; state_same = λ key. refl; filled_same = λ stamp key ten. refl };
   writes = refl;
+  declared = λ stamp key ten i. covers (declared_same stamp transaction.script i ++ transaction.write_ranges) key;
   life = refl;
   version = refl;
   reads = λ key. refl;
   size = refl;
+  silenced = refl;
   phase = refl;
 }

@@ -1,11 +1,14 @@
 -- What a transaction of the code, and a store, stand for.
-use Rattle.std.specs.Prelude.{◌≡◌, ℕ, ◌≤◌, ◌⊎◌, Bool, List, length, nat_lt, Option, if◌then◌else◌}
+use Rattle.std.specs.Prelude.{◌≡◌, ℕ, ◌≤◌, ◌⊎◌, Bool, true, false, ◌&&◌, List, [], ◌∷◌, ◌++◌, length, nat_lt, Option, if◌then◌else◌}
 use Rattle.key_bytes.specs.declared.range.KeyRange.{KeyRange}
 use Rattle.database_rules.specs.declared.Phase.{Phase}
 use Rattle.database_rules.specs.Databases.{Mutation}
-use Rattle.database_rules.specs.Histories.{Setting, grown_by, at, last}
+use Rattle.database_rules.specs.Histories.{Setting, grown_by, at, last, write_range}
+use Rattle.database_rules.specs.Newest.{newest_of}
 use Rattle.database_rules.specs.States.{covers, state_under, all_filled, unreadable}
-use Rattle.database_rules.specs.Transactions.{Transaction, writes_of, is_read_only, with_version}
+use Rattle.database_rules.specs.Transactions.{Transaction, writes_of, declared_of, is_read_only, with_version}
+use Rattle.edge_map.specs.Edges.{Edges}
+use Rattle.conflict_ranges.specs.Writes.{newest_at}
 use Rattle.fdb_calls.specs.Calling.{Called}
 use Rattle.version_store.specs.Versions.{Versions, last_of}
 use Rattle.version_store.specs.Versions as versions
@@ -16,13 +19,27 @@ pub record Kept : Type 0 where
   pub life : ℕ
   pub version : Option ℕ
   pub mutations : List Mutation
+  -- of each mutation whether it declares the keys that it writes
+  pub declares : List Bool
   pub read_ranges : List KeyRange
+  pub write_ranges : List KeyRange
   pub size : ℕ
+  pub is_silenced : Bool
   pub phase : Phase
 
--- it had no mutation in this life
+-- it has no mutation of this life, and was told to declare no key
 abbrev pub is_bare : Kept → Bool
-is_bare kept = nat_lt (length kept.mutations) 1
+is_bare kept = nat_lt (length kept.mutations) 1 && nat_lt (length kept.write_ranges) 1
+
+-- the keys that those of the mutations write which declare them
+abbrev pub declared_among : List Mutation → List Bool → List KeyRange
+declared_among (mutation ∷ mutations) (true ∷ declares) = write_range mutation ∷ declared_among mutations declares
+declared_among (mutation ∷ mutations) (false ∷ declares) = declared_among mutations declares
+declared_among mutations declares = []
+
+-- the keys that its commit declares to write, where this is the commit's versionstamp
+abbrev pub declared_in : (stamp : List ℕ) → Kept → List KeyRange
+declared_in stamp kept = declared_among (all_filled stamp kept.mutations) kept.declares ++ kept.write_ranges
 
 -- Two lists of mutations agree: the same keys are unreadable under both, and each key has the same state under both,
 -- those with a versionstamp left out, and with any one versionstamp filled in.
@@ -32,30 +49,34 @@ pub record SameMutations (kept mutations : List Mutation) : Type 0 where
   pub filled_same : (stamp key : List ℕ) → length stamp ≡ 10
       → state_under (all_filled stamp kept) key ≡ state_under (all_filled stamp mutations) key
 
--- A transaction of the code stands for each one that its mutations and its fields agree with: the mutations agree, it had a
--- mutation in this life exactly where the other had one, and its other fields are the same; ranges are read by which
--- keys they have. What the other's reads were answered is not compared.
+-- A transaction of the code stands for each one that its mutations and its fields agree with: the mutations agree, its commit
+-- is read-only exactly where the other's is, they declare the same keys with any one versionstamp filled in, and its other
+-- fields are the same; ranges are read by which keys they have. What the other's reads were answered is not compared.
 pub record StandsFor (kept : Kept) (transaction : Transaction) : Type 0 where
   pub mutations : SameMutations kept.mutations (writes_of transaction)
   pub writes : is_bare kept ≡ is_read_only transaction
+  pub declared : (stamp key : List ℕ) → length stamp ≡ 10
+      → covers (declared_in stamp kept) key ≡ covers (declared_of stamp transaction) key
   pub life : kept.life ≡ transaction.life
   pub version : kept.version ≡ transaction.version
   pub reads : (key : List ℕ) → covers kept.read_ranges key ≡ covers transaction.read_ranges key
   pub size : kept.size ≡ transaction.size
+  pub silenced : kept.is_silenced ≡ transaction.is_silenced
   pub phase : kept.phase ≡ transaction.phase
 
--- a store has the map of a history at each of its versions
-pub record Keeps (store : Versions) (setting : Setting) : Type 0 where
+-- a store has the map of a history at each of its versions, and an index has for each key the newest commit that declared it
+pub record Keeps (store : Versions) (index : Edges ℕ) (setting : Setting) : Type 0 where
   pub last_is : last_of store ≡ last setting.history
   pub at_is : (version : ℕ) → version ≤ last setting.history → versions.at store version ≡ at setting.history version
+  pub newest_is : (key : List ℕ) → newest_at index key ≡ newest_of setting.history key
 
 -- a transaction still stands as it did, or as it did but for its version, which was taken
 abbrev pub StandsStill : (Transaction → Type 0) → Setting → Transaction → Type 0
 StandsStill stands setting transaction = stands transaction ⊎ stands (with_version setting transaction)
 
--- a call was answered as is said, and the transaction and the store stand for what it left
-pub record Answers (answer : Answer) (kept : Kept) (store : Versions) (setting : Setting) (called : Called) : Type 0 where
+-- a call was answered as is said, and the transaction, the store and the index stand for what it left
+pub record Answers (answer : Answer) (kept : Kept) (store : Versions) (index : Edges ℕ) (setting : Setting) (called : Called) : Type 0 where
   pub reply : answer.reply ≡ called.reply
   pub lives : (if answer.drew_life then 1 else 0) ≡ called.lives
   pub stands : StandsFor kept called.transaction
-  pub keeps : Keeps store (grown_by setting called.commits)
+  pub keeps : Keeps store index (grown_by setting called.commits)

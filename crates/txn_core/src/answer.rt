@@ -1,9 +1,9 @@
 //! What a call was answered.
 
-ghost use Rattle.std.specs.Prelude.{◌≡◌, true, false, Err, IfOk, OnErr};
+ghost use Rattle.std.specs.Prelude.{◌≡◌, pos, true, false, Err, IfOk, OnErr};
 ghost use Rattle.fdb_calls.specs.declared.fault.TrFault.TheVariants as fault;
 ghost use Rattle.fdb_calls.specs.declared.Reply.TheVariants as reply;
-ghost use Rattle.txn_core.specs.Answering.{IsToldBy, Tells};
+ghost use Rattle.txn_core.specs.Answering.{IsToldBy, MayLack, Tells, TellsOf};
 
 use database_rules::Code;
 use fdb_calls::{Reply, TrFault};
@@ -95,6 +95,38 @@ impl Answer {
         match read {
             Ok(pairs) => Ok(Answer::new(Reply::PairsAre(pairs))),
             Err(fault) => Answer::of_fault(fault),
+        }
+    }
+
+    // What a call for a version was answered. A version of 64 bits, which no memory can reach, is want of memory.
+    pub(crate) fn of_version(taken: Result<u64, TrFault>) -> Result<Answer, AllocError>
+        ensures ok { IfOk result (Tells (λ version. reply.Version (pos version)) taken) }
+        ensures err { OnErr result (MayLack taken) }
+    {
+        match taken {
+            Ok(version) => match i64::try_from(version) {
+                Ok(version) => Ok(Answer::version(version)),
+                Err(_) => Err(AllocError),
+            },
+            Err(fault) => Answer::of_fault(fault),
+        }
+    }
+
+    // A version, or -1.
+    pub(crate) fn version(version: i64) -> Answer
+        ensures reply { result.reply ≡ reply.Version version }
+        ensures life { result.drew_life ≡ false }
+    {
+        Answer::new(Reply::Version(version))
+    }
+
+    // What a call for a versionstamp was answered. It takes no memory.
+    pub(crate) fn of_promise(promise: Result<u64, Code>) -> Answer
+        ensures { TellsOf promise result }
+    {
+        match promise {
+            Ok(life) => Answer::new(Reply::Life(life)),
+            Err(code) => Answer::refused(code),
         }
     }
 

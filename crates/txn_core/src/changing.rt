@@ -8,7 +8,7 @@ ghost use Rattle.std.specs.Prelude.{◌≡◌, true, false, [], ◌∷◌, ◌++
 ghost use Rattle.std.specs.List.{All};
 ghost use Rattle.database_rules.specs.Databases.{do_all};
 ghost use Rattle.database_rules.specs.KeyByKey.{is_modified_by};
-ghost use Rattle.database_rules.specs.States.{Decided, covers, state_under, unreadable};
+ghost use Rattle.database_rules.specs.States.{Decided, all_filled, covers, state_under, unreadable};
 ghost use Rattle.ryw_view.specs.Segments.{IsSegment};
 ghost use Rattle.ryw_view.specs.Views.{stored_of};
 ghost use Rattle.version_store.specs.Changed.{changed, is_above};
@@ -20,7 +20,7 @@ use key_bytes::{Bytes, Key};
 use ryw_view::{View, applied};
 use std::alloc::AllocError;
 use version_store::{Change, Changes, Store};
-use write_map::KeyState;
+use write_map::{KeyState, WriteMap};
 
 // Adds a change of a key above those of all others.
 fn push(changes: &mut Changes, key: &Key, value: Option<Bytes>) -> Result<(), AllocError>
@@ -97,17 +97,32 @@ fn changes_from(view: &View<'_>, least: &Key) -> Result<Changes, AllocError>
 }
 
 impl Txn {
-    // What leads from the map at the last version to that map after the writes. It names only keys that a write touches.
-    pub(crate) fn changes(&self, store: &Store) -> Result<Changes, AllocError>
-        ensures only { IfOk result (λ changes. All (λ change. is_modified_by self.now.mutations change.0 ≡ true) changes) }
+    // What leads from the map at the last version to that map after the writes, where this is the commit's versionstamp. It
+    // names only keys that a write touches.
+    pub(crate) fn changes(&self, store: &Store, stamp: &[u8; 10]) -> Result<Changes, AllocError>
+        ensures only { IfOk result (λ changes. All (λ change. is_modified_by (all_filled stamp.now self.now.mutations) change.0 ≡ true) changes) }
         ensures leads { IfOk result (λ changes. changed changes (at store.now (last_of store.now))
-            ≡ do_all self.now.mutations (at store.now (last_of store.now))) }
+            ≡ do_all (all_filled stamp.now self.now.mutations) (at store.now (last_of store.now))) }
     {
-        let view = View {
-            edits: &self.edits,
-            store,
-            version: store.last(),
-        };
-        changes_from(&view, &Bytes::new(self.allocator()))
+        if self.edits.has_stamps() {
+            changes_at_last(&self.edits.filled(stamp)?, store)
+        } else {
+            changes_at_last(&self.edits, store)
+        }
     }
+}
+
+// What leads from the map at the last version to that map after mutations without a versionstamp.
+fn changes_at_last(edits: &WriteMap, store: &Store) -> Result<Changes, AllocError>
+    requires readable { unreadable edits.now.mutations ≡ [] }
+    ensures only { IfOk result (λ changes. All (λ change. is_modified_by edits.now.mutations change.0 ≡ true) changes) }
+    ensures leads { IfOk result (λ changes. changed changes (at store.now (last_of store.now))
+        ≡ do_all edits.now.mutations (at store.now (last_of store.now))) }
+{
+    let view = View {
+        edits,
+        store,
+        version: store.last(),
+    };
+    changes_from(&view, &Bytes::new(edits.allocator()))
 }

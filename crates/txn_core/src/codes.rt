@@ -1,19 +1,24 @@
-//! The code of the first check of a call that fails. None of these takes memory.
+//! The code of the first check of a call that fails.
 
-ghost use Rattle.std.specs.Prelude.{◌≡◌, ◌<◌, [], ◌∷◌, option_map, IfOk, IfErr, OnOk};
+ghost use Rattle.std.specs.Prelude.{◌≡◌, true, [], ◌∷◌, option_map, replicate, IfOk};
+ghost use Rattle.database_rules.specs.declared.AtomicOp.TheVariants as atomic;
+ghost use Rattle.database_rules.specs.States.{has_room, stamped};
 ghost use Rattle.database_rules.specs.Transactions as rules;
 ghost use Rattle.database_rules.specs.Transactions.{number_of};
 ghost use Rattle.database_rules.specs.declared.TheConstants as constants;
 
+use atomic_ops::{StampFault, has_room, resolve_stamp};
 use database_rules::{
-    AtomicOp, Code, EXACT_MODE_WITHOUT_LIMITS, INVALID_MUTATION_TYPE, INVERTED_RANGE, KEY_LIMIT,
-    KEY_OUTSIDE_LEGAL_RANGE, KEY_TOO_LARGE, Phase, SIZE_LIMIT, TRANSACTION_CANCELLED,
-    TRANSACTION_TOO_LARGE, USED_DURING_COMMIT, VALUE_LIMIT, VALUE_TOO_LARGE,
+    AtomicOp, CLIENT_INVALID_OPERATION, Code, EXACT_MODE_WITHOUT_LIMITS, INVERTED_RANGE, KEY_LIMIT,
+    KEY_OUTSIDE_LEGAL_RANGE, KEY_TOO_LARGE, Phase, READ_VERSION_ALREADY_SET, SIZE_LIMIT,
+    TRANSACTION_CANCELLED, TRANSACTION_TOO_LARGE, USED_DURING_COMMIT, VALUE_LIMIT, VALUE_TOO_LARGE,
+    VERSION_INVALID,
 };
-use key_bytes::{KeyRange, is_below};
+use key_bytes::{Bytes, KeyRange, is_below};
+use std::alloc::{AllocError, Global};
 
 // The code of a call on a life that takes no further call.
-fn phase_code(phase: Phase) -> Option<Code>
+pub(crate) fn phase_code(phase: Phase) -> Option<Code>
     ensures { option_map number_of result ≡ rules.first_failing (rules.after_phase phase []) }
 {
     match phase {
@@ -88,10 +93,10 @@ pub(crate) fn clear_code(phase: Phase, key: &[u8]) -> Option<Code>
     }
 }
 
-// The code of the first check of a clear of a range that fails.
-#[tactic(auto, unfolding(database_rules::specs::Transactions::clear_range_code))]
-pub(crate) fn clear_range_code(phase: Phase, range: &KeyRange) -> Option<Code>
-    ensures { option_map number_of result ≡ rules.clear_range_code phase range.now.begin range.now.end }
+// The code of the first check of a call with a range that fails.
+#[tactic(auto, unfolding(database_rules::specs::Transactions::range_code))]
+pub(crate) fn range_code(phase: Phase, range: &KeyRange) -> Option<Code>
+    ensures { option_map number_of result ≡ rules.range_code phase range.now.begin range.now.end }
 {
     if let Some(code) = phase_code(phase) {
         Some(code)
@@ -104,37 +109,75 @@ pub(crate) fn clear_range_code(phase: Phase, range: &KeyRange) -> Option<Code>
     }
 }
 
-// The atomic operation of a name, if there is one; those with a versionstamp have no name yet.
-fn operation_named(name: &[u8]) -> Option<AtomicOp>
-    ensures { result ≡ rules.operation_named name.now }
+// The key that the checks of an atomic operation ask: of a stamped key that has room for the versionstamp, its template with
+// ten 00.
+fn key_asked(alloc: Global, op: AtomicOp, key: &[u8]) -> Result<Bytes, AllocError>
+    requires { op ≡ atomic.SetVersionstampedKey → has_room key.now ≡ true }
+    ensures { IfOk result (λ asked. asked ≡ rules.key_asked op key.now) }
 {
-    let op = atomic_ops::from_name(name)?;
-    if op.is_versionstamped() {
-        None
-    } else {
-        Some(op)
+    match op {
+        AtomicOp::SetVersionstampedKey => template_of(alloc, key),
+        _ => Bytes::from_slice(alloc, key),
     }
 }
 
-// The atomic operation of this name, or the code of the first check of it that fails.
-#[tactic(auto, unfolding(database_rules::specs::Transactions::atomic_code))]
-pub(crate) fn atomic_op(
+// The template of stamped bytes with ten 00.
+fn template_of(alloc: Global, bytes: &[u8]) -> Result<Bytes, AllocError>
+    requires { has_room bytes.now ≡ true }
+    ensures { IfOk result (λ template. template ≡ stamped (replicate 10 0) bytes.now) }
+{
+    match resolve_stamp(alloc, bytes, &[0; 10]) {
+        Ok(template) => Ok(template),
+        Err(StampFault::NoRoom) => unreachable!(),
+        Err(StampFault::NoMemory) => Err(AllocError),
+    }
+}
+
+// Whether stamped bytes have no room for the versionstamp.
+fn lacks_room(op: AtomicOp, key: &[u8], operand: &[u8]) -> bool
+    ensures { result ≡ rules.lacks_room op key.now operand.now }
+{
+    match op {
+        AtomicOp::SetVersionstampedKey => !has_room(key),
+        AtomicOp::SetVersionstampedValue => !has_room(operand),
+        _ => false,
+    }
+}
+
+// The code of the first check of an atomic operation that fails.
+#[tactic(auto, unfolding(database_rules::specs::Transactions::op_code))]
+pub(crate) fn op_code(
+    alloc: Global,
     phase: Phase,
-    name: &[u8],
+    op: AtomicOp,
     key: &[u8],
     operand: &[u8],
-) -> Result<AtomicOp, Code>
-    ensures op { IfOk result (λ op. rules.operation_named name.now ≡ Some op) }
-    ensures ok { OnOk result (rules.atomic_code phase name.now key.now operand.now ≡ None) }
-    ensures err { IfErr result (λ code. rules.atomic_code phase name.now key.now operand.now ≡ Some code.0) }
+) -> Result<Option<Code>, AllocError>
+    ensures code { IfOk result (λ code. option_map number_of code ≡ rules.op_code phase op key.now operand.now) }
 {
     if let Some(code) = phase_code(phase) {
-        return Err(code);
+        return Ok(Some(code));
     }
-    let op = operation_named(name).ok_or(Code(INVALID_MUTATION_TYPE))?;
-    match key_code(key, operand) {
-        Some(code) => Err(code),
-        None => Ok(op),
+    if lacks_room(op, key, operand) {
+        return Ok(Some(Code(CLIENT_INVALID_OPERATION)));
+    }
+    let asked = key_asked(alloc, op, key)?;
+    Ok(key_code(asked.as_slice(), operand))
+}
+
+// The code of the first check of setting the read version that fails.
+#[tactic(auto, unfolding(database_rules::specs::Transactions::set_version_code))]
+pub(crate) fn set_version_code(phase: Phase, taken: Option<u64>, version: i64) -> Option<Code>
+    ensures { option_map number_of result ≡ rules.set_version_code phase taken version }
+{
+    if let Some(code) = phase_code(phase) {
+        Some(code)
+    } else if taken.is_some() {
+        Some(Code(READ_VERSION_ALREADY_SET))
+    } else if version <= 0 {
+        Some(Code(VERSION_INVALID))
+    } else {
+        None
     }
 }
 

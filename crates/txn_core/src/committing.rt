@@ -1,45 +1,87 @@
 //! Commits.
 
-ghost use Rattle.std.specs.Prelude.{◌≡◌, ◌+◌, ◌∷◌, ◌^◌, ◌<◌, [], Ok, Err, IfOk, OnOk, OnErr};
+ghost use Rattle.std.specs.Prelude.{◌≡◌, ◌+◌, ◌∷◌, ◌^◌, ◌<◌, ℕ, [], Ok, Err, nat_lt, option_map, IfOk, OnOk, OnErr};
 ghost use Rattle.database_rules.specs.declared.Phase.TheVariants as phase;
 ghost use Rattle.database_rules.specs.declared.Tried.TheVariants as tried;
-ghost use Rattle.database_rules.specs.Histories.{Setting, grown_by, last};
+ghost use Rattle.database_rules.specs.Histories.{Setting, conflicts, grown_by, stamp_of};
 ghost use Rattle.database_rules.specs.Transactions as rules;
+ghost use Rattle.edge_map.specs.Edges.{Edges};
 ghost use Rattle.fdb_calls.specs.declared.fault.TrFault.TheVariants as fault;
-ghost use Rattle.fdb_calls.specs.Calling.{commit_of, commit_refused, commit_called};
+ghost use Rattle.fdb_calls.specs.Calling.{commit_of, commit_refused, commit_called, next_version};
 ghost use Rattle.version_store.specs.Versions.{Versions, last_of};
-ghost use Rattle.txn_core.specs.Judging.{Judged};
-ghost use Rattle.txn_core.specs.Stands.{Answers, Keeps, StandsFor, StandsStill};
+ghost use Rattle.txn_core.specs.Judging.{Judged, IsLow, conflict_refusal};
+ghost use Rattle.txn_core.specs.Stands.{Answers, Keeps, StandsFor, StandsStill, is_bare};
 
 use crate::answer::Answer;
 use crate::codes::commit_code;
+use crate::declaring::stamp_of;
 use crate::txn::Txn;
 use crate::verdict::Verdict;
-use database_rules::{Code, Phase, Tried};
+use conflict_ranges::WriteIndex;
+use database_rules::{Code, FUTURE_VERSION, NOT_COMMITTED, Phase, Tried};
 use fdb_calls::TrFault;
 use std::alloc::AllocError;
 use version_store::Store;
 
 impl Txn {
-    // The checks of a commit, and whether there is anything to write. A transaction that commits takes its version. It
+    // Whether its commit makes no version: it has no mutation, and was told to declare no key. It takes no memory.
+    fn is_read_only(&self) -> bool
+        ensures { result ≡ is_bare self.now }
+    {
+        self.edits.is_empty() && self.write_ranges.is_empty()
+    }
+
+    // Whether a commit after a version declared a key that the transaction rests on. It takes no memory.
+    fn has_conflict(&self, index: &WriteIndex, version: u64) -> bool
+        ensures { (store : Versions) (setting : Setting) → Keeps store index.now setting
+            → result ≡ conflicts setting.history version self.now.read_ranges }
+    {
+        for (begin, end) in self.read_ranges.ranges() {
+            if version < index.newest_between(begin, end) {
+                return true;
+            }
+        }
+        false
+    }
+
+    // The code of the first check of a commit at its version that fails. It takes no memory.
+    fn conflict_code(&self, store: &Store, index: &WriteIndex) -> Option<Code>
+        ensures { (setting : Setting) (t : rules.Transaction) → StandsFor self.now t → Keeps store.now index.now setting
+            → option_map rules.number_of result ≡ conflict_refusal setting t }
+    {
+        if self.is_ahead(store) {
+            Some(Code(FUTURE_VERSION))
+        } else if self.has_conflict(index, self.version_over(store)) {
+            Some(Code(NOT_COMMITTED))
+        } else {
+            None
+        }
+    }
+
+    // The checks of a commit, and whether there is anything to write. A transaction that goes on to its version takes it. It
     // takes no memory.
-    pub(crate) fn judge(&mut self, store: &Store) -> Result<Verdict, TrFault>
-        ensures verdict { (setting : Setting) (t : rules.Transaction) → StandsFor self.old t → Keeps store.now setting
+    pub(crate) fn judge(&mut self, store: &Store, index: &WriteIndex) -> Result<Verdict, TrFault>
+        ensures verdict { (setting : Setting) (t : rules.Transaction) → StandsFor self.old t → Keeps store.now index.now setting
             → Judged result (StandsFor self.new) setting t }
         ensures active { OnOk result (self.new.phase ≡ phase.Active) }
     {
-        if let Some(code) = commit_code(self.phase, self.edits.is_empty(), self.size) {
+        if let Some(code) = commit_code(self.phase, self.is_read_only(), self.size) {
             return Err(TrFault::Code(code));
         }
-        if self.edits.is_empty() {
+        if self.is_read_only() {
             return Ok(Verdict::ReadOnly);
         }
-        self.version = Some(self.read_version(store));
+        let code = self.conflict_code(store, index);
+        self.version = Some(self.version_over(store));
+        if let Some(code) = code {
+            return Err(TrFault::Code(code));
+        }
         Ok(Verdict::Commits)
     }
 
     // Notes what became of a commit. It takes no memory.
     pub(crate) fn tried(&mut self, tried: Tried)
+        requires { IsLow tried }
         ensures { (t : rules.Transaction) → StandsFor self.old t → StandsFor self.new (rules.with_phase t (phase.Tried tried)) }
     {
         self.phase = Phase::Tried(tried);
@@ -54,30 +96,39 @@ impl Txn {
         }
     }
 
-    // Makes the next version of the writes. After want of memory the transaction stands as before, and the store keeps what
-    // it kept.
-    fn make_version(&mut self, store: &mut Store) -> Result<(), AllocError>
-        requires { last_of store.old < 2 ^ 63 }
-        ensures ok { OnOk result ((setting : Setting) (t : rules.Transaction) → StandsFor self.old t → Keeps store.old setting
-            → StandsFor self.new (rules.with_phase t (phase.Tried (tried.Version (last setting.history + 1))))
-            × Keeps store.new (grown_by setting (commit_of t ∷ []))) }
-        ensures err { OnErr result ((setting : Setting) (t : rules.Transaction) → StandsFor self.old t → Keeps store.old setting
-            → StandsFor self.new t × Keeps store.new setting) }
+    // Makes the next version of the writes. After want of memory the transaction stands as before, and the store and the index
+    // keep what they kept.
+    fn make_version(&mut self, store: &mut Store, index: &mut WriteIndex) -> Result<(), AllocError>
+        requires { last_of store.old + 1 < 2 ^ 63 }
+        ensures ok { OnOk result ((setting : Setting) (t : rules.Transaction) → StandsFor self.old t → Keeps store.old index.old setting
+            → StandsFor self.new (rules.with_phase t (phase.Tried (tried.Version (next_version setting))))
+            × Keeps store.new index.new (grown_by setting (commit_of (stamp_of (next_version setting)) setting t ∷ []))) }
+        ensures err { OnErr result ((setting : Setting) (t : rules.Transaction) → StandsFor self.old t → Keeps store.old index.old setting
+            → StandsFor self.new t × Keeps store.new index.new setting) }
     {
-        let changes = self.changes(store)?;
+        let stamp = stamp_of(store.last() + 1);
+        let changes = self.changes(store, &stamp)?;
+        let declared = self.declared_by(&stamp)?;
         store.reserve(&changes)?;
+        index.reserve(&declared)?;
         store.install(changes);
+        index.install(declared, store.last());
         self.tried(Tried::Version(store.last()));
         Ok(())
     }
 
     // A commit that no check refuses: where there is something to write, it makes the next version.
-    fn commit_judged(&mut self, store: &mut Store, verdict: Verdict) -> Result<Answer, AllocError>
-        requires { last_of store.old < 2 ^ 63 }
+    fn commit_judged(
+        &mut self,
+        store: &mut Store,
+        index: &mut WriteIndex,
+        verdict: Verdict,
+    ) -> Result<Answer, AllocError>
+        requires { last_of store.old + 1 < 2 ^ 63 }
         ensures ok { IfOk result (λ answer. (t : rules.Transaction) (setting : Setting) → Judged (Ok verdict) (StandsFor self.old) setting t
-            → Keeps store.old setting → Answers answer self.new store.new setting (commit_called setting t)) }
+            → Keeps store.old index.old setting → Answers answer self.new store.new index.new setting (commit_called setting t)) }
         ensures err { OnErr result ((t : rules.Transaction) (setting : Setting) → Judged (Ok verdict) (StandsFor self.old) setting t
-            → Keeps store.old setting → StandsStill (StandsFor self.new) setting t × Keeps store.new setting) }
+            → Keeps store.old index.old setting → StandsStill (StandsFor self.new) setting t × Keeps store.new index.new setting) }
     {
         match verdict {
             Verdict::ReadOnly => {
@@ -85,7 +136,7 @@ impl Txn {
                 Ok(Answer::done())
             }
             Verdict::Commits => {
-                self.make_version(store)?;
+                self.make_version(store, index)?;
                 Ok(Answer::done())
             }
         }
@@ -93,24 +144,30 @@ impl Txn {
 
     // A commit that a check refuses. It takes no memory.
     fn answer_refusal(&mut self, code: Code) -> Answer
-        ensures { (t : rules.Transaction) (store : Versions) (setting : Setting) → Judged (Err (fault.Code code)) (StandsFor self.old) setting t
-            → Keeps store setting → Answers result self.new store setting (commit_called setting t) }
+        ensures { (t : rules.Transaction) (store : Versions) (index : Edges ℕ) (setting : Setting)
+            → Judged (Err (fault.Code code)) (StandsFor self.old) setting t
+            → Keeps store index setting → Answers result self.new store index setting (commit_called setting t) }
     {
         self.refuse(code);
         Answer::refused(code)
     }
 
-    // A commit: what the transaction wrote makes the next version, where it wrote anything. After want of memory it
-    // stands as before but that its version may be taken, and the store keeps what it kept.
-    pub(crate) fn commit(&mut self, store: &mut Store) -> Result<Answer, AllocError>
-        requires { last_of store.old < 2 ^ 63 }
-        ensures ok { IfOk result (λ answer. (t : rules.Transaction) (setting : Setting) → StandsFor self.old t → Keeps store.old setting
-            → Answers answer self.new store.new setting (commit_called setting t)) }
-        ensures err { OnErr result ((t : rules.Transaction) (setting : Setting) → StandsFor self.old t → Keeps store.old setting
-            → StandsStill (StandsFor self.new) setting t × Keeps store.new setting) }
+    // A commit: what the transaction wrote makes the next version, where it wrote anything, or was told to declare anything.
+    // After want of memory it stands as before but that its version may be taken, and the store and the index keep what they
+    // kept.
+    pub(crate) fn commit(
+        &mut self,
+        store: &mut Store,
+        index: &mut WriteIndex,
+    ) -> Result<Answer, AllocError>
+        requires { last_of store.old + 1 < 2 ^ 63 }
+        ensures ok { IfOk result (λ answer. (t : rules.Transaction) (setting : Setting) → StandsFor self.old t → Keeps store.old index.old setting
+            → Answers answer self.new store.new index.new setting (commit_called setting t)) }
+        ensures err { OnErr result ((t : rules.Transaction) (setting : Setting) → StandsFor self.old t → Keeps store.old index.old setting
+            → StandsStill (StandsFor self.new) setting t × Keeps store.new index.new setting) }
     {
-        match self.judge(store) {
-            Ok(verdict) => self.commit_judged(store, verdict),
+        match self.judge(store, index) {
+            Ok(verdict) => self.commit_judged(store, index, verdict),
             Err(TrFault::Code(code)) => Ok(self.answer_refusal(code)),
             Err(TrFault::NoMemory) => Err(AllocError),
         }

@@ -1,20 +1,22 @@
 //! Reads: each is refused by its code, or answered from what the transaction sees at its version.
 
-ghost use Rattle.std.specs.Prelude.{◌≡◌, Bool, false, [], min, IfOk};
+ghost use Rattle.std.specs.Prelude.{◌≡◌, ℕ, false, min, IfOk};
 ghost use Rattle.std.specs.FinMap as finite;
-ghost use Rattle.database_rules.specs.States.{seen, unreadable};
+ghost use Rattle.database_rules.specs.States.{seen};
 ghost use Rattle.database_rules.specs.Histories.{Setting};
 ghost use Rattle.database_rules.specs.Modes.{lacks_limit};
 ghost use Rattle.database_rules.specs.Reads as read;
 ghost use Rattle.database_rules.specs.Selecting.{select};
 ghost use Rattle.database_rules.specs.Slices.{slice};
 ghost use Rattle.version_store.specs.Versions.{at, last_of};
-ghost use Rattle.txn_core.specs.Accesses.{Reads, seen_by, version_of};
+ghost use Rattle.txn_core.specs.Accesses.{Admits, Reads, seen_by, version_of};
+ghost use Rattle.edge_map.specs.Edges.{Edges};
 ghost use Rattle.txn_core.specs.Stands.{Keeps};
 
 use crate::codes::{is_end_outside, read_code};
+use crate::intervals::{selector_interval, slice_interval};
 use crate::txn::Txn;
-use database_rules::{Code, Mode, Selector};
+use database_rules::{Code, FUTURE_VERSION, Mode, Selector};
 use fdb_calls::TrFault;
 use key_bytes::{Bytes, Key, KeyRange, Pairs, is_below};
 use range_read::{RangeFault, all, lacks_limit, resolve};
@@ -44,7 +46,7 @@ impl Manner {
 
 impl Txn {
     // The version of its reads: the one that was taken, or else the last one.
-    pub(crate) fn read_version(&self, store: &Store) -> u64
+    pub(crate) fn version_over(&self, store: &Store) -> u64
         ensures { result ≡ version_of self.now store.now }
     {
         self.version.unwrap_or(store.last())
@@ -53,9 +55,9 @@ impl Txn {
     // What it sees of a store.
     fn view<'a>(&'a self, store: &'a Store) -> View<'a>
         ensures shows { seen result.edits.now.mutations (at result.store.now result.version) ≡ seen_by self.now store.now }
-        ensures readable { unreadable result.edits.now.mutations ≡ [] }
+        ensures mutations { result.edits.now.mutations ≡ self.now.mutations }
     {
-        let version = self.read_version(store).min(store.last());
+        let version = self.version_over(store).min(store.last());
         View {
             edits: &self.edits,
             store,
@@ -63,14 +65,13 @@ impl Txn {
         }
     }
 
-    // The value of a key that it sees.
+    // The value of a key that it sees; an unreadable key has none.
     fn value(&self, store: &Store, key: &Key) -> Result<Option<Bytes>, AllocError>
         ensures { IfOk result (λ value. value ≡ finite.get (seen_by self.now store.now) key.now) }
     {
         match self.view(store).get(key) {
             Ok(value) => Ok(value),
-            // No mutation makes a key unreadable yet.
-            Err(ViewFault::Unreadable) => unreachable!(),
+            Err(ViewFault::Unreadable) => Ok(None),
             Err(ViewFault::NoMemory) => Err(AllocError),
         }
     }
@@ -100,50 +101,56 @@ impl Txn {
     {
         resolve(self.allocator(), &self.view(store), selector)
     }
-
-    // The pairs between the keys that two selectors mean.
-    fn pairs_between(
-        &self,
-        store: &Store,
-        begin: &Selector,
-        end: &Selector,
-        manner: Manner,
-    ) -> Result<Pairs, AllocError>
-        requires { lacks_limit manner.mode manner.limit ≡ false }
-        ensures { IfOk result (λ pairs. pairs ≡ slice (seen_by self.now store.now) (select (seen_by self.now store.now) begin.now)
-            (select (seen_by self.now store.now) end.now) manner.limit manner.reverse) }
-    {
-        let begin = self.key(store, begin)?;
-        let end = self.key(store, end)?;
-        self.pairs(store, &KeyRange { begin, end }, manner)
-    }
 }
 
 // Each read takes the version, unless a check refuses it before that, or memory runs out: then it changes nothing.
 impl Txn {
-    // The value of a key (`fdb_transaction_get`).
-    pub(crate) fn get(&mut self, store: &Store, key: &Key) -> Result<Option<Bytes>, TrFault>
-        ensures { (setting : Setting) (snapshot : Bool) → Keeps store.now setting
-            → Reads read.ValueIs result self.old self.new setting false snapshot (read.Get key.now) }
+    // Whether a read is refused before it is answered: by an earlier check, or since its version is above the last one, which
+    // it takes.
+    fn admit(&mut self, store: &Store, is_outside: bool, lacks_limit: bool) -> Result<(), TrFault>
+        ensures { Admits result self.old self.new store.now is_outside lacks_limit }
     {
-        if let Some(code) = read_code(self.phase, !is_below(key.as_slice(), &[0xff]), false) {
+        if let Some(code) = read_code(self.phase, is_outside, lacks_limit) {
             return Err(TrFault::Code(code));
         }
+        if self.is_ahead(store) {
+            self.version = Some(self.version_over(store));
+            return Err(TrFault::Code(Code(FUTURE_VERSION)));
+        }
+        Ok(())
+    }
+
+    // The value of a key (`fdb_transaction_get`).
+    pub(crate) fn get(
+        &mut self,
+        store: &Store,
+        key: &Key,
+        snapshot: bool,
+    ) -> Result<Option<Bytes>, TrFault>
+        ensures { (index : Edges ℕ) (setting : Setting) → Keeps store.now index setting
+            → Reads read.ValueIs result self.old self.new setting false snapshot (read.Get key.now) }
+    {
+        self.admit(store, !is_below(key.as_slice(), &[0xff]), false)?;
         let value = self.value(store, key)?;
-        self.version = Some(self.read_version(store));
+        let interval = KeyRange::single(self.allocator(), key)?;
+        self.rest_on(store, &[interval], snapshot)?;
         Ok(value)
     }
 
     // The key that a selector means (`fdb_transaction_get_key`).
-    pub(crate) fn get_key(&mut self, store: &Store, selector: &Selector) -> Result<Key, TrFault>
-        ensures { (setting : Setting) (snapshot : Bool) → Keeps store.now setting
+    pub(crate) fn get_key(
+        &mut self,
+        store: &Store,
+        selector: &Selector,
+        snapshot: bool,
+    ) -> Result<Key, TrFault>
+        ensures { (index : Edges ℕ) (setting : Setting) → Keeps store.now index setting
             → Reads read.KeyIs result self.old self.new setting false snapshot (read.GetKey selector.now) }
     {
-        if let Some(code) = read_code(self.phase, is_end_outside(selector.key.as_slice()), false) {
-            return Err(TrFault::Code(code));
-        }
+        self.admit(store, is_end_outside(selector.key.as_slice()), false)?;
         let key = self.key(store, selector)?;
-        self.version = Some(self.read_version(store));
+        let interval = selector_interval(self.allocator(), selector, &key)?;
+        self.rest_on(store, &[interval], snapshot)?;
         Ok(key)
     }
 
@@ -153,22 +160,18 @@ impl Txn {
         store: &Store,
         range: &KeyRange,
         manner: Manner,
+        snapshot: bool,
     ) -> Result<Pairs, TrFault>
-        ensures { (setting : Setting) (snapshot : Bool) → Keeps store.now setting
+        ensures { (index : Edges ℕ) (setting : Setting) → Keeps store.now index setting
             → Reads read.PairsAre result self.old self.new setting (lacks_limit manner.mode manner.limit) snapshot
             (read.GetKeyRange range.now.begin range.now.end manner.limit manner.reverse) }
     {
         let is_outside = is_end_outside(range.begin.as_slice())
             || is_end_outside(range.end.as_slice());
-        if let Some(code) = read_code(
-            self.phase,
-            is_outside,
-            lacks_limit(manner.mode, manner.limit),
-        ) {
-            return Err(TrFault::Code(code));
-        }
+        self.admit(store, is_outside, lacks_limit(manner.mode, manner.limit))?;
         let pairs = self.pairs(store, range, manner)?;
-        self.version = Some(self.read_version(store));
+        let interval = slice_interval(range, manner, &pairs)?;
+        self.rest_on(store, &[interval], snapshot)?;
         Ok(pairs)
     }
 
@@ -179,21 +182,26 @@ impl Txn {
         begin: &Selector,
         end: &Selector,
         manner: Manner,
+        snapshot: bool,
     ) -> Result<Pairs, TrFault>
-        ensures { (setting : Setting) (snapshot : Bool) → Keeps store.now setting
+        ensures { (index : Edges ℕ) (setting : Setting) → Keeps store.now index setting
             → Reads read.PairsAre result self.old self.new setting (lacks_limit manner.mode manner.limit) snapshot
             (read.GetRange begin.now end.now manner.limit manner.reverse) }
     {
         let is_outside = is_end_outside(begin.key.as_slice()) || is_end_outside(end.key.as_slice());
-        if let Some(code) = read_code(
-            self.phase,
-            is_outside,
-            lacks_limit(manner.mode, manner.limit),
-        ) {
-            return Err(TrFault::Code(code));
-        }
-        let pairs = self.pairs_between(store, begin, end, manner)?;
-        self.version = Some(self.read_version(store));
+        self.admit(store, is_outside, lacks_limit(manner.mode, manner.limit))?;
+        let alloc = self.allocator();
+        let range = KeyRange {
+            begin: self.key(store, begin)?,
+            end: self.key(store, end)?,
+        };
+        let pairs = self.pairs(store, &range, manner)?;
+        let interval = [
+            selector_interval(alloc, begin, &range.begin)?,
+            selector_interval(alloc, end, &range.end)?,
+            slice_interval(&range, manner, &pairs)?,
+        ];
+        self.rest_on(store, &interval, snapshot)?;
         Ok(pairs)
     }
 }

@@ -1,16 +1,13 @@
 //! A transaction.
 
-ghost use Rattle.std.specs.Prelude.{◌≡◌, ◌^◌, ◌<◌, IfOk, OnErr};
+ghost use Rattle.std.specs.Prelude.{◌≡◌, ℕ};
 ghost use Rattle.database_rules.specs.Histories.{Setting};
 ghost use Rattle.database_rules.specs.Transactions as rules;
-ghost use Rattle.fdb_calls.specs.Calling.{called, on_error_called, cancel_called, reset};
-ghost use Rattle.version_store.specs.Versions.{Versions, last_of};
+ghost use Rattle.edge_map.specs.Edges.{Edges};
 
-use crate::answer::Answer;
-use crate::reading::Manner;
-use database_rules::{Code, Phase};
-use fdb_calls::{Reply, TxnCall};
-use std::alloc::{AllocError, Global};
+use conflict_ranges::RangeSet;
+use database_rules::Phase;
+use std::alloc::Global;
 use std::marker::Model;
 use version_store::Store;
 use write_map::WriteMap;
@@ -21,13 +18,18 @@ pub struct Txn {
     pub(crate) life: u64,
     pub(crate) version: Option<u64>,
     pub(crate) edits: WriteMap,
+    // of each mutation whether it declares the keys that it writes
+    pub(crate) declares: Vec<bool>,
+    pub(crate) read_ranges: RangeSet,
+    pub(crate) write_ranges: RangeSet,
     pub(crate) size: u64,
+    pub(crate) is_silenced: bool,
     pub(crate) phase: Phase,
 }
 
 impl Model for Txn {
-    ghost use Rattle.std.specs.Prelude.{◌≡◌, ◌≤◌, []};
-    ghost use Rattle.database_rules.specs.States.{unreadable};
+    ghost use Rattle.std.specs.Prelude.{◌≡◌, ◌≤◌, length};
+    ghost use Rattle.txn_core.specs.Judging.{IsLowPhase};
     ghost use Rattle.txn_core.specs.Stands.{Kept};
 
     ghost Value = { Kept };
@@ -36,16 +38,19 @@ impl Model for Txn {
       life = t.life;
       version = t.version;
       mutations = t.edits.mutations;
-      read_ranges = [];
+      declares = t.declares.items;
+      read_ranges = t.read_ranges;
+      write_ranges = t.write_ranges;
       size = t.size;
+      is_silenced = t.is_silenced;
       phase = t.phase;
     } };
 
-    ghost invariant = { λ t. (t.size ≤ 10000001) × (unreadable t.edits.mutations ≡ []) };
+    ghost invariant = { λ t. (t.size ≤ 10000001) × (length t.declares.items ≡ length t.edits.mutations) × IsLowPhase t.phase };
 }
 
 impl Txn {
-    ghost use Rattle.txn_core.specs.Stands.{StandsFor, StandsStill, Keeps, Answers};
+    ghost use Rattle.txn_core.specs.Stands.{StandsFor, Keeps};
 
     /// A life of this number, before its first call. It takes no memory, and keeps the allocator.
     pub fn new(alloc: Global, life: u64) -> Txn
@@ -55,14 +60,18 @@ impl Txn {
             life,
             version: None,
             edits: WriteMap::new(alloc),
+            declares: Vec::new(alloc),
+            read_ranges: RangeSet::new(alloc),
+            write_ranges: RangeSet::new(alloc),
             size: 0,
+            is_silenced: false,
             phase: Phase::Active,
         }
     }
 
     /// A transaction of a new life at the last version of a store, for a call of its own. It takes no memory.
     pub fn at_last(alloc: Global, life: u64, store: &Store) -> Txn
-        ensures { (setting : Setting) → Keeps store.now setting
+        ensures { (index : Edges ℕ) (setting : Setting) → Keeps store.now index setting
             → StandsFor result (rules.with_version setting (rules.fresh life)) }
     {
         let version = Some(store.last());
@@ -77,84 +86,10 @@ impl Txn {
         self.edits.allocator()
     }
 
-    /// One call, over a store; `life` is the number of the life that a call draws which begins anew. A commit adds one
-    /// version to the store. It is refused for want of memory alone: then the transaction stands as before, but that its
-    /// version may be taken, and the store keeps the same history.
-    pub fn call(
-        &mut self,
-        store: &mut Store,
-        call: &TxnCall,
-        life: u64,
-    ) -> Result<Answer, AllocError>
-        requires { last_of store.old < 2 ^ 63 }
-        ensures ok { IfOk result (λ answer. (t : rules.Transaction) (setting : Setting) → StandsFor self.old t → Keeps store.old setting
-            → Answers answer self.new store.new setting (called setting life t call.now)) }
-        ensures err { OnErr result ((t : rules.Transaction) (setting : Setting) → StandsFor self.old t → Keeps store.old setting
-            → StandsStill (StandsFor self.new) setting t × Keeps store.new setting) }
+    /// The keys that it rests on, as ranges that are not empty, lie apart and rise. It takes no memory.
+    pub fn read_ranges(&self) -> &RangeSet
+        ensures { result.now ≡ self.now.read_ranges }
     {
-        match call {
-            TxnCall::Get { key, .. } => Answer::of_value(self.get(store, key)),
-            TxnCall::GetKey { selector, .. } => Answer::of_key(self.get_key(store, selector)),
-            TxnCall::GetRange {
-                begin,
-                end,
-                limit,
-                reverse,
-                mode,
-                ..
-            } => {
-                let manner = Manner::new(*limit, *reverse, *mode);
-                Answer::of_pairs(self.get_range(store, begin, end, manner))
-            }
-            TxnCall::GetKeyRange {
-                range,
-                limit,
-                reverse,
-                mode,
-                ..
-            } => {
-                let manner = Manner::new(*limit, *reverse, *mode);
-                Answer::of_pairs(self.get_key_range(store, range, manner))
-            }
-            TxnCall::Set { key, value } => {
-                Answer::of_write(self.set(key.as_slice(), value.as_slice()))
-            }
-            TxnCall::Clear { key } => Answer::of_write(self.clear(key.as_slice())),
-            TxnCall::ClearRange { range } => Answer::of_write(self.clear_range(range)),
-            TxnCall::Atomic { name, key, operand } => Answer::of_write(self.named_atomic(
-                name.as_slice(),
-                key.as_slice(),
-                operand.as_slice(),
-            )),
-            TxnCall::Commit => self.commit(store),
-            TxnCall::OnError { code } => Ok(self.answer_error(*code, life)),
-            TxnCall::Reset => Ok(self.answer_reset(life)),
-            TxnCall::Cancel => Ok(self.answer_cancel()),
-        }
-    }
-
-    fn answer_error(&mut self, code: Code, life: u64) -> Answer
-        ensures { (t : rules.Transaction) (store : Versions) (setting : Setting) → StandsFor self.old t → Keeps store setting
-            → Answers result self.new store setting (on_error_called life t code) }
-    {
-        match self.on_error(code, life) {
-            Ok(()) => Answer::begun_anew(),
-            Err(code) => Answer::refused(code),
-        }
-    }
-
-    fn answer_reset(&mut self, life: u64) -> Answer
-        ensures { (store : Versions) (setting : Setting) → Keeps store setting → Answers result self.new store setting (reset life) }
-    {
-        self.reset(life);
-        Answer::begun_anew()
-    }
-
-    fn answer_cancel(&mut self) -> Answer
-        ensures { (t : rules.Transaction) (store : Versions) (setting : Setting) → StandsFor self.old t → Keeps store setting
-            → Answers result self.new store setting (cancel_called t) }
-    {
-        self.cancel();
-        Answer::done()
+        &self.read_ranges
     }
 }

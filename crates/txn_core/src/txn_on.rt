@@ -1,18 +1,18 @@
 //! A transaction on a store, by its calls.
 
-ghost use Rattle.std.specs.Prelude.{◌≡◌, ℕ, false, not, List, IfOk, OnOk};
+ghost use Rattle.std.specs.Prelude.{◌≡◌, ℕ, pos, true, false, List, IfOk, OnOk};
 ghost use Rattle.std.specs.List.{All};
 ghost use Rattle.database_rules.specs.declared.Phase.TheVariants as phase;
-ghost use Rattle.database_rules.specs.Atomics.{is_versionstamped};
 ghost use Rattle.database_rules.specs.Databases.{do_all};
 ghost use Rattle.database_rules.specs.Histories.{Setting};
 ghost use Rattle.database_rules.specs.Modes.{lacks_limit};
 ghost use Rattle.database_rules.specs.Reads as read;
-ghost use Rattle.database_rules.specs.States.{state_under, is_unmodified};
-ghost use Rattle.database_rules.specs.Transactions.{Transaction, writes_of, with_phase};
+ghost use Rattle.database_rules.specs.States.{all_filled, covers, state_under, is_unmodified};
+ghost use Rattle.database_rules.specs.Transactions.{Transaction, declared_of, writes_of, with_phase};
 ghost use Rattle.fdb_calls.specs.declared.Reply.TheVariants as reply;
 ghost use Rattle.fdb_calls.specs.Answers.{Answered};
 ghost use Rattle.fdb_calls.specs.Calling.{read_called, set_called, clear_called, clear_range_called, atomic_called};
+ghost use Rattle.fdb_calls.specs.Calling.{read_conflict_called, write_conflict_called, no_write_conflict_called, read_version_called, set_read_version_called};
 ghost use Rattle.version_store.specs.Changed.{changed};
 ghost use Rattle.version_store.specs.Versions.{at, last_of};
 ghost use Rattle.txn_core.specs.Judging.{Judged, IsLow};
@@ -21,42 +21,55 @@ ghost use Rattle.txn_core.specs.Stands.{StandsFor, Keeps};
 use crate::reading::Manner;
 use crate::txn::Txn;
 use crate::verdict::Verdict;
+use conflict_ranges::{RangeSet, WriteIndex};
 use database_rules::{AtomicOp, Mode, Selector, Tried};
 use fdb_calls::{Tr, TrFault};
 use key_bytes::{Bytes, Key, KeyRange, Pairs};
 use std::alloc::AllocError;
 use version_store::{Changes, Store};
 
-/// A transaction on a store: its reads see the store's versions.
+/// A transaction on a store and the index of its writes: its reads see the store's versions, and its commit is judged by the
+/// index.
 #[derive(Drop)]
 pub struct TxnOn<'a> {
     pub txn: &'a mut Txn,
     pub store: &'a Store,
+    pub index: &'a WriteIndex,
 }
 
 impl TxnOn<'_> {
-    /// The checks of a commit, the first that fails by its code; then whether there is anything to write. A transaction
-    /// that commits takes its version. It takes no memory.
+    /// The checks of a commit, the first that fails by its code: 2101 where the mutations have too many bytes, 1009 where
+    /// the read version is above the last one, 1020 exactly where a commit after it declared a key that the transaction rests
+    /// on; then whether there is anything to write. A transaction that goes on to its version takes it. It takes no memory.
     pub fn judge(&mut self) -> Result<Verdict, TrFault>
-        ensures verdict { (setting : Setting) (t : Transaction) → StandsFor self.old.txn.now t → Keeps self.old.store.now setting
+        ensures verdict { (setting : Setting) (t : Transaction) → StandsFor self.old.txn.now t → Keeps self.old.store.now self.old.index.now setting
             → Judged result (StandsFor self.new.txn.now) setting t }
         ensures active { OnOk result (self.new.txn.now.phase ≡ phase.Active) }
         ensures same_txn { self.new.txn.ghost_name ≡ self.old.txn.ghost_name }
         ensures same_store { self.new.store ≡ self.old.store }
+        ensures same_index { self.new.index ≡ self.old.index }
     {
-        self.txn.judge(self.store)
+        self.txn.judge(self.store, self.index)
     }
 
-    /// What leads from the map at the store's last version to that map after the transaction's mutations. It names only
-    /// keys that a mutation touches. No mutation takes the commit's versionstamp yet.
-    pub fn changes(&self, _stamp: &[u8; 10]) -> Result<Changes, AllocError>
+    /// What leads from the map at the store's last version to that map after the transaction's mutations, where this is the
+    /// commit's versionstamp. It names only keys that a mutation touches.
+    pub fn changes(&self, stamp: &[u8; 10]) -> Result<Changes, AllocError>
         ensures leads { IfOk result (λ changes. (t : Transaction) → StandsFor self.now.txn.now t
             → changed changes (at self.now.store.now (last_of self.now.store.now))
-            ≡ do_all (writes_of t) (at self.now.store.now (last_of self.now.store.now))) }
+            ≡ do_all (all_filled stamp.now (writes_of t)) (at self.now.store.now (last_of self.now.store.now))) }
         ensures only { IfOk result (λ changes. (t : Transaction) → StandsFor self.now.txn.now t
-            → All (λ change. is_unmodified (state_under (writes_of t) change.0) ≡ false) changes) }
+            → All (λ change. is_unmodified (state_under (all_filled stamp.now (writes_of t)) change.0) ≡ false) changes) }
     {
-        self.txn.changes(self.store)
+        self.txn.changes(self.store, stamp)
+    }
+
+    /// The keys that the transaction's commit declares to write, where this is its versionstamp.
+    pub fn write_ranges(&self, stamp: &[u8; 10]) -> Result<RangeSet, AllocError>
+        ensures { IfOk result (λ ranges. (t : Transaction) (key : List ℕ) → StandsFor self.now.txn.now t
+            → covers ranges key ≡ covers (declared_of stamp.now t) key) }
+    {
+        self.txn.declared_by(stamp)
     }
 
     /// Notes what became of a commit. It takes no memory.
@@ -66,21 +79,23 @@ impl TxnOn<'_> {
         ensures tried { (t : Transaction) → StandsFor self.old.txn.now t → StandsFor self.new.txn.now (with_phase t (phase.Tried tried)) }
         ensures same_txn { self.new.txn.ghost_name ≡ self.old.txn.ghost_name }
         ensures same_store { self.new.store ≡ self.old.store }
+        ensures same_index { self.new.index ≡ self.old.index }
     {
         self.txn.tried(tried);
     }
 }
 
 impl TxnOn<'_> {
-    /// The key that `selector` means among those that the transaction sees (`fdb_transaction_get_key`). Whether by snapshot
-    /// changes no answer.
+    /// The key that `selector` means among those that the transaction sees (`fdb_transaction_get_key`). A read by snapshot has
+    /// the same answer, and adds nothing to the keys that the transaction rests on.
     pub fn get_key(&mut self, selector: &Selector, snapshot: bool) -> Result<Key, TrFault>
-        ensures answer { (setting : Setting) (t : Transaction) → StandsFor self.old.txn.now t → Keeps self.old.store.now setting
+        ensures answer { (setting : Setting) (t : Transaction) → StandsFor self.old.txn.now t → Keeps self.old.store.now self.old.index.now setting
             → Answered reply.KeyIs result (StandsFor self.new.txn.now) t (read_called setting t false snapshot (read.GetKey selector.now)) }
         ensures same_txn { self.new.txn.ghost_name ≡ self.old.txn.ghost_name }
         ensures same_store { self.new.store ≡ self.old.store }
+        ensures same_index { self.new.index ≡ self.old.index }
     {
-        self.txn.get_key(self.store, selector)
+        self.txn.get_key(self.store, selector, snapshot)
     }
 
     /// The pairs between the keys that two selectors mean, up to `limit`, or all where it is 0, in the order of their keys, or
@@ -95,14 +110,15 @@ impl TxnOn<'_> {
         mode: Mode,
         snapshot: bool,
     ) -> Result<Pairs, TrFault>
-        ensures answer { (setting : Setting) (t : Transaction) → StandsFor self.old.txn.now t → Keeps self.old.store.now setting
+        ensures answer { (setting : Setting) (t : Transaction) → StandsFor self.old.txn.now t → Keeps self.old.store.now self.old.index.now setting
             → Answered reply.PairsAre result (StandsFor self.new.txn.now) t
             (read_called setting t (lacks_limit mode limit) snapshot (read.GetRange begin.now end.now limit reverse)) }
         ensures same_txn { self.new.txn.ghost_name ≡ self.old.txn.ghost_name }
         ensures same_store { self.new.store ≡ self.old.store }
+        ensures same_index { self.new.index ≡ self.old.index }
     {
         let manner = Manner::new(limit, reverse, mode);
-        self.txn.get_range(self.store, begin, end, manner)
+        self.txn.get_range(self.store, begin, end, manner, snapshot)
     }
 
     /// The same between two keys.
@@ -114,29 +130,79 @@ impl TxnOn<'_> {
         mode: Mode,
         snapshot: bool,
     ) -> Result<Pairs, TrFault>
-        ensures answer { (setting : Setting) (t : Transaction) → StandsFor self.old.txn.now t → Keeps self.old.store.now setting
+        ensures answer { (setting : Setting) (t : Transaction) → StandsFor self.old.txn.now t → Keeps self.old.store.now self.old.index.now setting
             → Answered reply.PairsAre result (StandsFor self.new.txn.now) t
             (read_called setting t (lacks_limit mode limit) snapshot (read.GetKeyRange range.now.begin range.now.end limit reverse)) }
         ensures same_txn { self.new.txn.ghost_name ≡ self.old.txn.ghost_name }
         ensures same_store { self.new.store ≡ self.old.store }
+        ensures same_index { self.new.index ≡ self.old.index }
     {
         let manner = Manner::new(limit, reverse, mode);
-        self.txn.get_key_range(self.store, range, manner)
+        self.txn.get_key_range(self.store, range, manner, snapshot)
+    }
+}
+
+impl TxnOn<'_> {
+    /// Lets the commit rest on the keys of a range, as if they had been read (`fdb_transaction_add_conflict_range`).
+    pub fn read_conflict(&mut self, range: &KeyRange) -> Result<(), TrFault>
+        ensures answer { (t : Transaction) → StandsFor self.old.txn.now t
+            → Answered (λ _. reply.Done) result (StandsFor self.new.txn.now) t (read_conflict_called t range.now) }
+        ensures same_txn { self.new.txn.ghost_name ≡ self.old.txn.ghost_name }
+        ensures same_store { self.new.store ≡ self.old.store }
+        ensures same_index { self.new.index ≡ self.old.index }
+    {
+        self.txn.read_conflict(range)
+    }
+
+    /// Declares the keys of a range, as if they were written (`fdb_transaction_add_conflict_range`).
+    pub fn write_conflict(&mut self, range: &KeyRange) -> Result<(), TrFault>
+        ensures answer { (t : Transaction) → StandsFor self.old.txn.now t
+            → Answered (λ _. reply.Done) result (StandsFor self.new.txn.now) t (write_conflict_called t range.now) }
+        ensures same_txn { self.new.txn.ghost_name ≡ self.old.txn.ghost_name }
+        ensures same_store { self.new.store ≡ self.old.store }
+        ensures same_index { self.new.index ≡ self.old.index }
+    {
+        self.txn.write_conflict(range)
+    }
+
+    /// The read version, which is taken where there is none; it may be above the last one
+    /// (`fdb_transaction_get_read_version`). It takes no memory.
+    pub fn read_version(&mut self) -> Result<u64, TrFault>
+        ensures answer { (setting : Setting) (t : Transaction) → StandsFor self.old.txn.now t → Keeps self.old.store.now self.old.index.now setting
+            → Answered (λ version. reply.Version (pos version)) result (StandsFor self.new.txn.now) t (read_version_called setting t) }
+        ensures same_txn { self.new.txn.ghost_name ≡ self.old.txn.ghost_name }
+        ensures same_store { self.new.store ≡ self.old.store }
+        ensures same_index { self.new.index ≡ self.old.index }
+    {
+        self.txn.read_version(self.store)
+    }
+
+    /// Sets the read version (`fdb_transaction_set_read_version`): 2010 where it is set or taken, and 2011 where the version
+    /// isn't above 0. It takes no memory.
+    pub fn set_read_version(&mut self, version: i64) -> Result<(), TrFault>
+        ensures answer { (t : Transaction) → StandsFor self.old.txn.now t
+            → Answered (λ _. reply.Done) result (StandsFor self.new.txn.now) t (set_read_version_called t version) }
+        ensures same_txn { self.new.txn.ghost_name ≡ self.old.txn.ghost_name }
+        ensures same_store { self.new.store ≡ self.old.store }
+        ensures same_index { self.new.index ≡ self.old.index }
+    {
+        self.txn.set_read_version(version)
     }
 }
 
 impl Tr for TxnOn<'_> {
     ghost use Rattle.std.proofs.Common.{refl, ◌∙◌};
 
-    ghost stands = { λ on setting t. StandsFor on.txn.now t × Keeps on.store.now setting };
+    ghost stands = { λ on setting t. StandsFor on.txn.now t × Keeps on.store.now on.index.now setting };
 
-    ghost takes = { λ op. not (is_versionstamped op) };
+    ghost takes = { λ _. true };
 
-    ghost same = { λ one two. (one.txn.ghost_name ≡ two.txn.ghost_name) × (one.store.now ≡ two.store.now) };
+    ghost same = { λ one two. (one.txn.ghost_name ≡ two.txn.ghost_name) × (one.store.now ≡ two.store.now)
+        × (one.index.now ≡ two.index.now) };
 
-    fn get(&mut self, key: &[u8], _snapshot: bool) -> Result<Option<Bytes>, TrFault> {
+    fn get(&mut self, key: &[u8], snapshot: bool) -> Result<Option<Bytes>, TrFault> {
         let key = Bytes::from_slice(self.txn.allocator(), key)?;
-        self.txn.get(self.store, &key)
+        self.txn.get(self.store, &key, snapshot)
     }
 
     fn range(
@@ -144,10 +210,10 @@ impl Tr for TxnOn<'_> {
         range: &KeyRange,
         limit: u32,
         reverse: bool,
-        _snapshot: bool,
+        snapshot: bool,
     ) -> Result<Pairs, TrFault> {
         let manner = Manner::new(limit, reverse, Mode::WantAll);
-        self.txn.get_key_range(self.store, range, manner)
+        self.txn.get_key_range(self.store, range, manner, snapshot)
     }
 
     fn set(&mut self, key: &[u8], value: &[u8]) -> Result<(), TrFault> {
@@ -166,9 +232,19 @@ impl Tr for TxnOn<'_> {
         self.txn.atomic(op, key, operand)
     }
 
+    fn no_write_conflict(&mut self) -> Result<(), TrFault> {
+        self.txn.no_write_conflict()
+    }
+
+    fn write_conflict_key(&mut self, key: &[u8]) -> Result<(), TrFault> {
+        let alloc = self.txn.allocator();
+        let range = KeyRange::single(alloc, &Bytes::from_slice(alloc, key)?)?;
+        self.txn.write_conflict(&range)
+    }
+
     ghost takes_add = { refl };
 
-    ghost same_itself = { λ one. (refl, refl) };
+    ghost same_itself = { λ one. (refl, refl, refl) };
 
-    ghost same_still = { λ one two three first second. (first.0 ∙ second.0, first.1 ∙ second.1) };
+    ghost same_still = { λ one two three first second. (first.0 ∙ second.0, first.1 ∙ second.1, first.2 ∙ second.2) };
 }

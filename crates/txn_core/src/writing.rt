@@ -1,20 +1,28 @@
 //! Writes: each is refused by its code, or kept.
 
 ghost use Rattle.std.specs.Prelude.{◌≡◌, false, Some, IfOk, OnOk, OnErr};
-ghost use Rattle.database_rules.specs.Atomics.{is_versionstamped};
+ghost use Rattle.database_rules.specs.Atomics.{atomic_named};
 ghost use Rattle.database_rules.specs.Databases as database;
 ghost use Rattle.database_rules.specs.Transactions as rules;
 ghost use Rattle.txn_core.specs.Accesses.{StandsOn, StandsWritten, Writes, WritesNamed};
 
-use crate::codes::{atomic_op, clear_code, clear_range_code, set_code};
+use crate::codes::{clear_code, op_code, phase_code, range_code, set_code};
 use crate::txn::Txn;
-use database_rules::{AtomicOp, SIZE_LIMIT};
+use atomic_ops::from_name;
+use database_rules::{AtomicOp, Code, INVALID_MUTATION_TYPE, SIZE_LIMIT};
 use fdb_calls::TrFault;
 use key_bytes::KeyRange;
 use std::alloc::AllocError;
 
+// How many bytes a range counts: those of both its ends.
+pub(crate) fn range_size(range: &KeyRange) -> u64
+    ensures { result ≡ rules.range_size range.now }
+{
+    range.begin.as_slice().len() as u64 + range.end.as_slice().len() as u64
+}
+
 // The size after some bytes more, counted no further than one past its limit.
-fn grown(size: u64, bytes: u64) -> u64
+pub(crate) fn grown(size: u64, bytes: u64) -> u64
     ensures { result ≡ rules.grown size bytes }
 {
     size.saturating_add(bytes).min(SIZE_LIMIT + 1)
@@ -26,7 +34,10 @@ impl Txn {
         ensures ok { OnOk result (StandsWritten self.old self.new (database.Set key.now value.now)) }
         ensures err { OnErr result (StandsOn self.old self.new) }
     {
+        self.declares.reserve(1)?;
         self.edits.set(key, value)?;
+        self.declares.push(!self.is_silenced).unwrap();
+        self.is_silenced = false;
         self.size = grown(self.size, key.len() as u64 + value.len() as u64);
         Ok(())
     }
@@ -35,7 +46,10 @@ impl Txn {
         ensures ok { OnOk result (StandsWritten self.old self.new (database.Clear key.now)) }
         ensures err { OnErr result (StandsOn self.old self.new) }
     {
+        self.declares.reserve(1)?;
         self.edits.clear(key)?;
+        self.declares.push(!self.is_silenced).unwrap();
+        self.is_silenced = false;
         self.size = grown(self.size, 2 * key.len() as u64 + 1);
         Ok(())
     }
@@ -44,18 +58,27 @@ impl Txn {
         ensures ok { OnOk result (StandsWritten self.old self.new (database.ClearRange range.now.begin range.now.end)) }
         ensures err { OnErr result (StandsOn self.old self.new) }
     {
+        self.declares.reserve(1)?;
         self.edits.clear_range(range)?;
-        let bytes = range.begin.as_slice().len() as u64 + range.end.as_slice().len() as u64;
-        self.size = grown(self.size, bytes);
+        self.declares.push(!self.is_silenced).unwrap();
+        self.is_silenced = false;
+        self.size = grown(self.size, range_size(range));
         Ok(())
     }
 
     fn add_atomic(&mut self, op: AtomicOp, key: &[u8], operand: &[u8]) -> Result<(), AllocError>
-        requires { is_versionstamped op ≡ false }
+        requires { rules.lacks_room op key.now operand.now ≡ false }
         ensures ok { OnOk result (StandsWritten self.old self.new (database.Atomic op key.now operand.now)) }
         ensures err { OnErr result (StandsOn self.old self.new) }
     {
-        self.edits.atomic(op, key, operand)?;
+        self.declares.reserve(1)?;
+        if op.is_versionstamped() {
+            self.edits.stamp(op, key, operand)?;
+        } else {
+            self.edits.atomic(op, key, operand)?;
+        }
+        self.declares.push(!self.is_silenced).unwrap();
+        self.is_silenced = false;
         self.size = grown(self.size, key.len() as u64 + operand.len() as u64);
         Ok(())
     }
@@ -84,21 +107,20 @@ impl Txn {
 
     // A clear of a range.
     pub(crate) fn clear_range(&mut self, range: &KeyRange) -> Result<(), TrFault>
-        ensures { Writes result self.old self.new (rules.clear_range_code self.old.phase range.now.begin range.now.end)
+        ensures { Writes result self.old self.new (rules.range_code self.old.phase range.now.begin range.now.end)
             (database.ClearRange range.now.begin range.now.end) }
     {
-        if let Some(code) = clear_range_code(self.phase, range) {
+        if let Some(code) = range_code(self.phase, range) {
             return Err(TrFault::Code(code));
         }
         Ok(self.add_clear_range(range)?)
     }
 
-    // An atomic operation without a versionstamp.
+    // An atomic operation.
     pub(crate) fn atomic(&mut self, op: AtomicOp, key: &[u8], operand: &[u8]) -> Result<(), TrFault>
-        requires { is_versionstamped op ≡ false }
-        ensures { Writes result self.old self.new (rules.set_code self.old.phase key.now operand.now) (database.Atomic op key.now operand.now) }
+        ensures { Writes result self.old self.new (rules.op_code self.old.phase op key.now operand.now) (database.Atomic op key.now operand.now) }
     {
-        if let Some(code) = set_code(self.phase, key, operand) {
+        if let Some(code) = op_code(self.allocator(), self.phase, op, key, operand)? {
             return Err(TrFault::Code(code));
         }
         Ok(self.add_atomic(op, key, operand)?)
@@ -112,11 +134,14 @@ impl Txn {
         operand: &[u8],
     ) -> Result<(), TrFault>
         ensures { WritesNamed result self.old self.new (rules.atomic_code self.old.phase name.now key.now operand.now)
-            (rules.operation_named name.now) key.now operand.now }
+            (atomic_named name.now) key.now operand.now }
     {
-        match atomic_op(self.phase, name, key, operand) {
-            Ok(op) => Ok(self.add_atomic(op, key, operand)?),
-            Err(code) => Err(TrFault::Code(code)),
+        if let Some(code) = phase_code(self.phase) {
+            return Err(TrFault::Code(code));
+        }
+        match from_name(name) {
+            Some(op) => self.atomic(op, key, operand),
+            None => Err(TrFault::Code(Code(INVALID_MUTATION_TYPE))),
         }
     }
 }

@@ -1,4 +1,4 @@
-use Rattle.std.proofs.Common.{◌-◌, ◌^◌, ◌<◌}
+use Rattle.std.proofs.Common.{◌+◌, ◌-◌, ◌^◌, ◌<◌}
 use Rattle.std.proofs.lemmas.Result.{IfOk-weaker}
 use Rattle.machine_rules.specs.Worlds.{World, step}
 use Rattle.version_store.specs.Versions.{last_of}
@@ -15,10 +15,10 @@ first_call_took : (c : In_ok-reply) (world : World) → StandsFor (model_of c.ar
 first_call_took c world stands =
     first_took (model_of c.args.self.now) (model_of c.call_apart.new.self) world c.args.call.now c.at_last-transaction.result
     c.call_apart.new.transaction c.in_ok-reply.reply
-    c.at_last-transaction.ensures c.in_ok-reply.ensures.step stands
+    (c.at_last-transaction.ensures c.args.self.now.index) c.in_ok-reply.ensures.step stands
 
 -- a version and a life are to spare for the commit
-commit_has_room : (c : In_ok-reply) → (last_of c.call_apart.new.self.store < 2 ^ 63) × (c.call_apart.new.self.next_life < 2 ^ 64 - 1)
+commit_has_room : (c : In_ok-reply) → (last_of c.call_apart.new.self.store + 1 < 2 ^ 63) × (c.call_apart.new.self.next_life < 2 ^ 64 - 1)
 commit_has_room c =
     few_between (model_of c.args.self.now) (model_of c.call_apart.new.self) (λ world. first_called world c.args.call.now) c.call_apart.new.transaction
     c.in_ok-reply.reply (first_call_took c) (λ world. first_called_lives world c.args.call.now) c.requires

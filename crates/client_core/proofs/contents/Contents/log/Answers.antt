@@ -1,4 +1,4 @@
-use Rattle.std.proofs.Common.{◌≡◌, ◌-◌, ◌^◌, ◌<◌, ◌∙◌, Result, Ok, Err}
+use Rattle.std.proofs.Common.{◌≡◌, ◌+◌, ◌-◌, ◌^◌, ◌<◌, ◌∙◌, Result, Ok, Err}
 use Rattle.std.proofs.lemmas.Result.{IfOk-weaker}
 use Rattle.fdb_calls.specs.declared.fault.TrFault.{TrFault}
 use Rattle.fdb_calls.specs.declared.fault.TrFault.TheVariants as fault
@@ -27,12 +27,12 @@ writes_took : (c : In_ok-reply) (world : World) → StandsFor (model_of c.args.s
     → FirstTook c.in_ok-reply.reply c.log.new.self (drawn (model_of c.args.self.now)) world (first_logged world c.args.prefix.now c.args.entries.now)
 writes_took c world stands =
     first_wrote (model_of c.args.self.now) world c.args.prefix.now c.args.entries.now c.at_last-transaction.result c.log.new.self c.in_ok-reply.reply
-    c.at_last-transaction.ensures
+    (c.at_last-transaction.ensures c.args.self.now.index)
     (λ t begun. replied c.log.result c.in_ok-reply.reply c.log.new.self (in_turn (logs c.args.prefix.now c.args.entries.now) t)
     (c.in_ok-reply.ensures {u = tt}) (c.log.ensures t begun)) stands
 
 -- a version and a life are to spare for the commit
-commit_has_room : (c : In_ok-reply) → (last_of c.args.self.now.store < 2 ^ 63) × ((drawn (model_of c.args.self.now)).next_life < 2 ^ 64 - 1)
+commit_has_room : (c : In_ok-reply) → (last_of c.args.self.now.store + 1 < 2 ^ 63) × ((drawn (model_of c.args.self.now)).next_life < 2 ^ 64 - 1)
 commit_has_room c =
     few_between (model_of c.args.self.now) (drawn (model_of c.args.self.now)) (λ world. first_logged world c.args.prefix.now c.args.entries.now)
     c.log.new.self c.in_ok-reply.reply (writes_took c) (λ world. first_logged_lives world c.args.prefix.now c.args.entries.now) c.requires

@@ -8,7 +8,7 @@ returns-clause-stands c = λ world stands.
     let inserted : c.insert.new.self ≡ finite.insert c.args.self.now.transactions c.args.name.now c.new-transaction.result =
     c.in_ok-insert.ensures.ok ∙ (λ i. finite.insert c.args.self.now.transactions (c.in_ok-copy.ensures i) c.new-transaction.result) in
     record
-    { reply_is = refl; stands = new_stands _ world c.args.name.now c.new-transaction.result _ stands c.new-transaction.ensures refl inserted refl }
+    { reply_is = refl; stands = new_stands _ world c.args.name.now c.new-transaction.result _ stands c.new-transaction.ensures refl refl inserted refl }
 
 pub returns-clause-there : goal.returns-clause-there
 returns-clause-there c =

@@ -4,16 +4,16 @@ use Rattle.client_core.specs.Stands.{StandsFor}
 use Rattle.client_core.specs.Contents.{model_of}
 use Rattle.client_core.proofs.Loads.{first_kept, begun_stands}
 use Rattle.client_core.proofs.core_state.Core.load.Goals as goal
-use Rattle.client_core.proofs.core_state.Core.load.Goals.{After-new}
+use Rattle.client_core.proofs.core_state.Core.load.Goals.{After-new-2}
 
-stands_at_first : (c : After-new) (words : ℕ → ℕ)
+stands_at_first : (c : After-new-2) (words : ℕ → ℕ)
     → StandsFor
-    (model_of record { alloc = c.args.alloc; store = c.in_ok-store.store; transactions = c.new.result; next_life = 0; applied = 0 })
+    (model_of record { alloc = c.args.alloc; store = c.in_ok-store.store; index = c.new.result; transactions = c.new-2.result; next_life = 0; applied = 0 })
     (begun c.args.pairs words)
 stands_at_first c words =
     begun_stands _ c.args.pairs words
-    (first_kept c.in_ok-store.store c.args.pairs c.in_ok-store.ensures.last c.in_ok-store.ensures.empty c.in_ok-store.ensures.first)
-    c.new.ensures refl
+    (first_kept c.in_ok-store.store _ c.args.pairs c.in_ok-store.ensures.last c.in_ok-store.ensures.empty c.in_ok-store.ensures.first c.new.ensures.unwritten)
+    c.new-2.ensures refl
 
 pub invariant_of-result : goal.invariant_of-result
 invariant_of-result c = λ still. record {
@@ -26,5 +26,5 @@ invariant_of-result c = λ still. record {
 pub returns-clause-begun : goal.returns-clause-begun
 returns-clause-begun c words =
     begun_stands _ c.args.pairs words
-    (first_kept c.in_ok-store.store c.args.pairs c.in_ok-store.ensures.last c.in_ok-store.ensures.empty c.in_ok-store.ensures.first)
-    c.new.ensures refl
+    (first_kept c.in_ok-store.store _ c.args.pairs c.in_ok-store.ensures.last c.in_ok-store.ensures.empty c.in_ok-store.ensures.first c.new.ensures.unwritten)
+    c.new-2.ensures refl

@@ -15,7 +15,7 @@ returns-in-Ok-clause-err c = on_err_weaker c.commit_judged.result (λ left t set
 
 pub returns-in-Err-Code-clause-ok : goal.returns-in-Err-Code-clause-ok
 returns-in-Err-Code-clause-ok c t setting stands keeps =
-    c.answer_refusal.ensures t c.args.store.now setting
+    c.answer_refusal.ensures t c.args.store.now c.args.index.now setting
     (subst (λ (f : TrFault). Judged (Err f) (StandsFor c.judge.new.self) setting t) c.in-Err-Code.field-0-is (c.in-Err-Code.ensures.verdict setting t stands keeps))
     keeps
 

@@ -9,7 +9,7 @@ use Rattle.txn_core.proofs.txn.Txn.commit_judged.Goals as goal
 pub returns-in-ReadOnly-clause-ok : goal.returns-in-ReadOnly-clause-ok
 returns-in-ReadOnly-clause-ok c t setting judged keeps =
     let held = subst (λ (v : Verdict). Judged (Ok v) (StandsFor c.args.self.now) setting t) c.in-ReadOnly.is judged in
-    committed_read_only c.done.result c.tried.new.self c.args.store.now setting t held.0 held.1 c.done.ensures.reply c.done.ensures.life
+    committed_read_only c.done.result c.tried.new.self c.args.store.now c.args.index.now setting t held.0 held.1 c.done.ensures.reply c.done.ensures.life
     (c.tried.ensures t held.2) keeps
 
 pub returns-in_err-make_version-in-Commits-clause-err : goal.returns-in_err-make_version-in-Commits-clause-err
@@ -22,5 +22,5 @@ pub returns-in_ok-make_version-in-Commits-clause-ok : goal.returns-in_ok-make_ve
 returns-in_ok-make_version-in-Commits-clause-ok c t setting judged keeps =
     let held = subst (λ (v : Verdict). Judged (Ok v) (StandsFor c.args.self.now) setting t) c.in-Commits.is judged in
     let made = (c.in_ok-make_version-in-Commits.ensures {u = tt}).ok setting (with_version setting t) held.2 keeps in
-    committed_version c.done-in-Commits.result c.make_version.new.self c.make_version.new.store setting t held.0 held.1
+    committed_version c.done-in-Commits.result c.make_version.new.self c.make_version.new.store c.make_version.new.index setting t held.0 held.1
     c.done-in-Commits.ensures.reply c.done-in-Commits.ensures.life made.0 made.1

@@ -3,8 +3,8 @@ use Rattle.txn_core.specs.Stands.{Kept, is_bare}
 use Rattle.txn_core.proofs.Judging.{active_of}
 use Rattle.txn_core.proofs.txn.Txn.judge.Goals as goal
 
-pub returns-then-is_empty-clause-active : goal.returns-then-is_empty-clause-active
-returns-then-is_empty-clause-active c =
+pub returns-then-is_read_only-clause-active : goal.returns-then-is_read_only-clause-active
+returns-then-is_read_only-clause-active c =
     active_of c.args.self.now.phase (is_bare c.args.self.now) c.args.self.now.size (search rules)
 
 pub returns-clause-active : goal.returns-clause-active

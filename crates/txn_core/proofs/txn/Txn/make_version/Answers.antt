@@ -1,25 +1,41 @@
-use Rattle.std.proofs.Common.{◌+◌, ap, sym, subst, ◌∙◌}
+use Rattle.std.proofs.Common.{◌≡◌, ◌+◌, length, ap, sym, subst, ◌∙◌}
+use Rattle.std.specs.Prelude.{if◌then◌else◌}
 use Rattle.database_rules.specs.declared.Phase.TheVariants as phase
 use Rattle.database_rules.specs.declared.Tried.TheVariants as tried
 use Rattle.database_rules.specs.Databases.{do_all}
+use Rattle.database_rules.specs.Histories.{stamp_of}
+use Rattle.database_rules.specs.States.{all_filled, covers}
 use Rattle.database_rules.specs.Transactions.{writes_of, with_phase}
-use Rattle.fdb_calls.specs.Calling.{commit_of}
+use Rattle.database_rules.proofs.Stamps.{stamp_length}
+use Rattle.conflict_ranges.specs.Writes.{newest_at}
+use Rattle.fdb_calls.specs.Calling.{commit_of, next_version}
 use Rattle.version_store.specs.Changed.{changed}
 use Rattle.version_store.specs.Versions.{at, last_of}
-use Rattle.txn_core.specs.Stands.{StandsFor}
-use Rattle.txn_core.proofs.States.{same_maps}
+use Rattle.txn_core.specs.Stands.{StandsFor, declared_in}
+use Rattle.txn_core.proofs.States.{same_filled_maps}
 use Rattle.txn_core.proofs.Stored.{keeps_same, keeps_next}
 use Rattle.txn_core.proofs.txn.Txn.make_version.Goals as goal
 
 pub returns-clause-ok : goal.returns-clause-ok
 returns-clause-ok c setting t stands keeps =
+    let kept = c.args.self.now in let store = c.args.store.now in let index = c.args.index.now in
     let reserved = c.in_ok-reserve.ensures {u = tt} in
-    let kept = keeps_same c.args.store.now c.reserve.new.self setting keeps reserved.last reserved.reads in
-    let version = c.last.ensures ∙ c.install.ensures.last ∙ ap (λ n. n + 1) kept.last_is in
-    let base = reserved.reads (last_of c.reserve.new.self) ∙ ap (at c.args.store.now) reserved.last in (
+    let same = keeps_same store c.reserve.new.self index c.reserve-2.new.self setting keeps reserved.last reserved.reads
+    (c.in_ok-reserve-2.ensures {u = tt}).same in
+    let stamp = c.stamp_of-stamp.ensures ∙ ap (λ n. stamp_of (n + 1)) (c.last.ensures ∙ keeps.last_is) in
+    let ten : length (stamp_of (next_version setting)) ≡ 10 = stamp_length (next_version setting) in
+    let version = c.last-3.ensures ∙ c.install.ensures.last ∙ ap (λ n. n + 1) same.last_is in
+    let made = c.last-2.ensures ∙ c.install.ensures.last in
+    let base = reserved.reads (last_of c.reserve.new.self) ∙ ap (at store) reserved.last in (
       subst (λ v. StandsFor c.tried.new.self (with_phase t (phase.Tried (tried.Version v)))) version (c.tried.ensures t stands),
-      keeps_next c.reserve.new.self c.install.new.self setting (commit_of t) kept c.install.ensures.last c.install.ensures.before
+      keeps_next c.reserve.new.self c.install.new.self c.reserve-2.new.self c.install-2.new.self setting
+          (commit_of (stamp_of (next_version setting)) setting t) same c.install.ensures.last c.install.ensures.before
           (c.install.ensures.after ∙ ap (changed c.in_ok-changes.changes) base ∙ (c.in_ok-changes.ensures {u = tt}).leads
-          ∙ same_maps c.args.self.now.mutations (writes_of t) stands.mutations (at c.args.store.now (last_of c.args.store.now))
-          ∙ sym (ap (do_all (writes_of t)) base)),
+          ∙ ap (λ s. do_all (all_filled s kept.mutations) (at store (last_of store))) stamp
+          ∙ same_filled_maps kept.mutations (writes_of t) (stamp_of (next_version setting)) stands.mutations ten (at store (last_of store))
+          ∙ sym (ap (do_all (all_filled (stamp_of (next_version setting)) (writes_of t))) base))
+          (λ key.
+          let declared = (c.in_ok-declared.ensures {u = tt}) key ∙ ap (λ s. covers (declared_in s kept) key) stamp
+          ∙ stands.declared (stamp_of (next_version setting)) key ten in
+          c.install-2.ensures key ∙ (λ i. if declared i then made i else newest_at c.reserve-2.new.self key)),
     )

@@ -1,4 +1,4 @@
 use Rattle.txn_core.proofs.txn_on.TxnOn.get_key.Goals as goal
 
 pub returns-clause-answer : goal.returns-clause-answer
-returns-clause-answer c setting t stands keeps = c.get_key.ensures setting c.args.snapshot keeps t stands
+returns-clause-answer c setting t stands keeps = c.get_key.ensures c.args.self.now.index.now setting keeps t stands

@@ -8,4 +8,4 @@ use Rattle.txn_core.proofs.txn_on.TxnOn.get_range.Goals as goal
 pub returns-clause-answer : goal.returns-clause-answer
 returns-clause-answer c setting t stands keeps =
     subst (λ (m : Manner). Reads read.PairsAre c.get_range.result c.args.self.now.txn.now c.get_range.new.self setting (lacks_limit m.mode m.limit) c.args.snapshot
-    (read.GetRange c.args.begin.now c.args.end.now m.limit m.reverse)) c.new-manner.ensures (c.get_range.ensures setting c.args.snapshot keeps) t stands
+    (read.GetRange c.args.begin.now c.args.end.now m.limit m.reverse)) c.new-manner.ensures (c.get_range.ensures c.args.self.now.index.now setting keeps) t stands

@@ -1,0 +1,10 @@
+use Rattle.std.proofs.Common.{sym, subst, ◌∙◌}
+use Rattle.database_rules.specs.Transactions.{fresh}
+use Rattle.txn_core.specs.Stands.{Kept, StandsFor}
+use Rattle.txn_core.proofs.Standing.{versioned}
+use Rattle.txn_core.proofs.txn.Txn.at_last.Goals as goal
+
+pub returns : goal.returns
+returns c index setting keeps =
+    versioned setting _ c.last.result (fresh c.args.life)
+    (subst (λ (kept : Kept). StandsFor kept (fresh c.args.life)) (sym c.result.view_is) c.new.ensures) (c.last.ensures ∙ keeps.last_is)

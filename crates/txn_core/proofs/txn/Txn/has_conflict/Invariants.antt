@@ -1,0 +1,10 @@
+use Rattle.std.proofs.Common.{◌≡◌}
+use Rattle.database_rules.specs.Histories.{Setting, conflicts}
+use Rattle.version_store.specs.Versions.{Versions}
+use Rattle.txn_core.specs.Stands.{Keeps}
+use Rattle.txn_core.proofs.txn.Txn.has_conflict.Given as goal
+
+-- no commit after the version declared a key of the ranges so far
+abbrev pub invariant-loop-begin : goal.invariant-loop-begin
+invariant-loop-begin l = (store : Versions) (setting : Setting) → Keeps store l.index setting
+    → conflicts setting.history l.version l.begin-iterator ≡ conflicts setting.history l.version l.fn.self.read_ranges

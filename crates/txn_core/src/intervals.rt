@@ -1,0 +1,85 @@
+//! The keys that a read rests on, by its answer.
+
+ghost use Rattle.std.specs.Prelude.{◌≡◌, IfOk};
+ghost use Rattle.database_rules.specs.Intervals as rules;
+
+use crate::reading::Manner;
+use database_rules::Selector;
+use key_bytes::{Bytes, Key, KeyRange, Pairs};
+use std::alloc::{AllocError, Global};
+
+// The least key that doesn't stand before a selector's place.
+fn start_of(selector: &Selector) -> Result<Key, AllocError>
+    ensures { IfOk result (λ start. start ≡ rules.start_of selector.now) }
+{
+    if selector.or_equal {
+        selector.key.after()
+    } else {
+        selector.key.copy()
+    }
+}
+
+// Where the interval ends of a read that found this key: behind it, but at FF where it is FF.
+fn end_at(found: &Key) -> Result<Key, AllocError>
+    ensures { IfOk result (λ end. end ≡ rules.end_at found.now) }
+{
+    if found.as_slice() == [0xff].as_slice() {
+        found.copy()
+    } else {
+        found.after()
+    }
+}
+
+// From the selector's place up to the key that was found, or down to it.
+pub(crate) fn selector_interval(
+    alloc: Global,
+    selector: &Selector,
+    found: &Key,
+) -> Result<KeyRange, AllocError>
+    ensures { IfOk result (λ range. range ≡ rules.selector_interval selector.now found.now) }
+{
+    let start = start_of(selector)?;
+    if selector.offset > 0 {
+        let end = end_at(found)?;
+        return Ok(KeyRange { begin: start, end });
+    }
+    let top = Bytes::from_slice(alloc, &[0xff])?;
+    let end = if top.cmp(&start).is_lt() { top } else { start };
+    let begin = found.copy()?;
+    Ok(KeyRange { begin, end })
+}
+
+// The key of the last of some pairs, or this one where there is none.
+fn last_key<'a>(key: &'a Key, pairs: &'a Pairs) -> &'a Key
+    ensures { result.now ≡ rules.last_key key.now pairs.now }
+{
+    match pairs.as_slice().last() {
+        Some(pair) => &pair.key,
+        None => key,
+    }
+}
+
+// The whole range, or as far as pairs that reach the limit.
+pub(crate) fn slice_interval(
+    range: &KeyRange,
+    manner: Manner,
+    pairs: &Pairs,
+) -> Result<KeyRange, AllocError>
+    ensures { IfOk result (λ interval. interval
+        ≡ rules.slice_interval range.now.begin range.now.end manner.limit manner.reverse pairs.now) }
+{
+    let is_reached = manner.limit > 0 && pairs.len() >= manner.limit as usize;
+    if !is_reached {
+        let begin = range.begin.copy()?;
+        let end = range.end.copy()?;
+        return Ok(KeyRange { begin, end });
+    }
+    if manner.reverse {
+        let begin = last_key(&range.end, pairs).copy()?;
+        let end = range.end.copy()?;
+        return Ok(KeyRange { begin, end });
+    }
+    let begin = range.begin.copy()?;
+    let end = last_key(&range.begin, pairs).after()?;
+    Ok(KeyRange { begin, end })
+}

@@ -1,0 +1,66 @@
+//! The versions of a transaction: that of its reads, that of its commit, and the versionstamp that is promised.
+
+ghost use Rattle.std.specs.Prelude.{◌≡◌, ℕ, pos};
+ghost use Rattle.database_rules.specs.Histories.{Setting};
+ghost use Rattle.database_rules.specs.Transactions as rules;
+ghost use Rattle.edge_map.specs.Edges.{Edges};
+ghost use Rattle.fdb_calls.specs.declared.Reply.TheVariants as reply;
+ghost use Rattle.fdb_calls.specs.Calling.{read_version_called, set_read_version_called};
+ghost use Rattle.txn_core.specs.Accesses.{Calls};
+ghost use Rattle.txn_core.specs.Judging.{Promises};
+ghost use Rattle.txn_core.specs.Stands.{Keeps};
+
+use crate::codes::{phase_code, set_version_code};
+use crate::txn::Txn;
+use database_rules::{Code, Phase, Tried};
+use fdb_calls::TrFault;
+use version_store::Store;
+
+impl Txn {
+    // Takes the read version, and answers it, also where it is above the last one. It takes no memory.
+    #[tactic(auto, unfolding(database_rules::specs::Transactions::phase_code))]
+    pub(crate) fn read_version(&mut self, store: &Store) -> Result<u64, TrFault>
+        ensures { (index : Edges ℕ) (setting : Setting) → Keeps store.now index setting
+            → Calls (λ version. reply.Version (pos version)) result self.old self.new (read_version_called setting) }
+    {
+        if let Some(code) = phase_code(self.phase) {
+            return Err(TrFault::Code(code));
+        }
+        let version = self.version_over(store);
+        self.version = Some(version);
+        Ok(version)
+    }
+
+    // Sets the read version. It takes no memory.
+    pub(crate) fn set_read_version(&mut self, version: i64) -> Result<(), TrFault>
+        ensures { Calls (λ _. reply.Done) result self.old self.new (λ t. set_read_version_called t version) }
+    {
+        if let Some(code) = set_version_code(self.phase, self.version, version) {
+            return Err(TrFault::Code(code));
+        }
+        self.version = Some(version.unsigned_abs());
+        Ok(())
+    }
+
+    /// The version that the commit of this life made, or -1 (`fdb_transaction_get_committed_version`). It takes no memory.
+    pub fn committed_version(&self) -> i64
+        ensures { result ≡ rules.version_made self.now.phase }
+    {
+        match self.phase {
+            Phase::Tried(Tried::Version(version)) => version as i64,
+            _ => -1,
+        }
+    }
+
+    /// The life whose commit's versionstamp is promised (`fdb_transaction_get_versionstamp`); 1025 exactly where it was
+    /// cancelled, and 2017 exactly where a commit of it was tried. It takes no memory.
+    #[tactic(auto, unfolding(database_rules::specs::Transactions::phase_code))]
+    pub fn promise(&self) -> Result<u64, Code>
+        ensures { Promises result self.now }
+    {
+        match phase_code(self.phase) {
+            Some(code) => Err(code),
+            None => Ok(self.life),
+        }
+    }
+}
