@@ -305,10 +305,21 @@ fn resolved(alloc: Global, bytes: &[u8]) -> Result<Option<Bytes>, AllocError> {
     }
 }
 
+// The same by asking first whether they have room.
+fn filled_in(alloc: Global, bytes: &[u8]) -> Result<Option<Bytes>, AllocError> {
+    if has_room(bytes) {
+        Ok(Some(stamped(alloc, &STAMP, bytes)?))
+    } else {
+        Ok(None)
+    }
+}
+
 fn is_stamped(alloc: Global, bytes: &[u8], wanted: Option<&[u8]>) -> Result<bool, AllocError> {
     let filled = resolved(alloc, bytes)?;
+    let again = filled_in(alloc, bytes)?;
     Ok(
         has_room(bytes) == wanted.is_some()
+            && again.as_ref().map(|filled| filled.as_slice()) == wanted
             && filled.as_ref().map(|filled| filled.as_slice()) == wanted,
     )
 }

@@ -1,4 +1,4 @@
--- How many commits a call makes, and how many lives it draws.
+-- How many commits a call makes.
 use Rattle.std.proofs.Common.{◌≡◌, ℕ, ◌≤◌, ◌⊎◌, inl, inr, Bool, true, false, cond, List, [], ◌∷◌, ◌++◌, length, Option, Some, None, refl, sym, ap, subst, ◌∙◌, arith}
 use Rattle.database_rules.specs.declared.Code.{Code}
 use Rattle.fdb_calls.specs.declared.Reply.{Reply}
@@ -17,65 +17,63 @@ use Rattle.database_rules.specs.Modes.{lacks_limit}
 use Rattle.database_rules.specs.Transactions.{Transaction, fresh, first_failing, read_code, set_code, clear_code, range_code, atomic_code, phase_code, set_version_code, commit_code, conflict_checks, is_read_only, is_cancelled, is_retryable, with_version, late_checks}
 use Rattle.fdb_calls.specs.Calling.{Called, called, is_fault, in_turn, logs, set_called, read_by, read_at_version, read_called, write_by, atomic_by, does_by, commit_by, commit_allowed, commit_at_version, commit_refused, on_error_by, error_handled}
 
--- it makes no commit, and draws one life at most
-record IsQuiet (called : Called) : Type 0 where
-  pub commits : called.commits ≡ []
-  pub lives : called.lives ≤ 1
+-- it makes no commit
+abbrev IsQuiet : Called → Type 0
+IsQuiet called = called.commits ≡ []
 
 at_version_quiet : (code : Option ℕ) (setting : Setting) (transaction : Transaction) (snapshot : Bool) (read : Read)
     → IsQuiet (read_at_version code setting transaction snapshot read)
-at_version_quiet (Some code) setting transaction snapshot read = record { commits = refl; lives = omega arith }
-at_version_quiet None setting transaction snapshot read = record { commits = refl; lives = omega arith }
+at_version_quiet (Some code) setting transaction snapshot read = refl
+at_version_quiet None setting transaction snapshot read = refl
 
 read_quiet : (setting : Setting) (transaction : Transaction) (lacks snapshot : Bool) (read : Read)
     → IsQuiet (read_called setting transaction lacks snapshot read)
 read_quiet setting transaction lacks snapshot read = by_code (read_code transaction.phase lacks read)
   where
     by_code : (code : Option ℕ) → IsQuiet (read_by code setting transaction snapshot read)
-    by_code (Some code) = record { commits = refl; lives = omega arith }
+    by_code (Some code) = refl
     by_code None = at_version_quiet (first_failing (late_checks setting (with_version setting transaction) read)) setting
         (with_version setting transaction) snapshot read
 
 write_quiet : (code : Option ℕ) (transaction : Transaction) (mutation : Mutation) → IsQuiet (write_by code transaction mutation)
-write_quiet (Some code) transaction mutation = record { commits = refl; lives = omega arith }
-write_quiet None transaction mutation = record { commits = refl; lives = omega arith }
+write_quiet (Some code) transaction mutation = refl
+write_quiet None transaction mutation = refl
 
 atomic_quiet : (code : Option ℕ) (op : Option AtomicOp) (transaction : Transaction) (key operand : List ℕ)
     → IsQuiet (atomic_by code op transaction key operand)
-atomic_quiet code None transaction key operand = record { commits = refl; lives = omega arith }
-atomic_quiet (Some code) (Some op) transaction key operand = record { commits = refl; lives = omega arith }
-atomic_quiet None (Some op) transaction key operand = record { commits = refl; lives = omega arith }
+atomic_quiet code None transaction key operand = refl
+atomic_quiet (Some code) (Some op) transaction key operand = refl
+atomic_quiet None (Some op) transaction key operand = refl
 
 does_quiet : (code : Option ℕ) (transaction after : Transaction) (reply : Reply) → IsQuiet (does_by code transaction after reply)
-does_quiet (Some code) transaction after reply = record { commits = refl; lives = omega arith }
-does_quiet None transaction after reply = record { commits = refl; lives = omega arith }
+does_quiet (Some code) transaction after reply = refl
+does_quiet None transaction after reply = refl
 
 handled_quiet : (retryable : Bool) (life : ℕ) (transaction : Transaction) (code : Code)
     → IsQuiet (error_handled retryable life transaction code)
-handled_quiet true life transaction code = record { commits = refl; lives = omega arith }
-handled_quiet false life transaction code = record { commits = refl; lives = omega arith }
+handled_quiet true life transaction code = refl
+handled_quiet false life transaction code = refl
 
 on_error_quiet : (cancelled : Bool) (life : ℕ) (transaction : Transaction) (code : Code)
     → IsQuiet (on_error_by cancelled life transaction code)
-on_error_quiet true life transaction code = record { commits = refl; lives = omega arith }
+on_error_quiet true life transaction code = refl
 on_error_quiet false life transaction code = handled_quiet (is_retryable code.0) life transaction code
 
--- it makes one commit at most, and draws no life
-record IsFew (called : Called) : Type 0 where
-  pub commits : length called.commits ≤ 1
-  pub lives : called.lives ≡ 0
+-- it makes one commit at most
+abbrev IsFew : Called → Type 0
+IsFew called = length called.commits ≤ 1
 
 refused_few : (phase : Phase) (code : ℕ) (transaction : Transaction) → IsFew (commit_refused phase code transaction)
-refused_few phase.Active code transaction = record { commits = omega arith; lives = refl }
-refused_few phase.Cancelled code transaction = record { commits = omega arith; lives = refl }
-refused_few (phase.Tried outcome) code transaction = record { commits = omega arith; lives = refl }
+refused_few phase.Active code transaction = omega arith
+refused_few phase.Cancelled code transaction = omega arith
+refused_few (phase.Tried outcome) code transaction = omega arith
 
 at_version_few : (code : Option ℕ) (setting : Setting) (transaction : Transaction) → IsFew (commit_at_version code setting transaction)
 at_version_few (Some code) setting transaction = refused_few transaction.phase code transaction
-at_version_few None setting transaction = record { commits = omega arith; lives = refl }
+at_version_few None setting transaction = omega arith
 
 allowed_few : (read_only : Bool) (setting : Setting) (transaction : Transaction) → IsFew (commit_allowed read_only setting transaction)
-allowed_few true setting transaction = record { commits = omega arith; lives = refl }
+allowed_few true setting transaction = omega arith
 allowed_few false setting transaction =
     at_version_few (first_failing (conflict_checks setting (with_version setting transaction))) setting (with_version setting transaction)
 
@@ -86,11 +84,7 @@ commit_few None setting transaction = allowed_few (is_read_only transaction) set
 pub commit_commits : (setting : Setting) (life : ℕ) (transaction : Transaction)
     → length (called setting life transaction call.Commit).commits ≤ 1
 unfolding called
-commit_commits setting life transaction = (commit_few (commit_code transaction.phase (is_read_only transaction) transaction.size) setting transaction).commits
-
-pub commit_lives : (setting : Setting) (life : ℕ) (transaction : Transaction) → (called setting life transaction call.Commit).lives ≡ 0
-unfolding called
-commit_lives setting life transaction = (commit_few (commit_code transaction.phase (is_read_only transaction) transaction.size) setting transaction).lives
+commit_commits setting life transaction = commit_few (commit_code transaction.phase (is_read_only transaction) transaction.size) setting transaction
 
 -- a call but a commit
 quiet_or_commit : (setting : Setting) (life : ℕ) (transaction : Transaction) (its_call : TxnCall)
@@ -117,12 +111,12 @@ quiet_or_commit setting life transaction call.NoWriteConflict = inl (does_quiet 
 quiet_or_commit setting life transaction call.ReadVersion = inl (does_quiet (phase_code transaction.phase) transaction _ _)
 quiet_or_commit setting life transaction (call.SetReadVersion version) =
     inl (does_quiet (set_version_code transaction.phase transaction.version version) transaction _ reply.Done)
-quiet_or_commit setting life transaction call.CommittedVersion = inl (record { commits = refl; lives = omega arith })
+quiet_or_commit setting life transaction call.CommittedVersion = inl refl
 quiet_or_commit setting life transaction call.Versionstamp = inl (does_quiet (phase_code transaction.phase) transaction transaction _)
 quiet_or_commit setting life transaction call.Commit = inr refl
 quiet_or_commit setting life transaction (call.OnError code) = inl (on_error_quiet (is_cancelled transaction.phase) life transaction code)
-quiet_or_commit setting life transaction call.Reset = inl (record { commits = refl; lives = omega arith })
-quiet_or_commit setting life transaction call.Cancel = inl (record { commits = refl; lives = omega arith })
+quiet_or_commit setting life transaction call.Reset = inl refl
+quiet_or_commit setting life transaction call.Cancel = inl refl
 
 pub few_commits : (setting : Setting) (life : ℕ) (transaction : Transaction) (its_call : TxnCall)
     → length (called setting life transaction its_call).commits ≤ 1
@@ -133,21 +127,8 @@ few_commits setting life transaction its_call = by_quiet (quiet_or_commit settin
 
     by_quiet : (IsQuiet (called setting life transaction its_call)) ⊎ (its_call ≡ call.Commit)
         → length (called setting life transaction its_call).commits ≤ 1
-    by_quiet (inl is) = none_few (called setting life transaction its_call).commits is.commits
+    by_quiet (inl is) = none_few (called setting life transaction its_call).commits is
     by_quiet (inr e) = subst (λ c. length (called setting life transaction c).commits ≤ 1) (sym e) (commit_commits setting life transaction)
-
-pub few_lives : (setting : Setting) (life : ℕ) (transaction : Transaction) (its_call : TxnCall)
-    → (called setting life transaction its_call).lives ≤ 1
-few_lives setting life transaction its_call = by_quiet (quiet_or_commit setting life transaction its_call)
-  where
-    none_few : (n : ℕ) → n ≡ 0 → n ≤ 1
-    none_few n e = omega arith
-
-    by_quiet : (IsQuiet (called setting life transaction its_call)) ⊎ (its_call ≡ call.Commit)
-        → (called setting life transaction its_call).lives ≤ 1
-    by_quiet (inl is) = is.lives
-    by_quiet (inr e) =
-        subst (λ c. (called setting life transaction c).lives ≤ 1) (sym e) (none_few _ (commit_lives setting life transaction))
 
 -- a transaction without a mutation commits nothing
 empty_commits : (setting : Setting) (life n : ℕ) → (called setting life (with_version setting (fresh n)) call.Commit).commits ≡ []
@@ -161,7 +142,7 @@ first_commits setting life n its_call = by_quiet (quiet_or_commit setting life (
   where
     by_quiet : (IsQuiet (called setting life (with_version setting (fresh n)) its_call)) ⊎ (its_call ≡ call.Commit)
         → (called setting life (with_version setting (fresh n)) its_call).commits ≡ []
-    by_quiet (inl is) = is.commits
+    by_quiet (inl is) = is
     by_quiet (inr e) = ap (λ c. (called setting life (with_version setting (fresh n)) c).commits) e ∙ empty_commits setting life n
 
 -- ---- writes one after the other

@@ -1,141 +1,128 @@
 -- Calls on a transaction of its own, which is then committed.
-use Rattle.std.proofs.Common.{◌≡◌, ℕ, ◌+◌, ◌-◌, ◌^◌, ◌<◌, ◌≤◌, true, false, cond, List, [], ◌++◌, sym, ap, subst, ◌∙◌, add-zero, arith}
+use Rattle.std.proofs.Common.{◌≡◌, ℕ, ◌+◌, ◌^◌, ◌<◌, ◌≤◌, true, false, cond, List, [], ◌++◌, length, sym, ap, subst, ◌∙◌, length-append, arith}
 use Rattle.std.proofs.lemmas.List.{append-nil}
+use Rattle.std.specs.Prelude.{Option}
+use Rattle.fdb_calls.specs.declared.Outcome.{Outcome}
 use Rattle.fdb_calls.specs.declared.Reply.{Reply}
 use Rattle.fdb_calls.specs.declared.TxnCall.{TxnCall}
 use Rattle.fdb_calls.specs.declared.TxnCall.TheVariants as call
-use Rattle.database_rules.specs.Histories.{History, Setting}
+use Rattle.database_rules.specs.Histories.{History, Commit, Setting, grown_by, last}
 use Rattle.database_rules.specs.Transactions.{Transaction, fresh, with_version}
-use Rattle.fdb_calls.specs.Calling.{Called, called, is_fault, in_turn, logs}
-use Rattle.machine_rules.specs.Worlds.{World, fresh_at_last, and_commit}
-use Rattle.version_store.specs.Versions.{last_of}
+use Rattle.fdb_calls.specs.Calling.{Called, called, is_fault}
+use Rattle.edge_map.specs.Edges.{Edges}
+use Rattle.machine_rules.specs.Worlds.{World, next_life, decide, with_lives, called_apart, commit_made, database_by, fresh_at_last}
+use Rattle.version_store.specs.Versions.{Versions, last_of}
 use Rattle.txn_core.specs.Stands as txn
-use Rattle.client_core.specs.Stands.{CoreModel, StandsFor}
-use Rattle.client_core.specs.Sound.{Took, TookApart, FirstTook, IsSound}
-use Rattle.client_core.proofs.Calls.{first_commits, commit_lives, few_lives, logs_in_place}
+use Rattle.txn_core.specs.declared.answer.Answer.{Answer}
+use Rattle.client_core.specs.Lives.{drawn_in, outcome_by}
+use Rattle.client_core.specs.Stands.{CoreModel, KeptTransactions, StandsFor}
+use Rattle.client_core.specs.Sound.{Took, TookApart, IsSound}
+use Rattle.client_core.proofs.Calls.{few_commits}
+use Rattle.client_core.proofs.Outcomes.{lives_agree}
+use Rattle.client_core.proofs.Named.{AllAlike}
 
--- one life more was drawn
-abbrev pub drawn : CoreModel → CoreModel
-drawn core = record core { next_life = core.next_life + 1 }
+-- a fresh transaction at the last version stands under no name
+pub drawn_apart : (core after : CoreModel) (world : World) (next : ℕ) (begun : txn.Kept) → next ≡ length core.lives
+    → ((setting : Setting) → txn.Keeps core.store core.index setting → txn.StandsFor begun (with_version setting (fresh next)))
+    → after.store ≡ core.store → after.index ≡ core.index → after.transactions ≡ core.transactions → after.lives ≡ with_lives core.lives 1
+    → StandsFor core world → txn.StandsFor begun (fresh_at_last world) × StandsFor after (drawn_in world)
+drawn_apart core after world next begun counted fresh_one store index transactions lives stands = (
+  subst (λ n. txn.StandsFor begun (with_version world.setting (fresh n))) (counted ∙ ap length stands.lives) (fresh_one world.setting stands.keeps),
+  record {
+    keeps = subst (λ (both : Versions × Edges ℕ). txn.Keeps both.0 both.1 world.setting) (λ i. (sym store i, sym index i)) stands.keeps;
+    transactions = subst (λ (m : KeptTransactions). AllAlike m world.transactions) (sym transactions) stands.transactions;
+    lives = lives ∙ ap (λ kept. with_lives kept 1) stands.lives;
+  },
+)
 
--- what a first call leaves of a transaction of its own
-abbrev pub first_called : World → TxnCall → Called
-first_called world its_call = called world.setting (world.next_life + 1) (fresh_at_last world) its_call
+-- a core that keeps what a call on such a transaction leaves
+pub apart_stands : (core after : CoreModel) (world : World) (life drew : ℕ) (outcome : Option Outcome) (left : txn.Kept)
+    (before : Transaction) (made : Called)
+    → StandsFor core world → txn.Keeps after.store after.index (grown_by world.setting made.commits) → after.transactions ≡ core.transactions
+    → after.lives ≡ decide life outcome (with_lives core.lives drew) → outcome ≡ outcome_by life left.life left.phase
+    → life ≡ before.life → drew ≡ made.lives → txn.StandsFor left made.transaction → StandsFor after (called_apart world before made)
+apart_stands core after world life drew outcome left before made stands keeps transactions lives becomes is counted left_stands = record {
+  keeps = keeps;
+  transactions = subst (λ (m : KeptTransactions). AllAlike m world.transactions) (sym transactions) stands.transactions;
+  lives = lives ∙ lives_agree core.lives world.lives life drew made.lives outcome left before made.transaction stands.lives counted is becomes left_stands;
+}
 
--- what the writes of entries leave of one
-abbrev pub first_logged : World → List ℕ → List (List ℕ × List ℕ) → Called
-first_logged world prefix entries = in_turn (logs prefix entries) (fresh_at_last world)
-
--- each transaction for which this one stands is called as the rule says
-abbrev pub CallsApart : txn.Kept → CoreModel → TxnCall → Reply → txn.Kept → CoreModel → Type 0
-CallsApart begun core its_call reply left after =
-    (transaction : Transaction) (world : World) → txn.StandsFor begun transaction → StandsFor core world
-    → TookApart reply left after world (called world.setting world.next_life transaction its_call)
-
--- a fresh transaction at the last version of each history
-abbrev pub IsAtLast : txn.Kept → CoreModel → Type 0
-IsAtLast begun core = (setting : Setting) → txn.Keeps core.store core.index setting → txn.StandsFor begun (with_version setting (fresh core.next_life))
-
-begun_stands : (core : CoreModel) (world : World) (begun : txn.Kept) → IsAtLast begun core → StandsFor core world
-    → txn.StandsFor begun (fresh_at_last world)
-begun_stands core world begun fresh_one stands =
-    subst (λ n. txn.StandsFor begun (with_version world.setting (fresh n))) stands.next_life (fresh_one world.setting stands.keeps)
-
--- nothing more is committed where a call commits nothing
-same_setting : (after : CoreModel) (world : World) (made : Called) (lives : ℕ) → made.commits ≡ []
-    → StandsFor after (record world { setting = record world.setting { history = world.setting.history ++ made.commits }; next_life = lives })
-    → StandsFor after (record world { next_life = lives })
-same_setting after world made lives none stands =
-    subst (λ (h : History). StandsFor after (record world { setting = record world.setting { history = h }; next_life = lives }))
-    (ap (λ cs. world.setting.history ++ cs) none ∙ append-nil world.setting.history) stands
-
-pub first_took : (core after : CoreModel) (world : World) (its_call : TxnCall) (begun left : txn.Kept) (reply : Reply)
-    → IsAtLast begun core
-    → CallsApart begun (drawn core) its_call reply left after → StandsFor core world → FirstTook reply left after world (first_called world its_call)
-first_took core after world its_call begun left reply fresh_one calls stands =
-    let told = calls (fresh_at_last world) (record world { next_life = world.next_life + 1 }) (begun_stands core world begun fresh_one stands)
-    (record { keeps = stands.keeps; transactions = stands.transactions; next_life = ap (λ n. n + 1) stands.next_life }) in
+-- a call on it
+pub apart_took : (core after : CoreModel) (world : World) (its_call : TxnCall) (next life : ℕ) (outcome : Option Outcome)
+    (before left : txn.Kept) (answer : Answer) (t : Transaction)
+    → next ≡ length core.lives
+    → ((setting : Setting) → txn.Keeps core.store core.index setting
+    → txn.Answers answer left after.store after.index setting (called setting next t its_call))
+    → after.transactions ≡ core.transactions
+    → life ≡ before.life → outcome ≡ outcome_by life left.life left.phase
+    → after.lives ≡ decide life outcome (with_lives core.lives (cond answer.drew_life 1 0))
+    → txn.StandsFor before t → StandsFor core world
+    → TookApart answer.reply left after world t (called world.setting (next_life world) t its_call)
+apart_took core after world its_call next life outcome before left answer t counted answers transactions is becomes lives stood stands =
+    let made = called world.setting (next_life world) t its_call in
+    let told : txn.Answers answer left after.store after.index world.setting made =
+    subst (λ n. txn.Answers answer left after.store after.index world.setting (called world.setting n t its_call)) (counted ∙ ap length stands.lives)
+    (answers world.setting stands.keeps) in
     record {
-      reply_is = told.reply_is;
+      reply_is = told.reply;
       stands = told.stands;
-      world_stands = same_setting after world (first_called world its_call) (world.next_life + 1 + (first_called world its_call).lives)
-          (first_commits world.setting (world.next_life + 1) world.next_life its_call) told.world_stands;
+      world_stands = apart_stands core after world life (cond answer.drew_life 1 0) outcome left t made stands told.keeps transactions lives
+          becomes (is ∙ stood.life) told.lives told.stands;
     }
 
--- writes of entries change nothing of the core but that a life was drawn
-pub first_wrote : (core : CoreModel) (world : World) (prefix : List ℕ) (entries : List (List ℕ × List ℕ)) (begun left : txn.Kept) (reply : Reply)
-    → IsAtLast begun core
-    → ((t : Transaction) → txn.StandsFor begun t
-    → (reply ≡ (in_turn (logs prefix entries) t).reply) × txn.StandsFor left (in_turn (logs prefix entries) t).transaction)
-    → StandsFor core world → FirstTook reply left (drawn core) world (first_logged world prefix entries)
-first_wrote core world prefix entries begun left reply fresh_one writes stands =
-    let told = writes (fresh_at_last world) (begun_stands core world begun fresh_one stands) in
-    record {
-      reply_is = told.0;
-      stands = told.1;
-      world_stands = record {
-        keeps = stands.keeps;
-        transactions = stands.transactions;
-        next_life = ap (λ n. n + 1) stands.next_life
-            ∙ sym (ap (λ n. world.next_life + 1 + n) (logs_in_place prefix entries (fresh_at_last world)).lives ∙ add-zero (world.next_life + 1));
-      };
-    }
+-- writes of entries on it change nothing of the core
+pub logged_apart : (core after : CoreModel) (world : World) (life : ℕ) (outcome : Option Outcome) (left : txn.Kept)
+    (before : Transaction) (made : Called)
+    → StandsFor core world → made.commits ≡ [] → made.lives ≡ 0 → after.store ≡ core.store → after.index ≡ core.index
+    → after.transactions ≡ core.transactions
+    → after.lives ≡ decide life outcome (with_lives core.lives 0) → outcome ≡ outcome_by life left.life left.phase
+    → life ≡ before.life → txn.StandsFor left made.transaction → StandsFor after (called_apart world before made)
+logged_apart core after world life outcome left before made stands none no_life store index transactions lives becomes is left_stands =
+    apart_stands core after world life 0 outcome left before made stands
+    (subst (λ (h : History). txn.Keeps after.store after.index (record world.setting { history = h }))
+    (sym (ap (λ commits. world.setting.history ++ commits) none ∙ append-nil world.setting.history))
+    (subst (λ (both : Versions × Edges ℕ). txn.Keeps both.0 both.1 world.setting) (λ i. (sym store i, sym index i)) stands.keeps))
+    transactions lives becomes is (sym no_life) left_stands
+
+-- a core that is sound has a version to spare
+pub few_at : (core : CoreModel) (last_version : ℕ) → IsSound core (2 ^ 62) → last_version ≡ last_of core.store → last_version + 1 < 2 ^ 63
+few_at core last_version sound same = bounded _ _ _ same sound.stands.keeps.last_is sound.few_commits
+  where
+    bounded : (a b c : ℕ) → a ≡ b → b ≡ c → c ≤ 2 ^ 62 → a + 1 < 2 ^ 63
+    bounded a b c one other h = omega arith
 
 -- where the calls were refused, nothing is committed
-pub refused_took : (after : CoreModel) (world : World) (made : Called) (left : txn.Kept) (reply : Reply)
-    → FirstTook reply left after world made → is_fault reply ≡ true
-    → Took reply after (and_commit world made)
-refused_took after world made left reply first fault =
-    let second = called world.setting (world.next_life + 1 + made.lives) made.transaction call.Commit in
-    let refused : is_fault made.reply ≡ true = ap is_fault (sym first.reply_is) ∙ fault in
-    record {
-      reply_is = first.reply_is ∙ ap (λ b. cond b made.reply (cond (is_fault second.reply) second.reply made.reply)) (sym refused);
-      stands = subst (λ (h : History). StandsFor after (record world { setting = record world.setting { history = h }; next_life = world.next_life + 1 + made.lives }))
-          (sym (ap (λ b. world.setting.history ++ cond b [] second.commits) refused ∙ append-nil world.setting.history)) first.world_stands;
-    }
+pub refused_took : (core : CoreModel) (world : World) (made : Called) (reply : Reply) → reply ≡ made.reply → StandsFor core world
+    → is_fault reply ≡ true → Took reply core (commit_made world made)
+refused_took core world made reply same stands fault =
+    subst (λ b. Took reply core (database_by b world made (called world.setting (next_life world) made.transaction call.Commit)))
+    (sym (ap is_fault (sym same) ∙ fault)) (record { reply_is = same; stands = stands })
 
 -- otherwise the commit follows
-pub committed_took : (middle after : CoreModel) (world : World) (made : Called) (between left : txn.Kept) (reply committed : Reply)
-    → FirstTook reply between middle world made
-    → is_fault reply ≡ false → CallsApart between middle call.Commit committed left after
-    → Took (cond (is_fault committed) committed reply) after (and_commit world made)
-committed_took middle after world made between left reply committed first fine calls =
-    let told = calls made.transaction (record world { next_life = world.next_life + 1 + made.lives }) first.stands first.world_stands in
-    let second = called world.setting (world.next_life + 1 + made.lives) made.transaction call.Commit in
-    let accepted : is_fault made.reply ≡ false = ap is_fault (sym first.reply_is) ∙ fine in
-    let counted : world.next_life + 1 + made.lives + second.lives ≡ world.next_life + 1 + made.lives =
-    ap (λ n. world.next_life + 1 + made.lives + n) (commit_lives world.setting (world.next_life + 1 + made.lives) made.transaction)
-    ∙ add-zero (world.next_life + 1 + made.lives) in
-    record {
-      reply_is = (λ i. cond (is_fault (told.reply_is i)) (told.reply_is i) (first.reply_is i))
-          ∙ ap (λ b. cond b made.reply (cond (is_fault second.reply) second.reply made.reply)) (sym accepted);
-      stands = subst (λ (h : History). StandsFor after (record world { setting = record world.setting { history = h }; next_life = world.next_life + 1 + made.lives }))
-          (sym (ap (λ b. world.setting.history ++ cond b [] second.commits) accepted))
-          (subst (λ n. StandsFor after (record world { setting = record world.setting { history = world.setting.history ++ second.commits }; next_life = n })) counted
-          told.world_stands);
-    }
+pub committed_took : (after : CoreModel) (world : World) (made : Called) (left : txn.Kept) (reply committed : Reply)
+    → reply ≡ made.reply → is_fault reply ≡ false
+    → TookApart committed left after world made.transaction (called world.setting (next_life world) made.transaction call.Commit)
+    → Took (cond (is_fault committed) committed reply) after (commit_made world made)
+committed_took after world made left reply committed same fine told =
+    subst
+    (λ b. Took (cond (is_fault committed) committed reply) after
+    (database_by b world made (called world.setting (next_life world) made.transaction call.Commit)))
+    (sym (ap is_fault (sym same) ∙ fine))
+    (record { reply_is = λ i. cond (is_fault (told.reply_is i)) (told.reply_is i) (same i); stands = told.world_stands })
 
--- after the first calls the store has a version to spare, and there is a life to spare
-pub few_between : (core after : CoreModel) (made : World → Called) (left : txn.Kept) (reply : Reply)
-    → ((world : World) → StandsFor core world → FirstTook reply left after world (made world)) → ((world : World) → (made world).lives ≤ 1)
-    → IsSound core (2 ^ 62) (2 ^ 63) → (last_of after.store + 1 < 2 ^ 63) × (after.next_life < 2 ^ 64 - 1)
-few_between core after made left reply took few sound =
-    let first = (took sound.world sound.stands).world_stands in (
-      bounded_commits _ _ first.keeps.last_is sound.few_commits,
-      bounded_lives _ _ _ first.next_life sound.few_lives (few sound.world),
-    )
+-- after a first call the store has a version to spare
+pub few_between : (core after : CoreModel) (left : txn.Kept) (reply : Reply) (its_call : TxnCall) (before : World → Transaction)
+    (between : World → World)
+    → ((world : World) → StandsFor core world → TookApart reply left after (between world) (before world)
+    (called (between world).setting (next_life (between world)) (before world) its_call))
+    → ((world : World) → last (between world).setting.history ≡ last world.setting.history)
+    → IsSound core (2 ^ 62) → last_of after.store + 1 < 2 ^ 63
+few_between core after left reply its_call before between took same sound =
+    let world = between sound.world in
+    let told = took sound.world sound.stands in
+    let made = called world.setting (next_life world) (before sound.world) its_call in
+    bounded _ _ _ _ (told.world_stands.keeps.last_is ∙ length-append world.setting.history made.commits)
+    (few_commits world.setting (next_life world) (before sound.world) its_call) (same sound.world) sound.few_commits
   where
-    bounded_commits : (a b : ℕ) → a ≡ b → b ≤ 2 ^ 62 → a + 1 < 2 ^ 63
-    bounded_commits a b e h = omega arith
-
-    bounded_lives : (a b n : ℕ) → a ≡ b + 1 + n → b ≤ 2 ^ 63 → n ≤ 1 → a < 2 ^ 64 - 1
-    bounded_lives a b n e h few = omega arith
-
-pub first_called_lives : (world : World) (its_call : TxnCall) → (first_called world its_call).lives ≤ 1
-first_called_lives world its_call = few_lives world.setting (world.next_life + 1) (fresh_at_last world) its_call
-
-pub first_logged_lives : (world : World) (prefix : List ℕ) (entries : List (List ℕ × List ℕ)) → (first_logged world prefix entries).lives ≤ 1
-first_logged_lives world prefix entries = none_few _ (logs_in_place prefix entries (fresh_at_last world)).lives
-  where
-    none_few : (n : ℕ) → n ≡ 0 → n ≤ 1
-    none_few n e = omega arith
+    bounded : (a b n c : ℕ) → a ≡ b + n → n ≤ 1 → b ≡ c → c ≤ 2 ^ 62 → a + 1 < 2 ^ 63
+    bounded a b n c e few same h = omega arith

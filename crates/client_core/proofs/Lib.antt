@@ -3,3 +3,4 @@ pub mod Calls
 pub mod Databases
 pub mod Steps
 pub mod Loads
+pub mod Outcomes

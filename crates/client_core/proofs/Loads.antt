@@ -26,9 +26,9 @@ first_kept store index pairs last empty first unwritten = record { last_is = las
 
 -- a store of the first version, and no transaction, stand for the beginning
 pub begun_stands : (core : CoreModel) (pairs : List (List ℕ × List ℕ)) (words : ℕ → ℕ) → Keeps core.store core.index (record { history = loaded pairs ∷ [] })
-    → core.transactions ≡ finite.empty → core.next_life ≡ 0
+    → core.transactions ≡ finite.empty → core.lives ≡ []
     → StandsFor core (begun pairs words)
-begun_stands core pairs words keeps none life = record {
+begun_stands core pairs words keeps none lives = record {
   keeps = keeps;
   transactions = λ name.
       let nothing = finite.get-empty key_cmp name in
@@ -36,5 +36,5 @@ begun_stands core pairs words keeps none life = record {
       subst (λ (m : KeptTransactions). AreAlike (finite.get m name) (finite.get (begun pairs words).transactions name)) (sym none)
       (subst (λ (o : Option Kept). AreAlike o (finite.get (begun pairs words).transactions name)) (sym nothing)
       (subst (λ (o : Option Transaction). AreAlike None o) (sym other) tt));
-  next_life = life;
+  lives = lives;
 }

@@ -1,23 +1,25 @@
 -- Transactions by their names.
-use Rattle.std.proofs.Common.{◌≡◌, ℕ, ◌+◌, Bool, true, false, cond, List, Option, Some, None, IsSome, refl, sym, ap, subst, ◌∙◌}
+use Rattle.std.proofs.Common.{◌≡◌, ℕ, ◌+◌, Bool, true, false, cond, List, length, Option, Some, None, IsSome, refl, sym, ap, subst, ◌∙◌}
 use Rattle.std.specs.Prelude.{unwrap_or, is_some}
 use Rattle.std.specs.FinMap as finite
 use Rattle.std.specs.Ordering.{eq_by_cmp}
 use Rattle.std.specs.Cmp.{eq_by_cmp_equiv}
 use Rattle.std.specs.Cmp.Lexicographic.{nat_list_cmp_total}
-use mir.Val.{bool_byte}
 use Rattle.fdb_calls.specs.declared.TxnCall.{TxnCall}
 use Rattle.key_bytes.specs.Keys.{key_cmp}
 use Rattle.database_rules.specs.Histories.{Setting}
 use Rattle.database_rules.specs.Transactions.{Transaction, fresh}
+use Rattle.fdb_calls.specs.declared.Outcome.{Outcome}
 use Rattle.fdb_calls.specs.Calling.{called}
-use Rattle.machine_rules.specs.Worlds.{World, Transactions, transaction_of, call_named, with_new, with_named}
+use Rattle.machine_rules.specs.Worlds.{World, Transactions, next_life, decide, with_lives, transaction_of, call_named, with_new, with_named}
 use Rattle.edge_map.specs.Edges.{Edges}
 use Rattle.version_store.specs.Versions.{Versions}
 use Rattle.txn_core.specs.Stands as txn
 use Rattle.txn_core.specs.declared.answer.Answer.{Answer}
 use Rattle.client_core.specs.Stands.{CoreModel, KeptTransactions, StandsFor, AreAlike}
+use Rattle.client_core.specs.Lives.{life_of, outcome_by}
 use Rattle.client_core.specs.Sound.{Took}
+use Rattle.client_core.proofs.Outcomes.{life_found, lives_agree}
 
 same_key : (name : List ℕ) → eq_by_cmp key_cmp name name ≡ true
 same_key name = (eq_by_cmp_equiv nat_list_cmp_total).refl name
@@ -46,17 +48,25 @@ alike_inserted m w name kept transaction stands alike = λ q.
     (sym (finite.get-insert nat_list_cmp_total w name transaction q)) both)
 
 -- a transaction of a new life under a name
-pub new_stands : (core : CoreModel) (world : World) (name : List ℕ) (kept : txn.Kept) (after : CoreModel) → StandsFor core world
-    → txn.StandsFor kept (fresh core.next_life)
-    → after.store ≡ core.store → after.index ≡ core.index → after.transactions ≡ finite.insert core.transactions name kept → after.next_life ≡ core.next_life + 1 →
-    StandsFor after (with_new world name)
-new_stands core world name kept after stands fresh_one store index transactions next_life = record {
-  keeps = subst (λ (both : Versions × Edges ℕ). txn.Keeps both.0 both.1 world.setting) (λ i. (sym store i, sym index i)) stands.keeps;
-  transactions = subst (λ (m : KeptTransactions). AllAlike m (finite.insert world.transactions name (fresh world.next_life))) (sym transactions)
-      (alike_inserted core.transactions world.transactions name kept (fresh world.next_life)
-      (subst (λ n. txn.StandsFor kept (fresh n)) stands.next_life fresh_one) stands.transactions);
-  next_life = next_life ∙ ap (λ n. n + 1) stands.next_life;
-}
+pub new_stands : (core after : CoreModel) (world : World) (name : List ℕ) (next life : ℕ) (outcome : Option Outcome) (kept : txn.Kept)
+    → StandsFor core world → next ≡ length core.lives → txn.StandsFor kept (fresh next)
+    → after.store ≡ core.store → after.index ≡ core.index → after.transactions ≡ finite.insert core.transactions name kept
+    → life ≡ life_of core.transactions name (length core.lives) → outcome ≡ outcome_by life kept.life kept.phase
+    → after.lives ≡ decide life outcome (with_lives core.lives 1)
+    → StandsFor after (with_new world name)
+new_stands core after world name next life outcome kept stands counted fresh_one store index transactions is becomes lives =
+    let fresh_there : txn.StandsFor kept (fresh (next_life world)) =
+    subst (λ n. txn.StandsFor kept (fresh n)) (counted ∙ ap length stands.lives) fresh_one in
+    record {
+      keeps = subst (λ (both : Versions × Edges ℕ). txn.Keeps both.0 both.1 world.setting) (λ i. (sym store i, sym index i)) stands.keeps;
+      transactions = subst (λ (m : KeptTransactions). AllAlike m (finite.insert world.transactions name (fresh (next_life world)))) (sym transactions)
+          (alike_inserted core.transactions world.transactions name kept (fresh (next_life world)) fresh_there stands.transactions);
+      lives = lives
+          ∙ lives_agree core.lives world.lives life 1 1 outcome kept (transaction_of world name) (fresh (next_life world)) stands.lives refl
+          (is ∙ life_found (finite.get core.transactions name) (finite.get world.transactions name) (length core.lives) (next_life world)
+          (stands.transactions name) (ap length stands.lives))
+          becomes fresh_there;
+    }
 
 -- alike transactions are there in both or in none
 pub alike_there : (x : Option txn.Kept) (y : Option Transaction) → AreAlike x y → is_some x ≡ is_some y
@@ -85,30 +95,30 @@ found_stands kept fresh_one None y e alike = absurd cc
 found_stands kept fresh_one (Some x) None e alike = absurd alike
 found_stands kept fresh_one (Some x) (Some y) e alike = subst (λ k. txn.StandsFor k y) (let same : x ≡ kept = cc in same) alike
 
--- the byte of whether a life was drawn, as a number of lives
-pub byte_counts : (drew : Bool) → bool_byte drew ≡ cond drew 1 0
-byte_counts true = refl
-byte_counts false = refl
-
 -- a call on the transaction of a name, which is there, is the call of the step
-pub named_took : (core after : CoreModel) (world : World) (name : List ℕ) (call : TxnCall) (before left : txn.Kept) (answer : Answer)
-    → finite.get core.transactions name ≡ Some before
-    →
-    ((transaction : Transaction) (setting : Setting) → txn.StandsFor before transaction → txn.Keeps core.store core.index setting → txn.Answers
-    answer left after.store after.index setting (called setting core.next_life transaction call))
-    → after.transactions ≡ finite.insert core.transactions name left → after.next_life ≡ core.next_life + cond answer.drew_life 1 0
+pub named_took : (core after : CoreModel) (world : World) (name : List ℕ) (call : TxnCall) (next life : ℕ) (outcome : Option Outcome)
+    (before left : txn.Kept) (answer : Answer)
+    → finite.get core.transactions name ≡ Some before → next ≡ length core.lives
+    → ((transaction : Transaction) (setting : Setting) → txn.StandsFor before transaction → txn.Keeps core.store core.index setting
+    → txn.Answers answer left after.store after.index setting (called setting next transaction call))
+    → after.transactions ≡ finite.insert core.transactions name left
+    → life ≡ before.life → outcome ≡ outcome_by life left.life left.phase
+    → after.lives ≡ decide life outcome (with_lives core.lives (cond answer.drew_life 1 0))
     → StandsFor core world → Took answer.reply after (call_named world name call)
-named_took core after world name call before left answer found answers transactions next_life stands =
+named_took core after world name call next life outcome before left answer found counted answers transactions is becomes lives stands =
     let its = transaction_of world name in
-    let stood = found_stands before (fresh world.next_life) (finite.get core.transactions name) (finite.get world.transactions name) found (stands.transactions name) in
-    let told = subst (λ n. txn.Answers answer left after.store after.index world.setting (called world.setting n its call)) stands.next_life (answers its world.setting stood stands.keeps) in
-    let made = called world.setting world.next_life its call in
+    let stood = found_stands before (fresh (next_life world)) (finite.get core.transactions name) (finite.get world.transactions name) found (stands.transactions name) in
+    let told = subst (λ n. txn.Answers answer left after.store after.index world.setting (called world.setting n its call)) (counted ∙ ap length stands.lives)
+    (answers its world.setting stood stands.keeps) in
+    let made = called world.setting (next_life world) its call in
     record {
       reply_is = told.reply;
       stands = record {
         keeps = told.keeps;
         transactions = subst (λ (m : KeptTransactions). AllAlike m (finite.insert world.transactions name made.transaction)) (sym transactions)
             (alike_inserted core.transactions world.transactions name left made.transaction told.stands stands.transactions);
-        next_life = next_life ∙ (λ i. stands.next_life i + told.lives i);
+        lives = lives
+            ∙ lives_agree core.lives world.lives life (cond answer.drew_life 1 0) made.lives outcome left its made.transaction stands.lives
+            told.lives (is ∙ stood.life) becomes told.stands;
       };
     }

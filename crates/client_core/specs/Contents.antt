@@ -4,4 +4,4 @@ use Rattle.client_core.specs.Stands.{CoreModel}
 
 abbrev pub model_of : Contents → CoreModel
 model_of contents =
-    record { store = contents.store; index = contents.index; transactions = contents.transactions; next_life = contents.next_life; applied = contents.applied }
+    record { store = contents.store; index = contents.index; transactions = contents.transactions; lives = contents.lives; applied = contents.applied }

@@ -1,3 +1,4 @@
 pub mod Stands
 pub mod Sound
 pub mod Contents
+pub mod Lives

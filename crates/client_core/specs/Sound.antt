@@ -1,38 +1,32 @@
 -- What holds of a core while memory never ran out.
-use Rattle.std.specs.Prelude.{◌≡◌, ℕ, ◌+◌, ◌≤◌, Result, Ok, Err}
+use Rattle.std.specs.Prelude.{◌≡◌, ℕ, ◌≤◌, Result, Ok, Err}
 use Rattle.fdb_calls.specs.declared.fault.TrFault.{TrFault}
 use Rattle.fdb_calls.specs.declared.fault.TrFault.TheVariants as fault
 use Rattle.fdb_calls.specs.declared.Reply.{Reply}
 use Rattle.fdb_calls.specs.declared.Reply.TheVariants as reply
-use Rattle.database_rules.specs.Histories.{last, grown_by}
+use Rattle.database_rules.specs.Histories.{last}
+use Rattle.database_rules.specs.Transactions.{Transaction}
 use Rattle.fdb_calls.specs.Calling.{Called}
-use Rattle.machine_rules.specs.Worlds.{World, Stepped}
+use Rattle.machine_rules.specs.Worlds.{World, Stepped, called_apart}
 use Rattle.txn_core.specs.Stands as txn
 use Rattle.client_core.specs.Stands.{CoreModel, StandsFor}
 
--- A core stands for some world, whose history has at most this many commits. Each request draws two lives at most.
-pub record IsSound (core : CoreModel) (commits lives : ℕ) : Type 0 where
+-- A core stands for some world, whose history has at most this many commits.
+pub record IsSound (core : CoreModel) (commits : ℕ) : Type 0 where
   pub world : World
   pub stands : StandsFor core world
   pub few_commits : last world.setting.history ≤ commits
-  pub few_lives : world.next_life ≤ lives
 
 -- the reply is that of a step, and the core stands for its world
 pub record Took (reply : Reply) (core : CoreModel) (stepped : Stepped) : Type 0 where
   pub reply_is : reply ≡ stepped.reply
   pub stands : StandsFor core stepped.world
 
--- the same of a call on a transaction that stands under no name
-pub record TookApart (reply : Reply) (kept : txn.Kept) (core : CoreModel) (world : World) (called : Called) : Type 0 where
+-- the same of a call on a transaction that stands under no name, which was this one before
+pub record TookApart (reply : Reply) (kept : txn.Kept) (core : CoreModel) (world : World) (before : Transaction) (called : Called) : Type 0 where
   pub reply_is : reply ≡ called.reply
   pub stands : txn.StandsFor kept called.transaction
-  pub world_stands : StandsFor core (record world { setting = grown_by world.setting called.commits; next_life = world.next_life + called.lives })
-
--- the same of the first calls on a transaction of its own, which draw a life before, and commit nothing
-pub record FirstTook (reply : Reply) (kept : txn.Kept) (core : CoreModel) (world : World) (called : Called) : Type 0 where
-  pub reply_is : reply ≡ called.reply
-  pub stands : txn.StandsFor kept called.transaction
-  pub world_stands : StandsFor core (record world { next_life = world.next_life + 1 + called.lives })
+  pub world_stands : StandsFor core (called_apart world before called)
 
 -- writes are replied to as they were answered
 abbrev pub Replies : {A : Type 0} → Result A TrFault → Reply → Type 0

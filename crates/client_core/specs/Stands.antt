@@ -1,6 +1,7 @@
 -- What a core stands for.
 use Rattle.std.specs.Prelude.{◌≡◌, ℕ, ⊤, List, Option, Some, None}
 use Rattle.std.specs.FinMap as finite
+use Rattle.fdb_calls.specs.declared.Outcome.{Outcome}
 use Rattle.fdb_calls.specs.declared.Reply.{Reply}
 use Rattle.fdb_calls.specs.declared.Reply.TheVariants as reply
 use Rattle.key_bytes.specs.Keys.{key_cmp}
@@ -14,13 +15,13 @@ use Rattle.txn_core.specs.Stands as txn
 abbrev pub KeptTransactions : Type 0
 KeptTransactions = finite.FinMap key_cmp txn.Kept
 
--- what a core keeps: the store of its versions, the index of what commits declared to write, the transactions by name, the
--- number of the next life, and how many requests it took
+-- what a core keeps: the store of its versions, the index of what commits declared to write, the transactions by name,
+-- what became of each life that was drawn, and how many requests it took
 pub record CoreModel : Type 0 where
   pub store : Versions
   pub index : Edges ℕ
   pub transactions : KeptTransactions
-  pub next_life : ℕ
+  pub lives : List (Option Outcome)
   pub applied : ℕ
 
 -- both are none, or the first stands for the second
@@ -30,12 +31,12 @@ AreAlike None (Some transaction) = ⊥
 AreAlike (Some kept) None = ⊥
 AreAlike (Some kept) (Some transaction) = txn.StandsFor kept transaction
 
--- A core stands for each world whose history its store and its index keep, which has the number of its next life, and in which each
--- name has a transaction that the core's stands for, or none where the core has none.
+-- A core stands for each world whose history its store and its index keep, in which the same became of each life, and in
+-- which each name has a transaction that the core's stands for, or none where the core has none.
 pub record StandsFor (core : CoreModel) (world : World) : Type 0 where
   pub keeps : txn.Keeps core.store core.index world.setting
   pub transactions : (name : List ℕ) → AreAlike (finite.get core.transactions name) (finite.get world.transactions name)
-  pub next_life : core.next_life ≡ world.next_life
+  pub lives : core.lives ≡ world.lives
 
 -- the reply is that of a step, the core stands for its world, and the words still to come are that world's; or memory ran
 -- out, and nothing is said of the core and of the words
@@ -51,6 +52,9 @@ Answers (reply.Version version) core words stepped =
     (stepped.reply ≡ reply.Version version) × StandsFor core stepped.world × HasWords stepped.world words
 Answers (reply.Life life) core words stepped =
     (stepped.reply ≡ reply.Life life) × StandsFor core stepped.world × HasWords stepped.world words
+Answers (reply.Stamp stamp) core words stepped =
+    (stepped.reply ≡ reply.Stamp stamp) × StandsFor core stepped.world × HasWords stepped.world words
+Answers reply.NotYet core words stepped = (stepped.reply ≡ reply.NotYet) × StandsFor core stepped.world × HasWords stepped.world words
 Answers (reply.Fault code) core words stepped =
     (stepped.reply ≡ reply.Fault code) × StandsFor core stepped.world × HasWords stepped.world words
 Answers reply.NoMemory core words stepped = ⊤

@@ -1,20 +1,22 @@
 //! What a core keeps, and what a request does to it.
 
-ghost use Rattle.std.specs.Prelude.{◌≡◌, ◌+◌, ◌-◌, ◌<◌, ◌≤◌, ◌^◌, if◌then◌else◌, IsSome, IfOk, OnOk};
+ghost use Rattle.std.specs.Prelude.{◌≡◌, ◌+◌, ◌<◌, ◌^◌, ◌∷◌, [], None, unwrap_or, option_map, if◌then◌else◌, length, slice_index_or, IsSome, IfOk, OnOk};
 ghost use Rattle.std.specs.FinMap as finite;
 ghost use Rattle.database_rules.specs.Transactions.{Transaction};
 ghost use Rattle.fdb_calls.specs.declared.Request.TheVariants.{Database, Log};
 ghost use Rattle.fdb_calls.specs.declared.Reply.TheVariants.{Done};
 ghost use Rattle.fdb_calls.specs.Calling.{Called, called, is_fault};
-ghost use Rattle.machine_rules.specs.Worlds.{World, with_new, with_named, call_named, and_commit, step};
+ghost use Rattle.machine_rules.specs.Worlds.{World, with_new, with_named, call_named, commit_made, fresh_at_last, next_life, promised, step};
+ghost use Rattle.client_core.specs.Lives.{drawn_in, life_of};
 ghost use Rattle.version_store.specs.Versions.{last_of};
 ghost use Rattle.client_core.specs.Stands.{StandsFor};
 ghost use Rattle.txn_core.specs.Stands as txn;
-ghost use Rattle.client_core.specs.Sound.{IsSound, Took, TookApart, FirstTook, Replies};
+ghost use Rattle.client_core.specs.Sound.{IsSound, Took, TookApart, Replies};
 ghost use Rattle.client_core.specs.Contents.{model_of};
 
+use crate::lives::{Lives, outcome_after};
 use conflict_ranges::WriteIndex;
-use fdb_calls::{Reply, Request, TrFault, TxnCall};
+use fdb_calls::{Outcome, Reply, Request, TrFault, TxnCall};
 use key_bytes::{Bytes, Pairs};
 use key_map::KeyMap;
 use std::alloc::{AllocError, Global};
@@ -28,7 +30,7 @@ pub struct Contents {
     pub store: Store,
     pub index: WriteIndex,
     pub transactions: KeyMap<Txn>,
-    pub next_life: u64,
+    pub lives: Lives,
     pub applied: u64,
 }
 
@@ -36,7 +38,7 @@ impl Contents {
     /// A request: its step in the world. It is refused for want of memory alone, and nothing is said then but how many
     /// requests were taken.
     pub fn take(&mut self, request: &Request) -> Result<Reply, AllocError>
-        requires { IsSound (model_of self.old) (2 ^ 62) (2 ^ 63) }
+        requires { IsSound (model_of self.old) (2 ^ 62) }
         ensures step { IfOk result (λ reply. (world : World) → StandsFor (model_of self.old) world
             → Took reply (model_of self.new) (step world request.now)) }
         ensures applied { self.new.applied ≡ self.old.applied }
@@ -46,35 +48,44 @@ impl Contents {
             Request::On { name, call } => self.call_made(name, call),
             Request::Database { call } => self.call_database(call),
             Request::Log { prefix, entries } => self.log(prefix, entries),
+            Request::PollStamp { life } => Ok(self.poll(*life)),
         }
     }
 
     // A transaction of a new life stands under a name, in place of the one that is there.
     fn make_new(&mut self, name: &Bytes) -> Result<Reply, AllocError>
-        requires { self.old.next_life < 2 ^ 64 - 1 }
         ensures stands { IfOk result (λ reply. (world : World) → StandsFor (model_of self.old) world
             → Took reply (model_of self.new) (record { world = with_new world name.now; reply = Done })) }
         ensures there { OnOk result (IsSome (finite.get self.new.transactions name.now)) }
         ensures store { self.new.store ≡ self.old.store }
         ensures index { self.new.index ≡ self.old.index }
-        ensures lives { OnOk result (self.new.next_life ≡ self.old.next_life + 1) }
         ensures applied { self.new.applied ≡ self.old.applied }
     {
-        let transaction = Txn::new(self.alloc, self.next_life);
+        let life = self.life_of(name);
+        let transaction = Txn::new(self.alloc, self.lives.next());
+        let outcome = outcome_after(life, &transaction);
         self.transactions.insert(name.copy()?, transaction)?;
-        self.next_life += 1;
+        self.lives.go_on(true, life, outcome)?;
         Ok(Reply::Done)
+    }
+
+    // The life of the transaction of a name; the next one where it has none.
+    fn life_of(&self, name: &Bytes) -> u64
+        ensures { result ≡ life_of self.now.transactions name.now (length self.now.lives) }
+    {
+        match self.transactions.get(name) {
+            Some(transaction) => transaction.life(),
+            None => self.lives.next(),
+        }
     }
 
     // A name that has no transaction gets one.
     fn make(&mut self, name: &Bytes) -> Result<(), AllocError>
-        requires { self.old.next_life < 2 ^ 64 - 1 }
         ensures stands { OnOk result ((world : World) → StandsFor (model_of self.old) world
             → StandsFor (model_of self.new) (with_named world name.now)) }
         ensures there { OnOk result (IsSome (finite.get self.new.transactions name.now)) }
         ensures store { self.new.store ≡ self.old.store }
         ensures index { self.new.index ≡ self.old.index }
-        ensures lives { OnOk result (self.new.next_life ≤ self.old.next_life + 1) }
         ensures applied { self.new.applied ≡ self.old.applied }
     {
         if !self.transactions.contains_key(name) {
@@ -85,7 +96,7 @@ impl Contents {
 
     // A call on the transaction of a name, which is made where the name has none.
     fn call_made(&mut self, name: &Bytes, call: &TxnCall) -> Result<Reply, AllocError>
-        requires { IsSound (model_of self.old) (2 ^ 62) (2 ^ 63) }
+        requires { IsSound (model_of self.old) (2 ^ 62) }
         ensures step { IfOk result (λ reply. (world : World) → StandsFor (model_of self.old) world
             → Took reply (model_of self.new) (call_named (with_named world name.now) name.now call.now)) }
         ensures applied { self.new.applied ≡ self.old.applied }
@@ -98,49 +109,62 @@ impl Contents {
     fn call_named(&mut self, name: &Bytes, call: &TxnCall) -> Result<Reply, AllocError>
         requires there { IsSome (finite.get self.old.transactions name.now) }
         requires few_commits { last_of self.old.store + 1 < 2 ^ 63 }
-        requires few_lives { self.old.next_life < 2 ^ 64 - 1 }
         ensures step { IfOk result (λ reply. (world : World) → StandsFor (model_of self.old) world
             → Took reply (model_of self.new) (call_named world name.now call.now)) }
         ensures applied { self.new.applied ≡ self.old.applied }
     {
         let transaction = self.transactions.get_mut(name).unwrap();
-        let answer = transaction.call(&mut self.store, &mut self.index, call, self.next_life)?;
-        self.next_life += u64::from(answer.drew_life);
+        let life = transaction.life();
+        let answer = transaction.call(&mut self.store, &mut self.index, call, self.lives.next())?;
+        let outcome = outcome_after(life, transaction);
+        self.lives.go_on(answer.drew_life, life, outcome)?;
         Ok(answer.reply)
     }
 
     // A call on a transaction of its own at the last version, which is then committed.
     fn call_database(&mut self, call: &TxnCall) -> Result<Reply, AllocError>
-        requires { IsSound (model_of self.old) (2 ^ 62) (2 ^ 63) }
+        requires { IsSound (model_of self.old) (2 ^ 62) }
         ensures step { IfOk result (λ reply. (world : World) → StandsFor (model_of self.old) world
             → Took reply (model_of self.new) (step world (Database call.now))) }
         ensures applied { self.new.applied ≡ self.old.applied }
     {
-        let mut transaction = Txn::at_last(self.alloc, self.next_life, &self.store);
-        self.next_life += 1;
+        let mut transaction = self.draw_apart()?;
         let reply = self.call_apart(&mut transaction, call)?;
         self.commit_apart(transaction, reply)
     }
 
     // Writes entries under a prefix on a transaction of its own at the last version, which is then committed.
     fn log(&mut self, prefix: &Bytes, entries: &Pairs) -> Result<Reply, AllocError>
-        requires { IsSound (model_of self.old) (2 ^ 62) (2 ^ 63) }
+        requires { IsSound (model_of self.old) (2 ^ 62) }
         ensures step { IfOk result (λ reply. (world : World) → StandsFor (model_of self.old) world
             → Took reply (model_of self.new) (step world (Log prefix.now entries.now))) }
         ensures applied { self.new.applied ≡ self.old.applied }
     {
-        let mut transaction = Txn::at_last(self.alloc, self.next_life, &self.store);
-        self.next_life += 1;
+        let mut transaction = self.draw_apart()?;
+        let life = transaction.life();
         let reply = reply_to_writes(transaction.log(prefix, entries))?;
+        self.lives
+            .go_on(false, life, outcome_after(life, &transaction))?;
         self.commit_apart(transaction, reply)
+    }
+
+    // A transaction of a new life at the last version, which stands under no name.
+    fn draw_apart(&mut self) -> Result<Txn, AllocError>
+        ensures drawn { IfOk result (λ transaction. (world : World) → StandsFor (model_of self.old) world
+            → txn.StandsFor transaction (fresh_at_last world) × StandsFor (model_of self.new) (drawn_in world)) }
+        ensures store { OnOk result (self.new.store ≡ self.old.store) }
+        ensures applied { self.new.applied ≡ self.old.applied }
+    {
+        let transaction = Txn::at_last(self.alloc, self.lives.next(), &self.store);
+        self.lives.draw()?;
+        Ok(transaction)
     }
 
     // Commits a transaction that stands under no name, where its calls were not refused: their reply, or the commit's fault.
     fn commit_apart(&mut self, mut transaction: Txn, reply: Reply) -> Result<Reply, AllocError>
         requires few_commits { last_of self.old.store + 1 < 2 ^ 63 }
-        requires few_lives { self.old.next_life < 2 ^ 64 - 1 }
-        ensures step { IfOk result (λ answered. (world : World) (made : Called) → FirstTook reply transaction (model_of self.old) world made
-            → Took answered (model_of self.new) (and_commit world made)) }
+        ensures step { IfOk result (λ answered. (world : World) (made : Called) → reply ≡ made.reply → txn.StandsFor transaction made.transaction
+            → StandsFor (model_of self.old) world → Took answered (model_of self.new) (commit_made world made)) }
         ensures applied { self.new.applied ≡ self.old.applied }
     {
         if is_fault(&reply) {
@@ -153,15 +177,27 @@ impl Contents {
     // A call on a transaction that stands under no name.
     fn call_apart(&mut self, transaction: &mut Txn, call: &TxnCall) -> Result<Reply, AllocError>
         requires few_commits { last_of self.old.store + 1 < 2 ^ 63 }
-        requires few_lives { self.old.next_life < 2 ^ 64 - 1 }
         ensures step { IfOk result (λ reply. (t : Transaction) (world : World) → txn.StandsFor transaction.old t
             → StandsFor (model_of self.old) world
-            → TookApart reply transaction.new (model_of self.new) world (called world.setting world.next_life t call.now)) }
+            → TookApart reply transaction.new (model_of self.new) world t (called world.setting (next_life world) t call.now)) }
         ensures applied { self.new.applied ≡ self.old.applied }
     {
-        let answer = transaction.call(&mut self.store, &mut self.index, call, self.next_life)?;
-        self.next_life += u64::from(answer.drew_life);
+        let life = transaction.life();
+        let answer = transaction.call(&mut self.store, &mut self.index, call, self.lives.next())?;
+        let outcome = outcome_after(life, transaction);
+        self.lives.go_on(answer.drew_life, life, outcome)?;
         Ok(answer.reply)
+    }
+
+    // What was promised of a life.
+    fn poll(&self, life: u64) -> Reply
+        ensures { result ≡ promised (slice_index_or self.now.lives life None) }
+    {
+        match self.lives.outcome(life) {
+            Some(Outcome::HasStamp(stamp)) => Reply::Stamp(stamp),
+            Some(Outcome::Lacks(code)) => Reply::Fault(code),
+            None => Reply::NotYet,
+        }
     }
 }
 

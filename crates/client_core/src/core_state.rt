@@ -8,6 +8,7 @@ ghost use Rattle.machine_rules.specs.Worlds.{World, HasWords, begun, step};
 ghost use Rattle.version_store.specs.Versions.{at, last_of};
 
 use crate::contents::Contents;
+use crate::lives::Lives;
 use conflict_ranges::WriteIndex;
 use fdb_calls::{Reply, Request};
 use key_bytes::{Key, Pairs};
@@ -25,7 +26,7 @@ pub struct Core {
 }
 
 impl Model for Core {
-    ghost use Rattle.std.specs.Prelude.{◌≡◌, false, ◌+◌, ◌*◌};
+    ghost use Rattle.std.specs.Prelude.{◌≡◌, false, ◌+◌};
     ghost use Rattle.client_core.specs.Stands.{CoreModel};
     ghost use Rattle.client_core.specs.Sound.{IsSound};
     ghost use Rattle.client_core.specs.Contents.{model_of};
@@ -43,7 +44,7 @@ impl Model for Core {
     ghost view = { λ core. model_of core.contents };
 
     ghost invariant = { λ core. core.is_out_of_memory ≡ false
-        → IsSound (model_of core.contents) (core.contents.applied + 1) (2 * core.contents.applied) };
+        → IsSound (model_of core.contents) (core.contents.applied + 1) };
 }
 
 impl Core {
@@ -61,7 +62,7 @@ impl Core {
                 store,
                 index: WriteIndex::new(alloc),
                 transactions: KeyMap::new(alloc),
-                next_life: 0,
+                lives: Lives::new(alloc),
                 applied: 0,
             },
             is_out_of_memory: false,

@@ -2,13 +2,15 @@
 //! one at a time.
 //!
 //! A `Core` stands for a world of the definitions (`machine_rules`, `specs/Worlds.antt`): its store has the map of the
-//! world's history at each version, its index has for each key the newest commit that declared it, and each name has a
-//! transaction that stands for the world's (`specs/Stands.antt`). `load` stands for the beginning, and for every world
-//! for which a core stands before `apply`, the reply is that of the step, and the core stands for the world of the step.
+//! world's history at each version, its index has for each key the newest commit that declared it, the same became
+//! of each life, and each name has a transaction that stands for the world's (`specs/Stands.antt`). `load` stands for the
+//! beginning, and for every world for which a core stands before `apply`, the reply is that of the step, and the core stands
+//! for the world of the step.
 #![tactic(auto)]
 
 mod contents;
 mod core_state;
+mod lives;
 
 pub use core_state::Core;
 

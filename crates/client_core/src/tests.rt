@@ -9,11 +9,18 @@ use std::test::Fail;
 
 mod asks;
 mod beside;
+mod conflicts;
 mod draws;
 mod limits;
 mod plain;
 mod plain_atoms;
+mod plain_fates;
+mod plain_keys;
+mod plain_lives;
 mod plain_reads;
+mod plain_rests;
+mod plain_writes;
+mod promises;
 mod reads;
 
 // What a request is answered, as a test writes it. Pairs are spelled.
@@ -24,6 +31,10 @@ enum Told<'a> {
     Value(&'a [u8]),
     Key(&'a [u8]),
     Pairs(&'a [u8]),
+    Version(i64),
+    Life(u64),
+    Stamp([u8; 10]),
+    NotYet,
     Fault(u16),
     NoMemory,
 }
@@ -36,6 +47,10 @@ fn tell(reply: &Reply) -> Option<Told<'_>> {
         Reply::Value(Some(value)) => Some(Told::Value(value.as_slice())),
         Reply::KeyIs(key) => Some(Told::Key(key.as_slice())),
         Reply::PairsAre(_) => None,
+        Reply::Version(version) => Some(Told::Version(*version)),
+        Reply::Life(life) => Some(Told::Life(*life)),
+        Reply::Stamp(stamp) => Some(Told::Stamp(*stamp)),
+        Reply::NotYet => Some(Told::NotYet),
         Reply::Fault(code) => Some(Told::Fault(code.0)),
         Reply::NoMemory => Some(Told::NoMemory),
     }

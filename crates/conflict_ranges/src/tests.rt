@@ -82,6 +82,7 @@ fn listed(alloc: Global) -> Result<(Bytes, Bytes, bool), AllocError> {
     let mut set = set_with_a_gap(alloc)?;
     let more = [range_of(alloc, b"x", b"z")?, range_of(alloc, b"", b"")?];
     set.add_all(&more)?;
+    set.shows_apart();
     let as_told = RangeSet::new(alloc).is_empty() && !set.is_empty();
     Ok((shown(alloc, &set)?, shown_by_place(alloc, &set)?, as_told))
 }
@@ -95,7 +96,7 @@ fn lists_its_ranges(rt: HostRuntime) -> Result<(), Fail> {
     Ok(())
 }
 
-// ---- which version last wrote each key
+// ---- which version last declared each key
 
 // Gives the keys of a range a version.
 fn write(
@@ -119,7 +120,8 @@ fn newest_of_three(alloc: Global) -> Result<[u64; 3], AllocError> {
     write(alloc, &mut index, &range_of(alloc, b"b", b"d")?, 5)?;
     let first = index.newest_in(&range_of(alloc, b"a", b"b")?);
     let second = index.newest_in(&range_of(alloc, b"b", b"c")?);
-    let third = index.newest_in(&range_of(alloc, b"x", b"y")?);
+    let outside = range_of(alloc, b"x", b"y")?;
+    let third = index.newest_between(&outside.begin, &outside.end);
     Ok([first, second, third])
 }
 

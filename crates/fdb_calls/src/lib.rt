@@ -109,6 +109,17 @@ pub enum Request {
     /// Writes each entry under the prefix followed by its key, on a transaction of its own, which is then committed. The
     /// first write that is refused refuses all.
     Log { prefix: Bytes, entries: Pairs },
+    /// What was promised of a life: the versionstamp of its commit.
+    PollStamp { life: u64 },
+}
+
+/// What became of a life of a transaction (`fdb_transaction_get_versionstamp`).
+#[derive(Clone, Copy, Debug, PartialEq, Eq)]
+pub enum Outcome {
+    /// Its commit made a version, and has this versionstamp.
+    HasStamp([u8; 10]),
+    /// It has no versionstamp; the code says why.
+    Lacks(Code),
 }
 
 /// What a request was answered.
@@ -126,6 +137,10 @@ pub enum Reply {
     Version(i64),
     /// The number of a life.
     Life(u64),
+    /// The versionstamp of a life's commit.
+    Stamp([u8; 10]),
+    /// What is asked for isn't decided yet.
+    NotYet,
     /// The first check that failed has this code.
     Fault(Code),
     /// Memory ran out.

@@ -1,5 +1,5 @@
 -- What an instruction that makes a request pops, and the request that it makes (bindingApiTester.md).
-use Rattle.std.specs.Prelude.{ℕ, ◌-◌, ℤ, pos, Bool, List, length, map, take, reverse, Ok, unwrap_or}
+use Rattle.std.specs.Prelude.{ℕ, ◌-◌, ℤ, pos, Bool, List, [], ◌∷◌, length, map, take, reverse, Ok, unwrap_or}
 use Rattle.std.specs.List.{enumerate_from}
 use Rattle.key_bytes.specs.Keys.{top}
 use Rattle.key_bytes.specs.Successors.{strinc}
@@ -16,6 +16,8 @@ use Rattle.fdb_calls.specs.declared.Request.{Request}
 use Rattle.fdb_calls.specs.declared.Request.TheVariants as request
 use Rattle.machine_rules.specs.declared.TheConstants.{LOG_BATCH, LOGGED_BYTES}
 use Rattle.machine_rules.specs.declared.Item.{Item}
+use Rattle.machine_rules.specs.declared.ItemValue.{ItemValue}
+use Rattle.machine_rules.specs.declared.ItemValue.TheVariants as value
 use Rattle.machine_rules.specs.declared.Awaits.{Awaits}
 use Rattle.machine_rules.specs.declared.Awaits.TheVariants as awaits
 use Rattle.machine_rules.specs.declared.DatabaseOperation.{DatabaseOperation}
@@ -151,11 +153,16 @@ request_in scope.Database name call = request.Database call
 
 -- ---- LOG_STACK
 
+-- the packed bytes of an item; of one that waits the one byte 2A, which begins no packed tuple
+abbrev pub item_bytes : ItemValue → List ℕ
+item_bytes (value.Known element) = spelling (before element Empty)
+item_bytes (value.Waits life) = 42 ∷ []
+
 -- an item at its place in the stack: its place and its instruction as the key, and its first packed bytes as the value
 abbrev pub log_entry : ℕ × Item → List ℕ × List ℕ
 log_entry (place, item) = (
   spelling (Single (Int (pos place)) (Single (Int (pos item.instruction)) Empty)),
-  take LOGGED_BYTES (spelling (before item.element Empty)),
+  take LOGGED_BYTES (item_bytes item.value),
 )
 
 -- the uppermost items of a stack, as many as one request writes, in the order of their places
@@ -199,6 +206,7 @@ request_of on_transaction.WriteConflictRange name seen stack = range_request nam
 request_of on_transaction.ReadConflictKey name seen stack = key_request name call.ReadConflict stack
 request_of on_transaction.WriteConflictKey name seen stack = key_request name call.WriteConflict stack
 request_of on_transaction.DisableWriteConflict name seen stack = on_current name call.NoWriteConflict stack
+request_of on_transaction.GetVersionstamp name seen stack = on_current name call.Versionstamp stack
 
 abbrev pub awaits_of : TransactionOperation → Awaits
 awaits_of on_transaction.NewTransaction = awaits.Nothing
@@ -214,3 +222,4 @@ awaits_of on_transaction.WriteConflictRange = awaits.ConflictRange
 awaits_of on_transaction.ReadConflictKey = awaits.ConflictKey
 awaits_of on_transaction.WriteConflictKey = awaits.ConflictKey
 awaits_of on_transaction.DisableWriteConflict = awaits.Nothing
+awaits_of on_transaction.GetVersionstamp = awaits.Promise

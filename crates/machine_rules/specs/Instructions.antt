@@ -54,6 +54,7 @@ transaction_operation name =
     else if bytes_eq name (codes "READ_CONFLICT_KEY") then Some on_transaction.ReadConflictKey
     else if bytes_eq name (codes "WRITE_CONFLICT_KEY") then Some on_transaction.WriteConflictKey
     else if bytes_eq name (codes "DISABLE_WRITE_CONFLICT") then Some on_transaction.DisableWriteConflict
+    else if bytes_eq name (codes "GET_VERSIONSTAMP") then Some on_transaction.GetVersionstamp
     else None
 
 -- the call of a name, with its form

@@ -1,15 +1,16 @@
 -- What follows from the definitions of machines and runs, for the layers above.
-use Rattle.std.specs.Prelude.{◌≡◌, ℕ, zero, suc, ◌+◌, ◌-◌, ◌<◌, Bool, true, false, List, [], ◌∷◌, ◌++◌, length, drop, Option, Some, None, option_and_then, slice_get, cond, refl}
-use Rattle.std.proofs.Common.{sym, ap, subst, ◌∙◌, add-one, length-drop, arith}
+use Rattle.std.specs.Prelude.{◌≡◌, ℕ, zero, suc, ◌+◌, ◌-◌, ◌<◌, Bool, true, false, List, [], ◌∷◌, ◌++◌, length, Option, Some, None, option_and_then, slice_get, cond, refl}
+use Rattle.std.proofs.Common.{sym, ap, subst, ◌∙◌, add-one, arith}
 use Rattle.std.proofs.lemmas.Option.{slice_get_within}
 use Rattle.fdb_calls.specs.declared.Request.{Request}
 use Rattle.fdb_calls.specs.declared.Reply.{Reply}
-use Rattle.machine_rules.specs.declared.TheConstants.{LOG_BATCH}
 use Rattle.machine_rules.specs.declared.Item.{Item}
 use Rattle.machine_rules.specs.declared.State.{State}
 use Rattle.machine_rules.specs.declared.State.TheVariants as state
-use Rattle.machine_rules.specs.Machines.{Registers, Machine, Progress, Act, Does, Stops, Asks, silent, acted, next_act, advance_by, advance, logs_on, Use, Goes, Pushes, Keeps, Fails, LogsOn, use_of, used, resumed, resumed_by}
-use Rattle.machine_rules.specs.Runs.{Run, is_running, rested, at_rest, take_place, run_from}
+use Rattle.machine_rules.specs.Instructions.{instruction_of}
+use Rattle.machine_rules.specs.Machines.{Machine, Progress, Act, Does, Stops, Asks, silent, acted, next_act, advance_by, advance, replied_act, resumed, resumed_by}
+use Rattle.machine_rules.specs.WaitLaws.{Errand, AtOnce, errand_of, HasItsItem, effort, room, IsBoundedAct, act_bounded, replied_bounded}
+use Rattle.machine_rules.specs.Runs.{Run, is_running, has_stopped, rested, at_rest, take_place, run_from}
 
 -- ---- one step of a machine
 
@@ -99,45 +100,6 @@ pub advance_still : (machine : Machine) → is_running machine.state ≡ false �
 unfolding advance
 advance_still machine e = stopped_by machine.state machine e
 
--- ---- a reply
-
--- The machine that used a reply has gone on by one instruction; or it asks on within the same one, and has fewer items.
-pub data GoesOn (before : Machine) (progress : Progress) : Type 0 where
-  Further : (instructions_are : progress.machine.instructions ≡ before.instructions) (next_is : progress.machine.next ≡ before.next + 1)
-      (runs : is_running progress.machine.state ≡ true) (silent_is : progress.asks ≡ None) → GoesOn before progress
-  Again : (instructions_are : progress.machine.instructions ≡ before.instructions) (next_is : progress.machine.next ≡ before.next)
-      (awaits_is : is_awaiting progress.machine.state ≡ true) (asked : Request) (asks_is : progress.asks ≡ Some asked)
-      (fewer : length progress.machine.registers.stack < length before.registers.stack) → GoesOn before progress
-
-does_go : (machine : Machine) (registers : Registers) → GoesOn machine (acted machine (Does registers))
-does_go machine registers = Further refl refl refl refl
-
-fewer_dropped : {A : Type 0} (n : ℕ) (top : A) (below : List A) → length (drop n below) < suc (length below)
-fewer_dropped n top below = omega (arith, length-drop n below)
-
-logs_go : (machine : Machine) (stack : List Item) (prefix : List ℕ) → machine.registers.stack ≡ stack
-    → GoesOn machine (acted machine (logs_on stack machine.registers prefix))
-logs_go machine [] prefix is = does_go machine machine.registers
-logs_go machine (top ∷ below) prefix is =
-    Again refl refl refl _ refl (subst (λ items. length (drop LOG_BATCH (top ∷ below)) < length items) (sym is) (fewer_dropped 99 top below))
-
-used_goes : (machine : Machine) (used_for : Use) → GoesOn machine (acted machine (used machine.next machine.registers used_for))
-used_goes machine Goes = does_go machine machine.registers
-used_goes machine (Pushes element) = does_go machine _
-used_goes machine (Keeps version element) = does_go machine _
-used_goes machine (Fails word element) = does_go machine _
-used_goes machine (LogsOn prefix) = logs_go machine machine.registers.stack prefix refl
-
-resumed_goes_by : (state : State) (machine : Machine) (given : Reply) → is_awaiting state ≡ true
-    → GoesOn machine (resumed_by state machine given)
-resumed_goes_by state.Running machine given e = not_running e
-resumed_goes_by (state.Awaiting awaits) machine given e = used_goes machine (use_of awaits given)
-resumed_goes_by (state.Stopped end) machine given e = not_running e
-
-pub resumed_goes : (machine : Machine) (given : Reply) → is_awaiting machine.state ≡ true → GoesOn machine (resumed machine given)
-unfolding resumed
-resumed_goes machine given e = resumed_goes_by machine.state machine given e
-
 -- where a machine asks, it stands at one of its instructions
 pub record AsksInside (before : Machine) (progress : Progress) : Type 0 where
   pub instructions : progress.machine.instructions ≡ before.instructions
@@ -155,7 +117,8 @@ act_at machine (Asks registers asked awaits) inside request e = record { instruc
 next_at : (machine : Machine) (value : Option (List ℕ)) → slice_get machine.instructions machine.next ≡ value
     → AsksAt machine (acted machine (next_act machine value))
 next_at machine None is request e = absurd cc
-next_at machine (Some value) is request e = act_at machine (next_act machine (Some value)) (slice_get_within machine.instructions machine.next value is) request e
+next_at machine (Some value) is request e =
+    act_at machine (next_act machine (Some value)) (slice_get_within machine.instructions machine.next value is) request e
 
 state_at : (state : State) (machine : Machine) → AsksAt machine (advance_by state machine)
 state_at state.Running machine request e = next_at machine (slice_get machine.instructions machine.next) refl request e
@@ -166,6 +129,98 @@ pub advance_asks_inside : (machine : Machine) (request : Request) → (advance m
     → AsksInside machine (advance machine)
 unfolding advance
 advance_asks_inside machine request e = state_at machine.state machine request e
+
+-- ---- waits within an instruction
+
+-- what the reply is used for that a machine awaits
+abbrev pub errand_in : State → Errand
+errand_in state.Running = AtOnce
+errand_in (state.Awaiting awaits) = errand_of awaits
+errand_in (state.Stopped end) = AtOnce
+
+-- an item waits, where a machine polls for one
+abbrev pub HasItsItemIn : Machine → Type 0
+HasItsItemIn machine = HasItsItem (errand_in machine.state) machine.registers.stack
+
+-- what a machine that awaits a reply has still to poll for and to log
+abbrev pub effort_in : Machine → ℕ
+effort_in machine = effort machine.polls (errand_in machine.state) machine.registers.stack
+
+quiet_by : (state : State) (stack : List Item) → is_awaiting state ≡ false → HasItsItem (errand_in state) stack
+quiet_by state.Running stack e = tt
+quiet_by (state.Awaiting awaits) stack e = absurd cc
+quiet_by (state.Stopped end) stack e = tt
+
+-- one that awaits no reply polls for none
+pub quiet_item : (machine : Machine) → is_awaiting machine.state ≡ false → HasItsItemIn machine
+quiet_item machine e = quiet_by machine.state machine.registers.stack e
+
+-- an item waits also where one is polled for after a step
+act_item : (machine : Machine) (bound : ℕ) (act : Act) → IsBoundedAct machine.polls bound act → HasItsItemIn (acted machine act).machine
+act_item machine bound (Does registers) bounded = tt
+act_item machine bound (Stops registers end) bounded = tt
+act_item machine bound (Asks registers request awaits) bounded = bounded.waits
+
+next_item : (machine : Machine) (value : Option (List ℕ)) → HasItsItemIn (acted machine (next_act machine value)).machine
+next_item machine None = tt
+next_item machine (Some value) =
+    act_item machine (room machine.polls machine.registers.stack) (next_act machine (Some value))
+    (act_bounded machine.polls machine.next machine.registers (instruction_of value))
+
+state_item : (state : State) (machine : Machine) → HasItsItemIn machine → HasItsItemIn (advance_by state machine).machine
+state_item state.Running machine item = next_item machine (slice_get machine.instructions machine.next)
+state_item (state.Awaiting awaits) machine item = item
+state_item (state.Stopped end) machine item = item
+
+pub advance_item : (machine : Machine) → HasItsItemIn machine → HasItsItemIn (advance machine).machine
+unfolding advance
+advance_item machine item = state_item machine.state machine item
+
+-- and after a reply
+resumed_item_by : (state : State) (machine : Machine) (given : Reply) → machine.state ≡ state → HasItsItemIn machine
+    → HasItsItemIn (resumed_by state machine given).machine
+resumed_item_by state.Running machine given is item = item
+resumed_item_by (state.Awaiting awaits) machine given is item =
+    act_item machine (effort machine.polls (errand_of awaits) machine.registers.stack) (replied_act awaits machine given)
+    (replied_bounded awaits machine given (subst (λ (s : State). HasItsItem (errand_in s) machine.registers.stack) is item))
+resumed_item_by (state.Stopped end) machine given is item = item
+
+pub resumed_item : (machine : Machine) (given : Reply) → HasItsItemIn machine → HasItsItemIn (resumed machine given).machine
+unfolding resumed
+resumed_item machine given item = resumed_item_by machine.state machine given refl item
+
+-- ---- a reply
+
+-- The machine that used a reply has gone on by one instruction; or it asks on within the same one, and has less to poll for and
+-- to log; or it has stopped there.
+pub data GoesOn (before : Machine) (progress : Progress) : Type 0 where
+  Further : (instructions_are : progress.machine.instructions ≡ before.instructions) (next_is : progress.machine.next ≡ before.next + 1)
+      (runs : is_running progress.machine.state ≡ true) (silent_is : progress.asks ≡ None) → GoesOn before progress
+  Again : (instructions_are : progress.machine.instructions ≡ before.instructions) (next_is : progress.machine.next ≡ before.next)
+      (awaits_is : is_awaiting progress.machine.state ≡ true) (asked : Request) (asks_is : progress.asks ≡ Some asked)
+      (lighter : effort_in progress.machine < effort_in before) → GoesOn before progress
+  Halts : (instructions_are : progress.machine.instructions ≡ before.instructions) (next_is : progress.machine.next ≡ before.next)
+      (stops : has_stopped progress.machine.state ≡ true) (silent_is : progress.asks ≡ None) → GoesOn before progress
+
+act_goes : (machine : Machine) (act : Act) → IsBoundedAct machine.polls (effort_in machine) act → GoesOn machine (acted machine act)
+act_goes machine (Does registers) bounded = Further refl refl refl refl
+act_goes machine (Stops registers end) bounded = Halts refl refl refl refl
+act_goes machine (Asks registers request awaits) bounded = Again refl refl refl request refl bounded.below
+
+resumed_goes_by : (state : State) (machine : Machine) (given : Reply) → machine.state ≡ state → is_awaiting state ≡ true
+    → HasItsItemIn machine → GoesOn machine (resumed_by state machine given)
+resumed_goes_by state.Running machine given is e item = not_running e
+resumed_goes_by (state.Awaiting awaits) machine given is e item =
+    act_goes machine (replied_act awaits machine given)
+    (subst (λ (s : State). IsBoundedAct machine.polls (effort machine.polls (errand_in s) machine.registers.stack)
+    (replied_act awaits machine given)) (sym is)
+    (replied_bounded awaits machine given (subst (λ (s : State). HasItsItem (errand_in s) machine.registers.stack) is item)))
+resumed_goes_by (state.Stopped end) machine given is e item = not_running e
+
+pub resumed_goes : (machine : Machine) (given : Reply) → is_awaiting machine.state ≡ true → HasItsItemIn machine
+    → GoesOn machine (resumed machine given)
+unfolding resumed
+resumed_goes machine given e item = resumed_goes_by machine.state machine given refl e item
 
 -- ---- coming to rest
 

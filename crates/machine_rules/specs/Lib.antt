@@ -4,5 +4,7 @@ pub mod StackOperations
 pub mod Calls
 pub mod Instructions
 pub mod Machines
+pub mod Waits
+pub mod WaitLaws
 pub mod Runs
 pub mod Laws

@@ -1,5 +1,5 @@
 -- A machine and its instructions (bindingApiTester.md).
-use Rattle.std.specs.Prelude.{ℕ, ◌+◌, ℤ, if◌then◌else◌, List, [], ◌∷◌, ◌++◌, drop, flat_map, Option, Some, None, Ok, Err, slice_get, codes, decimal}
+use Rattle.std.specs.Prelude.{ℕ, ◌+◌, ℤ, Bool, true, false, nat_lt, if◌then◌else◌, List, [], ◌∷◌, ◌++◌, take, drop, option_and_then, flat_map, Option, Some, None, Ok, Err, slice_get, codes, decimal}
 use Rattle.std.specs.List.{filter}
 use Rattle.key_bytes.specs.Keys.{key_lt, begins_with}
 use Rattle.database_rules.specs.Slices.{Entries}
@@ -14,6 +14,9 @@ use Rattle.fdb_calls.specs.declared.Reply.{Reply}
 use Rattle.fdb_calls.specs.declared.Reply.TheVariants as reply
 use Rattle.machine_rules.specs.declared.TheConstants.{LOG_BATCH}
 use Rattle.machine_rules.specs.declared.Item.{Item}
+use Rattle.machine_rules.specs.declared.ItemValue.{ItemValue}
+use Rattle.machine_rules.specs.declared.ItemValue.TheVariants as value
+use Rattle.machine_rules.specs.declared.Wait.{Wait}
 use Rattle.machine_rules.specs.declared.ErrorNote.{ErrorNote}
 use Rattle.machine_rules.specs.declared.End.{End as HowEnded}
 use Rattle.machine_rules.specs.declared.End.TheVariants as end
@@ -24,7 +27,7 @@ use Rattle.machine_rules.specs.declared.State.TheVariants as state
 use Rattle.machine_rules.specs.declared.Scope.{Scope}
 use Rattle.machine_rules.specs.declared.Instruction.{Instruction}
 use Rattle.machine_rules.specs.declared.Instruction.TheVariants as instruction
-use Rattle.machine_rules.specs.Operands.{Refusal, Missing, Unfit, Popped, bytes_operand}
+use Rattle.machine_rules.specs.Operands.{Refusal, Missing, Unfit, Waiting, Popped, bytes_operand}
 use Rattle.machine_rules.specs.StackOperations.{Operated, pushed, operated}
 use Rattle.machine_rules.specs.Calls.{Calls, call_of, request_in, request_of, awaits_of, prefix_end, log_entries}
 use Rattle.machine_rules.specs.Instructions.{instruction_of}
@@ -48,7 +51,7 @@ pub record Machine : Type 0 where
   -- the values of its instructions, and the number of the next one
   pub instructions : List (List ℕ)
   pub next : ℕ
-  -- how often the polls of one wait may be answered that it isn't decided yet; no operation waits so far
+  -- how often the polls of one wait may be answered that it isn't decided yet
   pub polls : ℕ
   pub registers : Registers
   pub state : State
@@ -98,15 +101,24 @@ with_stack registers stack = record registers { stack = stack }
 abbrev pub pushing : ℕ → Registers → Elem → Registers
 pushing number registers element = with_stack registers (pushed number (element ∷ []) registers.stack)
 
--- the instruction of this number notes a fault by its word, and pushes an element
-abbrev pub failing : ℕ → Registers → (word : List ℕ) → Elem → Registers
-failing number registers word element =
-    pushing number (record registers { errors = registers.errors ++ record { instruction = number; word = word } ∷ [] }) element
+-- the instruction of this number notes a fault by its word
+abbrev pub noting : ℕ → Registers → (word : List ℕ) → Registers
+noting number registers word = record registers { errors = registers.errors ++ record { instruction = number; word = word } ∷ [] }
 
--- an instruction of this number that was refused: an item is missing, or an operand is of a wrong kind or range
+-- it notes one, and pushes an element
+abbrev pub failing : ℕ → Registers → (word : List ℕ) → Elem → Registers
+failing number registers word element = pushing number (noting number registers word) element
+
+-- before the first poll for a life
+abbrev pub waits_for : ℕ → Wait
+waits_for life = record { life = life; polled = 0 }
+
+-- an instruction of this number that was refused: an item is missing, or an operand is of a wrong kind or range; or it pops an
+-- item that waits, and polls for it while all items stay
 abbrev pub refused : ℕ → Registers → Refusal → Act
 refused number registers (Missing left) = Stops (with_stack registers left) (end.Underflow number)
 refused number registers (Unfit left) = Stops (with_stack registers left) (end.BadInstruction number)
+refused number registers (Waiting life) = Asks registers (request.PollStamp life) (awaits.Stamp (waits_for life))
 
 abbrev pub does : ℕ → Registers → Operated → Act
 does number registers (Ok stack) = Does (with_stack registers stack)
@@ -127,15 +139,33 @@ abbrev pub uses : ℕ → Registers → Popped (List ℕ) → Act
 uses number registers (Ok popped) = Does (record registers { name = popped.0; stack = popped.1 })
 uses number registers (Err refusal) = refused number registers refusal
 
--- LOG_STACK takes the uppermost items and writes them, and goes on so until none is left
-abbrev pub logs_on : List Item → Registers → List ℕ → Act
-logs_on [] registers prefix = Does registers
-logs_on (top ∷ below) registers prefix =
-    Asks (with_stack registers (drop LOG_BATCH (top ∷ below))) (request.Log prefix (log_entries (top ∷ below))) (awaits.Logged prefix)
+-- the life that an item waits for, or else this
+abbrev pub life_by : ItemValue → Option ℕ → Option ℕ
+life_by (value.Known element) other = other
+life_by (value.Waits life) other = Some life
+
+-- the life that the first of some items waits for which waits
+abbrev pub first_life : List Item → Option ℕ
+first_life [] = None
+first_life (item ∷ others) = life_by item.value (first_life others)
+
+-- LOG_STACK polls for an item that waits among those that it takes, and else writes them
+abbrev pub logs_batch : Option ℕ → Registers → List ℕ → Act
+logs_batch (Some life) registers prefix = Asks registers (request.PollStamp life) (awaits.LoggedStamp prefix (waits_for life))
+logs_batch None registers prefix =
+    Asks (with_stack registers (drop LOG_BATCH registers.stack)) (request.Log prefix (log_entries registers.stack)) (awaits.Logged prefix)
+
+-- LOG_STACK takes the uppermost items, and goes on so until none is left
+abbrev pub logs_from : List Item → Registers → List ℕ → Act
+logs_from [] registers prefix = Does registers
+logs_from (top ∷ below) registers prefix = logs_batch (first_life (take LOG_BATCH (top ∷ below))) registers prefix
+
+abbrev pub logs_on : Registers → List ℕ → Act
+logs_on registers prefix = logs_from registers.stack registers prefix
 
 -- LOG_STACK pops the prefix
 abbrev pub logs_stack : ℕ → Registers → Popped (List ℕ) → Act
-logs_stack number registers (Ok popped) = logs_on popped.1 (with_stack registers popped.1) popped.0
+logs_stack number registers (Ok popped) = logs_on (with_stack registers popped.1) popped.0
 logs_stack number registers (Err refusal) = refused number registers refusal
 
 -- the instruction of this number on these registers
@@ -211,6 +241,8 @@ pub data Use : Type 0 where
   Keeps : (version : ℤ) (element : Elem) → Use
   -- a fault is noted by its word, and an element pushed
   Fails : (word : List ℕ) (element : Elem) → Use
+  -- an item is pushed that waits for a life
+  PushesWaiting : (life : ℕ) → Use
   -- LOG_STACK goes on
   LogsOn : (prefix : List ℕ) → Use
 
@@ -227,6 +259,7 @@ use_of awaits.ReadVersion (reply.Version version) = Keeps version got_read_versi
 use_of awaits.CommittedVersion (reply.Version version) = Keeps version got_committed_version
 use_of awaits.ConflictRange reply.Done = Pushes set_conflict_range
 use_of awaits.ConflictKey reply.Done = Pushes set_conflict_key
+use_of awaits.Promise (reply.Life life) = PushesWaiting life
 use_of awaits reply = Goes
 
 -- in the instruction of this number
@@ -235,11 +268,62 @@ used number registers Goes = Does registers
 used number registers (Pushes element) = Does (pushing number registers element)
 used number registers (Keeps version element) = Does (pushing number (record registers { last_seen = version }) element)
 used number registers (Fails word element) = Does (failing number registers word element)
-used number registers (LogsOn prefix) = logs_on registers.stack registers prefix
+used number registers (PushesWaiting life) =
+    Does (with_stack registers (record { value = value.Waits life; instruction = number } ∷ registers.stack))
+used number registers (LogsOn prefix) = logs_on registers prefix
+
+-- ---- using the reply to a poll
+
+abbrev pub known_or : ItemValue → List Item → List Item → List Item
+known_or (value.Known element) known others = others
+known_or (value.Waits life) known others = known
+
+-- the uppermost item that waits is this element from then on
+abbrev pub with_known : Elem → List Item → List Item
+with_known element [] = []
+with_known element (item ∷ below) =
+    known_or item.value (record item { value = value.Known element } ∷ below) (item ∷ with_known element below)
+
+-- the items below the uppermost one that waits
+abbrev pub below_waiting : List Item → List Item
+below_waiting [] = []
+below_waiting (item ∷ below) = known_or item.value below (below_waiting below)
+
+abbrev pub knowing : Registers → Elem → Registers
+knowing registers element = with_stack registers (with_known element registers.stack)
+
+-- the instruction of this number polls again, or it has polled as often as it may
+abbrev pub polls_on : Bool → ℕ → Registers → Wait → (Wait → Awaits) → Act
+polls_on true number registers wait awaiting = Asks registers (request.PollStamp wait.life) (awaiting wait)
+polls_on false number registers wait awaiting = Stops (with_stack registers (below_waiting registers.stack)) (end.WaitBound number)
+
+abbrev pub polled_once : Wait → Wait
+polled_once wait = record wait { polled = wait.polled + 1 }
+
+-- the item that was polled for is the versionstamp, or the one that tells of a code, which is noted; then the instruction goes
+-- on. A reply of another kind changes nothing but that the machine goes on
+abbrev pub after_poll : (polls number : ℕ) → Registers → Wait → (again : Registers → Act) → (awaiting : Wait → Awaits) → Reply → Act
+after_poll polls number registers wait again awaiting (reply.Stamp stamp) = again (knowing registers (elem.Bytes stamp))
+after_poll polls number registers wait again awaiting (reply.Fault code) =
+    again (knowing (noting number registers (decimal code.0)) (error_item code.0))
+after_poll polls number registers wait again awaiting reply.NotYet =
+    polls_on (nat_lt (wait.polled + 1) polls) number registers (polled_once wait) awaiting
+after_poll polls number registers wait again awaiting reply = Does registers
+
+-- the instruction that a machine stands at
+abbrev pub instruction_at : Machine → Option Instruction
+instruction_at machine = option_and_then instruction_of (slice_get machine.instructions machine.next)
+
+abbrev pub replied_act : Awaits → Machine → Reply → Act
+replied_act (awaits.Stamp wait) machine reply =
+    after_poll machine.polls machine.next machine.registers wait (λ registers. act_of machine.next registers (instruction_at machine)) awaits.Stamp reply
+replied_act (awaits.LoggedStamp prefix wait) machine reply =
+    after_poll machine.polls machine.next machine.registers wait (λ registers. logs_on registers prefix) (awaits.LoggedStamp prefix) reply
+replied_act awaits machine reply = used machine.next machine.registers (use_of awaits reply)
 
 abbrev pub resumed_by : State → Machine → Reply → Progress
 resumed_by state.Running machine reply = silent machine
-resumed_by (state.Awaiting awaits) machine reply = acted machine (used machine.next machine.registers (use_of awaits reply))
+resumed_by (state.Awaiting awaits) machine reply = acted machine (replied_act awaits machine reply)
 resumed_by (state.Stopped end) machine reply = silent machine
 
 -- the machine after the reply to what it asked, and what it asks next within the same instruction

@@ -8,6 +8,8 @@ use Rattle.fdb_tuple.specs.declared.tuple.Elem.TheVariants as elem
 use Rattle.fdb_tuple.specs.Tuples.{Elements}
 use Rattle.fdb_tuple.specs.Listed.{tuple_of}
 use Rattle.machine_rules.specs.declared.Item.{Item}
+use Rattle.machine_rules.specs.declared.ItemValue.{ItemValue}
+use Rattle.machine_rules.specs.declared.ItemValue.TheVariants as value
 
 -- ---- kinds
 
@@ -86,6 +88,8 @@ pub data Refusal : Type 0 where
   Missing : (left : List Item) → Refusal
   -- an operand is of a kind or range that the operation doesn't take
   Unfit : (left : List Item) → Refusal
+  -- the item that is to be popped waits for this life
+  Waiting : (life : ℕ) → Refusal
 
 infixl 10 ◌>>=◌
 abbrev pub ◌>>=◌ : {A B : Type 0} → Result A Refusal → (A → Result B Refusal) → Result B Refusal
@@ -96,10 +100,15 @@ abbrev pub ◌>>=◌ : {A B : Type 0} → Result A Refusal → (A → Result B R
 abbrev pub Popped : Type 0 → Type 0
 Popped A = Result (A × List Item) Refusal
 
--- any item
-abbrev pub item_operand : List Item → Popped Item
+-- what a value is, where it is known
+abbrev pub known_by : {A : Type 0} → (Elem → A) → ItemValue → List Item → Popped A
+known_by shown (value.Known element) left = Ok (shown element, left)
+known_by shown (value.Waits life) left = Err (Waiting life)
+
+-- an item that is known: its element, and the number of its instruction
+abbrev pub item_operand : List Item → Popped (Elem × ℕ)
 item_operand [] = Err (Missing [])
-item_operand (top ∷ left) = Ok (top, left)
+item_operand (top ∷ left) = known_by (λ element. (element, top.instruction)) top.value left
 
 abbrev pub fitting : {A : Type 0} → Option A → List Item → Popped A
 fitting (Some operand) left = Ok (operand, left)
@@ -109,7 +118,7 @@ fitting None left = Err (Unfit left)
 abbrev pub operand_by : {A : Type 0} → (Elem → Option A) → List Item → Popped A
 operand_by kind stack = do
   top ← item_operand stack
-  fitting (kind top.0.element) top.1
+  fitting (kind top.0.0) top.1
 
 abbrev pub bytes_operand : List Item → Popped (List ℕ)
 bytes_operand stack = operand_by bytes_of stack
@@ -149,7 +158,7 @@ operands_by operand (suc count) stack = do
 abbrev pub element_operand : List Item → Popped Elem
 element_operand stack = do
   top ← item_operand stack
-  Ok (top.0.element, top.1)
+  Ok (top.0.0, top.1)
 
 -- "tuple": a count, and then so many items, in the order popped
 abbrev pub elements_operand : List Item → Popped (List Elem)
@@ -175,8 +184,9 @@ two_operands first second stack = do
   b ← second a.1
   Ok ((a.0, b.0), b.1)
 
--- the items that are left, of operands popped or refused
-abbrev pub left_of : {A : Type 0} → Popped A → List Item
-left_of (Ok popped) = popped.1
-left_of (Err (Missing left)) = left
-left_of (Err (Unfit left)) = left
+-- the items that are left of a stack, of operands popped or refused; where one waits all are
+abbrev pub left_of : {A : Type 0} → List Item → Popped A → List Item
+left_of stack (Ok popped) = popped.1
+left_of stack (Err (Missing left)) = left
+left_of stack (Err (Unfit left)) = left
+left_of stack (Err (Waiting life)) = stack

@@ -6,7 +6,6 @@ use Rattle.key_bytes.specs.Keys.{within}
 use Rattle.database_rules.specs.Databases.{Database}
 use Rattle.database_rules.specs.Histories.{at, last}
 use Rattle.fdb_tuple.specs.Tuples.{Bytes, Empty, Single}
-use Rattle.fdb_tuple.specs.Listed.{before}
 use Rattle.fdb_tuple.specs.Spelling.{spelling}
 use Rattle.line_rules.specs.Printing.{machine_line, item_line, error_line, order_line, pair_line}
 use Rattle.machine_rules.specs.declared.TheConstants.{POLLS}
@@ -14,6 +13,7 @@ use Rattle.machine_rules.specs.declared.End.TheVariants as end
 use Rattle.machine_rules.specs.declared.State.{State}
 use Rattle.machine_rules.specs.declared.State.TheVariants as state
 use Rattle.machine_rules.specs.Worlds.{World, Stepped, begun, step}
+use Rattle.machine_rules.specs.Calls.{item_bytes}
 use Rattle.machine_rules.specs.Machines.{Machine, Progress, silent, advance, resumed}
 
 -- ---- coming to rest
@@ -116,6 +116,7 @@ has_ended (state.Awaiting awaits) = false
 has_ended (state.Stopped end.Ended) = true
 has_ended (state.Stopped (end.BadInstruction instruction)) = false
 has_ended (state.Stopped (end.Underflow instruction)) = false
+has_ended (state.Stopped (end.WaitBound instruction)) = false
 
 -- the exit status of a complete run: 0 where every machine has ended after its last instruction, else 3
 abbrev pub status_of : Run → ℕ
@@ -129,11 +130,12 @@ end_line machine (state.Awaiting awaits) = []
 end_line machine (state.Stopped end.Ended) = machine_line machine.number (codes "ended") (length machine.instructions) machine.prefix
 end_line machine (state.Stopped (end.BadInstruction instruction)) = machine_line machine.number (codes "bad-instruction") instruction machine.prefix
 end_line machine (state.Stopped (end.Underflow instruction)) = machine_line machine.number (codes "underflow") instruction machine.prefix
+end_line machine (state.Stopped (end.WaitBound instruction)) = machine_line machine.number (codes "wait-bound") instruction machine.prefix
 
 -- a machine's stack, each item with its place, the oldest at 0
 abbrev pub stack_lines : Machine → List ℕ
 stack_lines machine =
-    flat_map (λ (place, item). item_line machine.number place item.instruction (spelling (before item.element Empty))) (enumerate_from 0 (reverse machine.registers.stack))
+    flat_map (λ (place, item). item_line machine.number place item.instruction (item_bytes item.value)) (enumerate_from 0 (reverse machine.registers.stack))
 
 -- the errors that a machine noted
 abbrev pub error_lines : Machine → List ℕ

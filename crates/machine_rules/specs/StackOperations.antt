@@ -16,6 +16,7 @@ use Rattle.fdb_tuple.specs.Order.{tuple_cmp}
 use Rattle.fdb_tuple.specs.Reading.{read_tuple}
 use Rattle.fdb_tuple.specs.Stamps.{stamp_packed}
 use Rattle.machine_rules.specs.declared.Item.{Item}
+use Rattle.machine_rules.specs.declared.ItemValue.TheVariants as value
 use Rattle.machine_rules.specs.declared.StackOperation.{StackOperation}
 use Rattle.machine_rules.specs.declared.StackOperation.TheVariants as operation
 use Rattle.machine_rules.specs.Operands.{Refusal, Missing, Unfit, ◌>>=◌, item_operand, bytes_operand, string_operand, int_operand, count_operand, tuple_operand, byte_strings_operand, two_operands}
@@ -27,16 +28,16 @@ Operated = Result (List Item) Refusal
 -- elements pushed one after the other by the instruction of this number
 abbrev pub pushed : ℕ → List Elem → List Item → List Item
 pushed number [] stack = stack
-pushed number (element ∷ elements) stack = pushed number elements (record { element = element; instruction = number } ∷ stack)
+pushed number (element ∷ elements) stack = pushed number elements (record { value = value.Known element; instruction = number } ∷ stack)
 
 -- a fixed text, as a byte string
 abbrev pub text : List ℕ → Elem
 text bytes = elem.Bytes bytes
 
+-- a copy of the top item, which may wait
 abbrev pub dup : List Item → Operated
-dup stack = do
-  top ← item_operand stack
-  Ok (top.0 ∷ top.0 ∷ top.1)
+dup [] = Err (Missing [])
+dup (top ∷ below) = Ok (top ∷ top ∷ below)
 
 -- the top item and the one at a depth, each in the other's place
 abbrev pub swapped : ℕ → List Item → Operated
@@ -83,7 +84,7 @@ concat number stack = do
 abbrev pub wait_future : List Item → Operated
 wait_future stack = do
   top ← item_operand stack
-  Ok (top.0 ∷ top.1)
+  Ok (record { value = value.Known top.0.0; instruction = top.0.1 } ∷ top.1)
 
 abbrev pub tuple_pack : ℕ → List Item → Operated
 tuple_pack number stack = do

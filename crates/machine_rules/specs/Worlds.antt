@@ -1,16 +1,20 @@
 -- The world, which all machines share, and the step that a request makes in it.
-use Rattle.std.specs.Prelude.{◌≡◌, ℕ, ◌+◌, if◌then◌else◌, List, [], ◌∷◌, unwrap_or, is_some}
+use Rattle.std.specs.Prelude.{◌≡◌, ℕ, ◌==◌, Bool, true, false, if◌then◌else◌, List, [], ◌∷◌, ◌++◌, length, replicate, slice_set, slice_index_or, Option, Some, None, unwrap_or, is_some}
 use Rattle.std.specs.FinMap as finite
 use Rattle.key_bytes.specs.Keys.{key_cmp}
 use Rattle.database_rules.specs.Histories.{Setting, loaded, grown_by}
 use Rattle.database_rules.specs.Transactions.{Transaction, fresh, with_version}
+use Rattle.database_rules.specs.declared.TheConstants.{TRANSACTION_CANCELLED}
+use Rattle.fdb_calls.specs.declared.Outcome.{Outcome}
+use Rattle.fdb_calls.specs.declared.Outcome.TheVariants as outcome
+use Rattle.fdb_calls.specs.Outcomes.{outcome_of}
 use Rattle.fdb_calls.specs.declared.TxnCall.{TxnCall}
 use Rattle.fdb_calls.specs.declared.TxnCall.TheVariants as call
 use Rattle.fdb_calls.specs.declared.Request.{Request}
 use Rattle.fdb_calls.specs.declared.Request.TheVariants as request
 use Rattle.fdb_calls.specs.declared.Reply.{Reply}
 use Rattle.fdb_calls.specs.declared.Reply.TheVariants as reply
-use Rattle.fdb_calls.specs.Calling.{Called, called, is_fault, in_turn, logs}
+use Rattle.fdb_calls.specs.Calling.{Called, code_of, called, is_fault, in_turn, logs}
 
 -- ---- the world
 
@@ -22,15 +26,19 @@ pub record World : Type 0 where
   -- the history so far
   pub setting : Setting
   pub transactions : Transactions
-  -- the number of the next life
-  pub next_life : ℕ
+  -- what became of each life that was drawn, at its number, once it is decided
+  pub lives : List (Option Outcome)
   -- the random words still to come, by their places from 0
   pub words : ℕ → ℕ
 
 -- the world at the beginning: the pairs of the input are the first commit, no name has a transaction, and these are the
 -- random words
 abbrev pub begun : List (List ℕ × List ℕ) → (ℕ → ℕ) → World
-begun pairs words = record { setting = record { history = loaded pairs ∷ [] }; transactions = finite.empty; next_life = 0; words = words }
+begun pairs words = record { setting = record { history = loaded pairs ∷ [] }; transactions = finite.empty; lives = []; words = words }
+
+-- the number of the next life
+abbrev pub next_life : World → ℕ
+next_life world = length world.lives
 
 -- these are the random words still to come
 abbrev pub HasWords : World → (ℕ → ℕ) → Type 0
@@ -47,9 +55,39 @@ pub record Stepped : Type 0 where
 abbrev pub with_transaction : World → List ℕ → Transaction → World
 with_transaction world name transaction = record world { transactions = finite.insert world.transactions name transaction }
 
--- a transaction of a new life stands under a name
+-- ---- lives
+
+-- so many lives more, which aren't decided yet
+abbrev pub with_lives : List (Option Outcome) → ℕ → List (Option Outcome)
+with_lives lives count = lives ++ replicate count None
+
+abbrev pub first_of : Option Outcome → Option Outcome → Option Outcome
+first_of (Some outcome) other = Some outcome
+first_of None other = other
+
+-- a life is decided so, unless it is decided already
+abbrev pub decide : ℕ → Option Outcome → List (Option Outcome) → List (Option Outcome)
+decide life outcome lives = slice_set lives life (first_of (slice_index_or lives life None) outcome)
+
+-- what becomes of the life of a transaction by what stands in its place then: another life ends it
+abbrev pub outcome_after : (before after : Transaction) → Option Outcome
+outcome_after before after = if before.life == after.life then outcome_of after.phase else Some (outcome.Lacks (code_of TRANSACTION_CANCELLED))
+
+-- the lives after so many more, where this transaction stands in the place of that one
+abbrev pub lives_after : List (Option Outcome) → ℕ → (before after : Transaction) → List (Option Outcome)
+lives_after lives count before after = decide before.life (outcome_after before after) (with_lives lives count)
+
+-- ---- named transactions
+
+-- the transaction of a name, a fresh one where the name has none
+abbrev pub transaction_of : World → List ℕ → Transaction
+transaction_of world name = unwrap_or (finite.get world.transactions name) (fresh (next_life world))
+
+-- a transaction of a new life stands under a name, and ends the life of the one that stood there
 abbrev pub with_new : World → List ℕ → World
-with_new world name = record (with_transaction world name (fresh world.next_life)) { next_life = world.next_life + 1 }
+with_new world name = record (with_transaction world name (fresh (next_life world))) {
+  lives = lives_after world.lives 1 (transaction_of world name) (fresh (next_life world));
+}
 
 -- a name that has no transaction gets one
 abbrev pub with_named : World → List ℕ → World
@@ -61,37 +99,57 @@ stepped world name called = record {
   world = record world {
     setting = grown_by world.setting called.commits;
     transactions = finite.insert world.transactions name called.transaction;
-    next_life = world.next_life + called.lives;
+    lives = lives_after world.lives called.lives (transaction_of world name) called.transaction;
   };
   reply = called.reply;
 }
 
--- the transaction of a name, a fresh one where the name has none
-abbrev pub transaction_of : World → List ℕ → Transaction
-transaction_of world name = unwrap_or (finite.get world.transactions name) (fresh world.next_life)
-
 abbrev pub call_named : World → List ℕ → TxnCall → Stepped
-call_named world name call = stepped world name (called world.setting world.next_life (transaction_of world name) call)
+call_named world name call = stepped world name (called world.setting (next_life world) (transaction_of world name) call)
+
+-- ---- transactions of their own
 
 -- a transaction of its own, at the last version
 abbrev pub fresh_at_last : World → Transaction
-fresh_at_last world = with_version world.setting (fresh world.next_life)
+fresh_at_last world = with_version world.setting (fresh (next_life world))
 
--- the call's fault, else the commit's, else the call's reply; nothing is committed after a fault
-abbrev pub database_by : World → Called → Called → Stepped
-database_by world called committed = record {
-  world = record world {
-    setting = grown_by world.setting (if is_fault called.reply then [] else committed.commits);
-    next_life = world.next_life + 1 + called.lives;
-  };
-  reply = if is_fault called.reply then called.reply else if is_fault committed.reply then committed.reply else called.reply;
+-- the world after a call on a transaction that stands under no name
+abbrev pub called_apart : World → (before : Transaction) → Called → World
+called_apart world before called = record world {
+  setting = grown_by world.setting called.commits;
+  lives = lives_after world.lives called.lives before called.transaction;
 }
 
-abbrev pub and_commit : World → Called → Stepped
-and_commit world called' = database_by world called' (called world.setting (world.next_life + 1 + called'.lives) called'.transaction call.Commit)
+-- the call's fault, else the commit's, else the call's reply; nothing is committed after a fault
+abbrev pub database_by : Bool → (made : World) → Called → Called → Stepped
+database_by true made called committed = record { world = made; reply = called.reply }
+database_by false made called committed = record {
+  world = called_apart made called.transaction committed;
+  reply = if is_fault committed.reply then committed.reply else called.reply;
+}
+
+abbrev pub commit_made : World → Called → Stepped
+commit_made made called' =
+    database_by (is_fault called'.reply) made called' (called made.setting (next_life made) called'.transaction call.Commit)
+
+-- a call on a transaction of its own, whose life is drawn first, and its commit
+abbrev pub and_commit : World → (World → Transaction → Called) → Stepped
+and_commit world made =
+    let drawn = record world { lives = with_lives world.lives 1 } in
+    let called' = made drawn (fresh_at_last world) in
+    commit_made (called_apart drawn (fresh_at_last world) called') called'
+
+-- ---- promises
+
+-- the reply to a poll
+abbrev pub promised : Option Outcome → Reply
+promised None = reply.NotYet
+promised (Some (outcome.HasStamp stamp)) = reply.Stamp stamp
+promised (Some (outcome.Lacks code)) = reply.Fault code
 
 unfoldable pub step : World → Request → Stepped
 step world (request.New name) = record { world = with_new world name; reply = reply.Done }
 step world (request.On name call) = call_named (with_named world name) name call
-step world (request.Database call) = and_commit world (called world.setting (world.next_life + 1) (fresh_at_last world) call)
-step world (request.Log prefix entries) = and_commit world (in_turn (logs prefix entries) (fresh_at_last world))
+step world (request.Database call) = and_commit world (λ drawn transaction. called drawn.setting (next_life drawn) transaction call)
+step world (request.Log prefix entries) = and_commit world (λ drawn transaction. in_turn (logs prefix entries) transaction)
+step world (request.PollStamp life) = record { world = world; reply = promised (slice_index_or world.lives life None) }

@@ -11,10 +11,19 @@
 use fdb_tuple::Elem;
 use key_bytes::Bytes;
 
-/// An item of a machine's stack: an element, and the number of the instruction that pushed it.
+/// What an item of a machine's stack is.
+#[derive(Debug, Drop)]
+pub enum ItemValue {
+    /// An element.
+    Known(Elem),
+    /// It waits for the versionstamp of the commit of this life.
+    Waits(u64),
+}
+
+/// An item of a machine's stack, and the number of the instruction that pushed it.
 #[derive(Debug, Drop)]
 pub struct Item {
-    pub element: Elem,
+    pub value: ItemValue,
     pub instruction: u64,
 }
 
@@ -27,6 +36,8 @@ pub enum End {
     BadInstruction(u64),
     /// The instruction of this number pops an item where the stack has none.
     Underflow(u64),
+    /// The instruction of this number pops an item that waits, and all polls for it were answered that it isn't decided yet.
+    WaitBound(u64),
 }
 
 /// An error that a machine noted: the number of the instruction that was run, and the digits of the code.
@@ -45,7 +56,15 @@ pub const LOG_BATCH: usize = 100;
 /// How many bytes of a packed item LOG_STACK writes, at most.
 pub const LOGGED_BYTES: usize = 40_000;
 
-/// What the reply to a request is used for, where it is no fault.
+/// The uppermost item of a stack that waits is polled for: the life that it waits for, and how many polls were answered that it
+/// isn't decided yet.
+#[derive(Clone, Copy, Debug)]
+pub struct Wait {
+    pub life: u64,
+    pub polled: u32,
+}
+
+/// What the reply to a request is used for.
 #[derive(Debug, Drop)]
 pub enum Awaits {
     /// Nothing is pushed.
@@ -71,6 +90,12 @@ pub enum Awaits {
     ConflictRange,
     /// The fixed text `SET_CONFLICT_KEY` is pushed.
     ConflictKey,
+    /// An item is pushed that waits for the life.
+    Promise,
+    /// The item that waits becomes known, and the instruction is run again.
+    Stamp(Wait),
+    /// The same within the next items that are logged under the prefix.
+    LoggedStamp { prefix: Bytes, wait: Wait },
 }
 
 /// What a machine is about to do.
@@ -186,6 +211,8 @@ pub enum TransactionOperation {
     WriteConflictKey,
     /// Lets the next write declare nothing.
     DisableWriteConflict,
+    /// Pushes an item that waits for the versionstamp of the commit.
+    GetVersionstamp,
 }
 
 /// An instruction that the machine knows.

@@ -338,3 +338,11 @@ fn joins_pages(rt: HostRuntime) -> Result<(), Fail> {
     assert_eq!(rt; first_unjoined(rt.alloc())?, None);
     Ok(())
 }
+
+#[test]
+fn the_exact_mode_wants_a_limit(rt: HostRuntime) -> Result<(), Fail> {
+    assert!(rt; lacks_limit(Mode::Exact, 0));
+    assert!(rt; !lacks_limit(Mode::Exact, 1));
+    assert!(rt; !lacks_limit(Mode::WantAll, 0));
+    Ok(())
+}

@@ -234,6 +234,26 @@ fn answers_the_rows(rt: HostRuntime) -> Result<(), Fail> {
     Ok(())
 }
 
+// Whether `c` is stored with its value under a clear of it, and is the first stored key from `b` on.
+fn is_stored(alloc: Global) -> Result<bool, AllocError> {
+    let store = store_of(alloc, TWO)?;
+    let edits = edits_of(alloc, ADDED)?;
+    let view = view_of(&edits, &store, 1);
+    let begin = key_of(alloc, b"b")?;
+    let key = key_of(alloc, b"c")?;
+    let is_first = match view.first_stored(&begin, None) {
+        Some((found, _)) => *found == key,
+        None => false,
+    };
+    Ok(is_first && view.stored(&key) == Some(b"3".as_slice()))
+}
+
+#[test]
+fn shows_what_is_stored(rt: HostRuntime) -> Result<(), Fail> {
+    assert!(rt; is_stored(rt.alloc())?);
+    Ok(())
+}
+
 // ---- the undecided keys of ranges
 
 // The begin and the end of a range.

@@ -3,22 +3,23 @@ use Rattle.std.proofs.Common.{◌≡◌, ℕ, List, [], ◌∷◌, ◌++◌, map
 use Rattle.std.proofs.lemmas.List.{map_push}
 use Rattle.fdb_tuple.specs.declared.tuple.Elem.{Elem}
 use Rattle.machine_rules.specs.declared.Item.{Item}
+use Rattle.machine_rules.specs.declared.ItemValue.TheVariants as value
 use Rattle.machine_rules.specs.StackOperations.{pushed}
 use Rattle.stack_items.specs.Items.{EndsIn}
-use Rattle.stack_items.proofs.Popping.{EndsIn-refl, EndsIn-below, EndsIn-trans}
+use Rattle.stack_items.proofs.Below.{EndsIn-refl, EndsIn-below, EndsIn-trans}
 
 pub pushed-append : (number : ℕ) (xs ys : List Elem) (stack : List Item)
     → pushed number (xs ++ ys) stack ≡ pushed number ys (pushed number xs stack)
 pushed-append number [] ys stack = refl
-pushed-append number (x ∷ xs) ys stack = pushed-append number xs ys (record { element = x; instruction = number } ∷ stack)
+pushed-append number (x ∷ xs) ys stack = pushed-append number xs ys (record { value = value.Known x; instruction = number } ∷ stack)
 
 -- what lies under pushed elements stands
 pub pushed-EndsIn : (number : ℕ) (elements : List Elem) (stack : List Item) → EndsIn stack (pushed number elements stack)
 pushed-EndsIn number [] stack = EndsIn-refl stack
 pushed-EndsIn number (element ∷ elements) stack =
-    EndsIn-trans stack (record { element = element; instruction = number } ∷ stack) (pushed number elements (record { element = element; instruction = number } ∷ stack))
-    (EndsIn-below stack (record { element = element; instruction = number }))
-    (pushed-EndsIn number elements (record { element = element; instruction = number } ∷ stack))
+    EndsIn-trans stack (record { value = value.Known element; instruction = number } ∷ stack) (pushed number elements (record { value = value.Known element; instruction = number } ∷ stack))
+    (EndsIn-below stack (record { value = value.Known element; instruction = number }))
+    (pushed-EndsIn number elements (record { value = value.Known element; instruction = number } ∷ stack))
 
 -- a loop's step: one more is pushed
 pub pushed_more : {A : Type 0} (number : ℕ) (f : A → Elem) (xs : List A) (x : A) (stack now : List Item)

@@ -1,6 +1,6 @@
 -- A stack's list of items has its top first, the Vec behind it its oldest: what an edit of the one is in the other.
 use Rattle.std.proofs.Common.{List, [], ◌∷◌, ◌++◌, length, take, drop, get_or, set, reverse}
-use Rattle.std.proofs.Common.{◌≡◌, ◌≢◌, ℕ, ◌-◌, ◌<◌, refl, sym, ap, ◌∙◌, ⊎_elim, arith}
+use Rattle.std.proofs.Common.{◌≡◌, ◌≢◌, ℕ, ◌-◌, ◌<◌, ◌≤◌, refl, sym, ap, ◌∙◌, ⊎_elim, arith}
 use Rattle.std.specs.List.{swap, AllByRecursion}
 use Rattle.std.proofs.lemmas.Bool.{cases_eq}
 use Rattle.std.proofs.lemmas.List.{length-reverse, length-set, length-drop, get_or-reverse, get_or-set_same, get_or-set_other, same_lists}
@@ -71,6 +71,11 @@ pub drop-reverse : {X : Type 0} (n : ℕ) (xs : List X) → drop (length xs - n)
 drop-reverse n xs =
     ap (drop (length xs - n)) (reverse-split n xs)
     ∙ drop_at (reverse (drop n xs)) (reverse (take n xs)) (length xs - n) (length-reverse-drop n xs)
+
+pub drop-reverse_within : {X : Type 0} (n : ℕ) (xs : List X) → n ≤ length xs → drop n (reverse xs) ≡ reverse (take (length xs - n) xs)
+drop-reverse_within n xs le =
+    let same : length xs - (length xs - n) ≡ n = omega arith in
+    ap (λ k. drop k (reverse xs)) (sym same) ∙ drop-reverse (length xs - n) xs
 
 -- and those before them
 pub take-reverse : {X : Type 0} (n : ℕ) (xs : List X) → take (length xs - n) (reverse xs) ≡ reverse (drop n xs)

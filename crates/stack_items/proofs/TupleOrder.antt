@@ -129,8 +129,9 @@ tuple_sort-done number stack left strings sorted e all moved rises =
 
 pub tuple_sort-refused : (number : ℕ) (stack left : List Item) (strings : List (List ℕ)) (why : StackFault)
     → byte_strings_operand stack ≡ Ok (strings, left)
-    → UnpacksEach {E = Unit {0}} (Err why) strings → Does {E = Unit {0}} (Err why) (tuple_sort number stack) left
+    → UnpacksEach {E = Unit {0}} (Err why) strings → Does {E = Unit {0}} (Err why) (tuple_sort number stack) stack left
 tuple_sort-refused number stack left strings fault.Underflow e each = absurd each
 tuple_sort-refused number stack left strings fault.Operand e each =
     ap (sort_from number) e ∙ ap (λ (tuples : Option (List Elements)). pushed_in_order number tuples left) (read_none strings each)
+tuple_sort-refused number stack left strings (fault.Waits life) e each = absurd each
 tuple_sort-refused number stack left strings fault.NoMemory e each = tt

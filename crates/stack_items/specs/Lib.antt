@@ -1,3 +1,4 @@
 pub mod Items
+pub mod Looks
 pub mod Pops
 pub mod Unpacked

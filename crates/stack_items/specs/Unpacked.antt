@@ -26,6 +26,7 @@ abbrev pub Unpacks : Result Elements StackFault → List ℕ → Type 0
 Unpacks (Ok tuple) bytes = IsPacked bytes tuple
 Unpacks (Err fault.Underflow) bytes = ⊥
 Unpacks (Err fault.Operand) bytes = PacksNone bytes
+Unpacks (Err (fault.Waits life)) bytes = ⊥
 Unpacks (Err fault.NoMemory) bytes = ⊤
 
 -- Each of the byte strings packs a tuple, or one of them packs none, unless memory ran out.
@@ -33,4 +34,5 @@ abbrev pub UnpacksEach : {E : Type 0} → Result E StackFault → List (List ℕ
 UnpacksEach (Ok done) strings = All PacksSome strings
 UnpacksEach (Err fault.Underflow) strings = ⊥
 UnpacksEach (Err fault.Operand) strings = Any PacksNone strings
+UnpacksEach (Err (fault.Waits life)) strings = ⊥
 UnpacksEach (Err fault.NoMemory) strings = ⊤

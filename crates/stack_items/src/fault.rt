@@ -15,6 +15,9 @@ pub enum StackFault {
     /// An operand, a difference, a packed text or an unpacked text is of a kind or range that the operation doesn't take.
     #[error("an operand is of a wrong kind or range")]
     Operand,
+    /// The item that is to be popped waits for the versionstamp of the commit of this life. All items of the stack stay.
+    #[error("an item waits for the versionstamp of a commit")]
+    Waits { life: u64 },
     /// Memory ran out.
     #[error("out of memory")]
     NoMemory,

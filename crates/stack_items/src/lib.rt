@@ -2,21 +2,28 @@
 //!
 //! Contracts see a `Stack` as the list of its items, the top first; `get` counts from the oldest. What an operand of a
 //! kind is, and what each operation leaves, stands in `machine_rules` (`specs/Operands.antt`,
-//! `specs/StackOperations.antt`): each call here does what is said there, and says what stands after a refusal.
+//! `specs/StackOperations.antt`): each call here does what is said there, and says what stands after a refusal. Where an
+//! operation comes to an operand that waits, all items stay, so that it can be run again once the item is known.
 #![tactic(auto)]
 
 mod fault;
+mod kinds;
 mod logging;
 mod operands;
 mod operate;
 mod operations;
+mod popping;
 mod stack;
 mod tuples;
+mod waiting;
 
 pub use fault::StackFault;
-pub use machine_rules::{Item, StackOperation};
-pub use operands::bytes_of;
+pub use kinds::bytes_of;
+pub use machine_rules::{Item, ItemValue, StackOperation};
+pub use operands::Operands;
 pub use stack::Stack;
 
 #[cfg(test)]
 mod tests;
+#[cfg(test)]
+mod tests_by_name;

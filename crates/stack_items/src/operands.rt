@@ -1,273 +1,235 @@
-//! Operands by their kinds.
+//! The operands of an operation, one after the other, before any is taken off.
+//!
+//! An operation whose operand waits leaves all items as they were, also those of the operands before it. So it looks at
+//! its operands first, by a cursor that takes none off; then `Stack::settle` takes off those that it came past, unless it
+//! came to an item that waits.
 
-ghost use Rattle.std.specs.Prelude.{◌≡◌, ◌≤◌, [], ◌∷◌, ◌++◌, length, map, take, drop, Err, option_map, IfOk, OnOk, OnErr, IsOkUnless};
-ghost use Rattle.fdb_tuple.specs.Listed.{elements_of, IsElement};
-ghost use Rattle.machine_rules.specs.Operands.{bytes_of, string_of, int_of, flag_of, count_in, code_in, offset_in, limit_in, mode_in};
-ghost use Rattle.machine_rules.specs.Operands.{code_operand, flag_operand, offset_operand, limit_operand, mode_operand, item_operand};
-ghost use Rattle.machine_rules.specs.Operands.{bytes_operand, string_operand, int_operand, count_operand, tuple_operand};
-ghost use Rattle.machine_rules.specs.Operands.{byte_strings_operand, left_of};
-ghost use Rattle.stack_items.specs.Items.{IsItem, EndsIn};
-ghost use Rattle.stack_items.specs.Pops.{Pops, PopsUnlessFull};
+ghost use Rattle.std.specs.Prelude.{◌≡◌, reverse};
+ghost use Rattle.machine_rules.specs.Operands.{code_operand, flag_operand, offset_operand, limit_operand, mode_operand, bytes_operand};
+ghost use Rattle.machine_rules.specs.Operands.{string_operand, int_operand, count_operand, element_operand, operands_by, two_operands};
+ghost use Rattle.machine_rules.specs.Operands.{elements_operand, byte_strings_operand};
+ghost use Rattle.stack_items.specs.Looks.{ComesPast, Looks, LooksUnlessFull, Passes};
 
 use crate::fault::StackFault;
-use crate::stack::Stack;
+use crate::kinds::{
+    bytes_of, code_in, count_in, flag_of, int_of, limit_in, mode_in, offset_in, string_of,
+};
+use crate::stack::top_of;
 use database_rules::Mode;
-use fdb_tuple::{Elem, Tuple};
+use fdb_tuple::Elem;
 use key_bytes::Bytes;
-use machine_rules::Item;
+use machine_rules::{Item, ItemValue};
+use std::marker::Model;
 
-// The greatest limit of a range.
-const LIMIT_MOST: u128 = (1 << 31) - 1;
+/// A look at the operands of an operation, from the top of a stack on. It takes no item off. Contracts see the items of the
+/// stack and how many the look came past.
+///
+/// Each call looks at the next item. Where there is none it answers Underflow; where the item is of another kind it
+/// answers Operand, and the look came past it; where the item waits it answers Waits. None takes memory but
+/// `copied_bytes`.
+#[derive(Debug, Drop)]
+pub struct Operands<'a> {
+    items: &'a [Item],
+    popped: usize,
+}
 
-impl Stack {
-    // Pops an item of any kind.
-    pub(crate) fn pop_item(&mut self) -> Result<Item, StackFault>
-        ensures popped { Pops (λ item. item) result (item_operand self.old) self.new }
-        ensures element { IfOk result IsItem }
+impl<'a> Model for Operands<'a> {
+    ghost use Rattle.std.specs.Prelude.{◌≤◌, length, reverse};
+    ghost use Rattle.stack_items.specs.Looks.{Look};
+
+    ghost Value = { Look };
+
+    ghost use Rattle.machine_rules.specs.contracts.Item as item;
+    ghost use Rattle.std.specs.Coded.{codes};
+
+    ghost coded = { Prim.hlevel (codes, item.the_row.coded) };
+
+    ghost view = { λ operands. record { whole = reverse operands.items.now; popped = operands.popped } };
+
+    ghost invariant = { λ operands. operands.popped ≤ length operands.items.now };
+}
+
+impl<'a> Operands<'a> {
+    // A look at these items, oldest first, that came past none.
+    pub(crate) fn new(items: &'a [Item]) -> Operands<'a>
+        ensures { result ≡ record { whole = reverse items.now; popped = 0 } }
     {
-        self.pop_top().ok_or(StackFault::Underflow)
+        Operands { items, popped: 0 }
     }
 
-    /// Pops an operand of the kind "bytes": a byte string, or a Unicode string taken as its UTF-8. Where there is
-    /// no item it answers Underflow; where the top item is of another kind it answers Operand, and the item is
-    /// gone. It takes no memory.
-    pub fn pop_bytes(&mut self) -> Result<Bytes, StackFault>
-        ensures { Pops (λ bytes. bytes) result (bytes_operand self.old) self.new }
+    /// How many items the look came past. It takes no memory.
+    pub fn popped(&self) -> usize
+        ensures { result ≡ self.now.popped }
     {
-        let item = self.pop_item()?;
-        into_bytes(item.element).ok_or(StackFault::Operand)
+        self.popped
     }
 
-    // Pops a byte string or a Unicode string, as it is.
-    pub(crate) fn pop_string(&mut self) -> Result<Elem, StackFault>
-        ensures { Pops (λ string. string) result (string_operand self.old) self.new }
+    /// A byte string, or the UTF-8 of a Unicode string.
+    pub fn bytes(&mut self) -> Result<&'a [u8], StackFault>
+        ensures { Looks (λ bytes. bytes.now) result bytes_operand self.old self.new }
     {
-        let item = self.pop_item()?;
-        into_string(item.element).ok_or(StackFault::Operand)
+        bytes_of(self.element()?).ok_or(StackFault::Operand)
     }
 
-    // Pops an integer.
-    pub(crate) fn pop_int(&mut self) -> Result<i128, StackFault>
-        ensures { Pops (λ number. number) result (int_operand self.old) self.new }
+    /// A copy of a byte string, or of the UTF-8 of a Unicode string. It answers NoMemory where there is none for the copy.
+    pub fn copied_bytes(&mut self) -> Result<Bytes, StackFault>
+        ensures { LooksUnlessFull (λ bytes. bytes) result bytes_operand self.old self.new }
     {
-        let item = self.pop_item()?;
-        into_int(item.element).ok_or(StackFault::Operand)
+        match self.element()? {
+            Elem::Bytes(bytes) => Ok(bytes.copy()?),
+            Elem::Text(text) => Ok(text.copy()?.into_bytes()),
+            _ => Err(StackFault::Operand),
+        }
     }
 
-    // Pops an integer from 0 upward.
-    pub(crate) fn pop_count(&mut self) -> Result<u128, StackFault>
-        ensures { Pops (λ count. count) result (count_operand self.old) self.new }
+    /// A code: an integer from 0 to 65,535.
+    pub fn code(&mut self) -> Result<u16, StackFault>
+        ensures { Looks (λ code. code) result code_operand self.old self.new }
     {
-        let item = self.pop_item()?;
-        into_int(item.element)
-            .and_then(count_in)
-            .ok_or(StackFault::Operand)
-    }
-
-    /// Pops a code: an integer from 0 to 65,535. Where there is no item it answers Underflow; where the top item is no
-    /// such integer it answers Operand, and the item is gone. It takes no memory.
-    pub fn pop_code(&mut self) -> Result<u16, StackFault>
-        ensures { Pops (λ code. code) result (code_operand self.old) self.new }
-    {
-        let item = self.pop_item()?;
-        into_int(item.element)
+        int_of(self.element()?)
             .and_then(count_in)
             .and_then(code_in)
             .ok_or(StackFault::Operand)
     }
 
-    /// Pops a flag: an integer, true where it isn't 0, or a boolean. Where there is no item it answers Underflow; where the
-    /// top item is neither it answers Operand, and the item is gone. It takes no memory.
-    pub fn pop_flag(&mut self) -> Result<bool, StackFault>
-        ensures { Pops (λ flag. flag) result (flag_operand self.old) self.new }
+    /// A flag: an integer, true where it isn't 0, or a boolean.
+    pub fn flag(&mut self) -> Result<bool, StackFault>
+        ensures { Looks (λ flag. flag) result flag_operand self.old self.new }
     {
-        let item = self.pop_item()?;
-        into_flag(item.element).ok_or(StackFault::Operand)
+        flag_of(self.element()?).ok_or(StackFault::Operand)
     }
 
-    /// Pops an offset: an integer of 32 bits with a sign. Where there is no item it answers Underflow; where the top item is
-    /// no such integer it answers Operand, and the item is gone. It takes no memory.
-    pub fn pop_offset(&mut self) -> Result<i32, StackFault>
-        ensures { Pops (λ offset. offset) result (offset_operand self.old) self.new }
+    /// An offset: an integer of 32 bits with a sign.
+    pub fn offset(&mut self) -> Result<i32, StackFault>
+        ensures { Looks (λ offset. offset) result offset_operand self.old self.new }
     {
-        let item = self.pop_item()?;
-        into_int(item.element)
+        int_of(self.element()?)
             .and_then(offset_in)
             .ok_or(StackFault::Operand)
     }
 
-    /// Pops a limit: an integer from 0 to 2^31 - 1. Where there is no item it answers Underflow; where the top item is no
-    /// such integer it answers Operand, and the item is gone. It takes no memory.
-    pub fn pop_limit(&mut self) -> Result<u32, StackFault>
-        ensures { Pops (λ limit. limit) result (limit_operand self.old) self.new }
+    /// A limit: an integer from 0 to 2^31 - 1.
+    pub fn limit(&mut self) -> Result<u32, StackFault>
+        ensures { Looks (λ limit. limit) result limit_operand self.old self.new }
     {
-        let item = self.pop_item()?;
-        into_int(item.element)
+        int_of(self.element()?)
             .and_then(count_in)
             .and_then(limit_in)
             .ok_or(StackFault::Operand)
     }
 
-    /// Pops a streaming mode by its number, from -2 to 4 (API reference, "FDBStreamingMode"). Where there is no item it
-    /// answers Underflow; where the top item is no such integer it answers Operand, and the item is gone. It takes no
-    /// memory.
-    pub fn pop_mode(&mut self) -> Result<Mode, StackFault>
-        ensures { Pops (λ mode. mode) result (mode_operand self.old) self.new }
+    /// A streaming mode by its number, from -2 to 4 (API reference, "FDBStreamingMode").
+    pub fn mode(&mut self) -> Result<Mode, StackFault>
+        ensures { Looks (λ mode. mode) result mode_operand self.old self.new }
     {
-        let item = self.pop_item()?;
-        into_int(item.element)
+        int_of(self.element()?)
             .and_then(mode_in)
             .ok_or(StackFault::Operand)
     }
 
-    // Pops a count and so many items, as the elements of a tuple in the order popped. Where memory runs out, the
-    // items below them stand.
-    pub(crate) fn pop_tuple(&mut self) -> Result<Tuple, StackFault>
-        ensures popped { PopsUnlessFull (λ tuple. tuple) result (tuple_operand self.old) self.new }
-        ensures memory { result ≡ Err StackFault.NoMemory → EndsIn (left_of (tuple_operand self.old)) self.new }
+    // A byte string or a Unicode string, as it is.
+    pub(crate) fn string(&mut self) -> Result<&'a Elem, StackFault>
+        ensures { Looks (λ string. string.now) result string_operand self.old self.new }
     {
-        let count = self.pop_count()?;
-        if count > self.len() as u128 {
-            self.clear();
-            return Err(StackFault::Underflow);
-        }
-        self.take_elements(count as usize)
+        string_of(self.element()?).ok_or(StackFault::Operand)
     }
 
-    // Takes so many items off, as the elements of a tuple in the order taken.
-    fn take_elements(&mut self, count: usize) -> Result<Tuple, StackFault>
-        requires { count ≤ length self.old }
-        ensures taken { IfOk result (λ tuple. elements_of tuple ≡ map (λ item. item.element) (take count self.old)) }
-        ensures left { OnOk result (self.new ≡ drop count self.old) }
-        ensures memory { OnErr result (EndsIn (drop count self.old) self.new) }
-        ensures cause { IsOkUnless result StackFault.NoMemory }
+    // An integer.
+    pub(crate) fn int(&mut self) -> Result<i128, StackFault>
+        ensures { Looks (λ number. number) result int_operand self.old self.new }
     {
-        let mut tuple = Tuple::new(self.alloc());
-        for _taken in 0..count {
-            add_element(&mut tuple, self.take().element)?;
-        }
-        Ok(tuple)
+        int_of(self.element()?).ok_or(StackFault::Operand)
     }
 
-    // Pops a count and so many byte strings, in the order popped. Where memory runs out, the items below them stand.
-    pub(crate) fn pop_byte_strings(&mut self) -> Result<Vec<Bytes>, StackFault>
-        ensures popped { PopsUnlessFull (λ strings. strings.items) result (byte_strings_operand self.old) self.new }
-        ensures memory { result ≡ Err StackFault.NoMemory → EndsIn (left_of (byte_strings_operand self.old)) self.new }
+    // Two integers.
+    pub(crate) fn two_ints(&mut self) -> Result<(i128, i128), StackFault>
+        ensures { Looks (λ numbers. numbers) result (two_operands int_operand int_operand) self.old self.new }
     {
-        let count = self.pop_count()?;
-        let mut strings = Vec::new(self.alloc());
-        for _popped in 0..count {
-            let string = self.pop_bytes()?;
-            strings.push(string)?;
+        let first = self.int()?;
+        let second = self.int()?;
+        Ok((first, second))
+    }
+
+    // An integer from 0 upward.
+    pub(crate) fn count(&mut self) -> Result<u128, StackFault>
+        ensures { Looks (λ count. count) result count_operand self.old self.new }
+    {
+        int_of(self.element()?)
+            .and_then(count_in)
+            .ok_or(StackFault::Operand)
+    }
+
+    // Comes past two byte strings.
+    pub(crate) fn pass_two_bytes(&mut self) -> Result<(), StackFault>
+        ensures { Passes result (two_operands bytes_operand bytes_operand) self.old self.new }
+    {
+        self.bytes()?;
+        self.bytes()?;
+        Ok(())
+    }
+
+    // Comes past a count and so many items.
+    pub(crate) fn pass_tuple(&mut self) -> Result<(), StackFault>
+        ensures { Passes result elements_operand self.old self.new }
+    {
+        let count = self.count()?;
+        self.pass_elements(count)
+    }
+
+    // Comes past so many items.
+    fn pass_elements(&mut self, count: u128) -> Result<(), StackFault>
+        ensures { Passes result (operands_by element_operand count) self.old self.new }
+    {
+        for _passed in 0..count {
+            self.element()?;
         }
-        Ok(strings)
+        Ok(())
     }
-}
 
-// Adds an element of some tuple, whose refusal is for want of memory alone.
-fn add_element(tuple: &mut Tuple, element: Elem) -> Result<(), StackFault>
-    requires { IsElement element }
-    ensures ok { OnOk result (elements_of tuple.new ≡ elements_of tuple.old ++ element ∷ []) }
-    ensures cause { IsOkUnless result StackFault.NoMemory }
-{
-    match tuple.push(element) {
-        Ok(()) => Ok(()),
-        Err(_) => Err(StackFault::NoMemory),
+    // Comes past a byte string, and then a count and so many items.
+    pub(crate) fn pass_prefixed_tuple(&mut self) -> Result<(), StackFault>
+        ensures { Passes result (two_operands bytes_operand elements_operand) self.old self.new }
+    {
+        self.bytes()?;
+        self.pass_tuple()
     }
-}
 
-fn into_bytes(element: Elem) -> Option<Bytes>
-    ensures { result ≡ bytes_of element }
-{
-    match element {
-        Elem::Bytes(bytes) => Some(bytes),
-        Elem::Text(text) => Some(text.into_bytes()),
-        _ => None,
+    // Comes past a count and so many byte strings.
+    pub(crate) fn pass_byte_strings(&mut self) -> Result<(), StackFault>
+        ensures { Passes result byte_strings_operand self.old self.new }
+    {
+        let count = self.count()?;
+        self.pass_bytes(count)
     }
-}
 
-fn into_string(element: Elem) -> Option<Elem>
-    ensures { result ≡ string_of element }
-{
-    match element {
-        Elem::Bytes(_) | Elem::Text(_) => Some(element),
-        _ => None,
+    // Comes past so many byte strings.
+    fn pass_bytes(&mut self, count: u128) -> Result<(), StackFault>
+        ensures { Passes result (operands_by bytes_operand count) self.old self.new }
+    {
+        for _passed in 0..count {
+            self.bytes()?;
+        }
+        Ok(())
     }
-}
 
-fn into_int(element: Elem) -> Option<i128>
-    ensures { result ≡ int_of element }
-{
-    match element {
-        Elem::Int(number) => Some(number),
-        _ => None,
+    // The next item, where it is known.
+    fn element(&mut self) -> Result<&'a Elem, StackFault>
+        ensures { Looks (λ element. element.now) result element_operand self.old self.new }
+    {
+        let item = self.next().ok_or(StackFault::Underflow)?;
+        match &item.value {
+            ItemValue::Known(element) => Ok(element),
+            ItemValue::Waits(life) => Err(StackFault::Waits { life: *life }),
+        }
     }
-}
 
-fn count_in(number: i128) -> Option<u128>
-    ensures { result ≡ count_in number }
-{
-    if number.is_negative() {
-        None
-    } else {
-        Some(number.unsigned_abs())
-    }
-}
-
-fn code_in(number: u128) -> Option<u16>
-    ensures { result ≡ code_in number }
-{
-    u16::try_from(number).ok()
-}
-
-fn into_flag(element: Elem) -> Option<bool>
-    ensures { result ≡ flag_of element }
-{
-    match element {
-        Elem::Int(number) => Some(number.unsigned_abs() > 0),
-        Elem::Bool(flag) => Some(flag),
-        _ => None,
-    }
-}
-
-fn offset_in(number: i128) -> Option<i32>
-    ensures { result ≡ offset_in number }
-{
-    i32::try_from(number).ok()
-}
-
-fn limit_in(number: u128) -> Option<u32>
-    ensures { result ≡ limit_in number }
-{
-    if number <= LIMIT_MOST {
-        Some(number as u32)
-    } else {
-        None
-    }
-}
-
-fn mode_in(number: i128) -> Option<Mode>
-    ensures { result ≡ mode_in number }
-{
-    match (number.is_negative(), number.unsigned_abs()) {
-        (true, 2) => Some(Mode::WantAll),
-        (true, 1) => Some(Mode::Iterator),
-        (false, 0) => Some(Mode::Exact),
-        (false, 1) => Some(Mode::Small),
-        (false, 2) => Some(Mode::Medium),
-        (false, 3) => Some(Mode::Large),
-        (false, 4) => Some(Mode::Serial),
-        _ => None,
-    }
-}
-
-/// The bytes of an element of the kind "bytes": of a byte string, or of a Unicode string's UTF-8. It takes no memory.
-pub fn bytes_of(element: &Elem) -> Option<&[u8]>
-    ensures { option_map (λ bytes. bytes.now) result ≡ bytes_of element.now }
-{
-    match element {
-        Elem::Bytes(bytes) => Some(bytes.as_slice()),
-        Elem::Text(text) => Some(text.as_bytes()),
-        _ => None,
+    // The next item, if there is one, which the look comes past.
+    fn next(&mut self) -> Option<&'a Item>
+        ensures { ComesPast result self.old self.new }
+    {
+        let left = self.items.len() - self.popped;
+        let item = top_of(&self.items[..left])?;
+        self.popped += 1;
+        Some(item)
     }
 }

@@ -12,7 +12,7 @@ impl Stack {
     /// said at its own call.
     #[tactic(auto, unfolding(machine_rules::specs::StackOperations::operated))]
     pub fn operate(&mut self, operation: StackOperation, instruction: u64) -> Result<(), StackFault>
-        ensures { Does result (operated operation instruction self.old) self.new }
+        ensures { Does result (operated operation instruction self.old) self.old self.new }
     {
         match operation {
             StackOperation::Dup => self.dup(instruction),

@@ -1,20 +1,20 @@
 //! A machine's stack.
 
-ghost use Rattle.std.specs.Prelude.{◌≡◌, ◌==◌, ◌<◌, [], ◌∷◌, Some, length, take, reverse, slice_get, IfSome, OnOk, OnErr, IsOkUnless};
+ghost use Rattle.std.specs.Prelude.{◌≡◌, ◌==◌, ◌<◌, [], ◌∷◌, Some, length, take, drop, reverse, slice_get, IfSome, OnOk, OnErr, IsOkUnless};
 ghost use Rattle.std.specs.List.{swap};
 ghost use Rattle.machine_rules.specs.StackOperations.{pushed};
-ghost use Rattle.stack_items.specs.Items.{IsItem, AreItems};
-ghost use Rattle.stack_items.specs.Pops.{PopsTop, SeesTop};
+ghost use Rattle.stack_items.specs.Items.{IsItem, AreItems, IsWaiting, known_at};
+ghost use Rattle.stack_items.specs.Pops.{SeesTop};
 ghost use Rattle.fdb_tuple.specs.Listed.{IsElement};
 
 use crate::fault::StackFault;
 use fdb_tuple::Elem;
-use machine_rules::Item;
+use machine_rules::{Item, ItemValue};
 use std::alloc::{AllocError, Global};
 use std::marker::Model;
 
-/// A machine's stack. Contracts see the list of its items, the top first. An item is an element of some tuple: a nested
-/// tuple in it has a depth of at most 99.
+/// A machine's stack. Contracts see the list of its items, the top first. An item is an element of some tuple, so a nested
+/// tuple in it has a depth of at most 99; or it waits for the versionstamp of a commit.
 #[derive(Debug, Drop)]
 pub struct Stack {
     items: Vec<Item>,
@@ -97,6 +97,17 @@ impl Stack {
         self.items.pop().unwrap()
     }
 
+    /// Makes the item known that waits at place `i`, the oldest item at 0: it is this element from then on, and keeps the number of
+    /// its instruction. It takes no memory.
+    pub fn decide(&mut self, i: usize, value: Elem)
+        requires place { i < length self.old }
+        requires waits { IfSome (slice_get (reverse self.old) i) IsWaiting }
+        requires element { IsElement value }
+        ensures { reverse self.new ≡ known_at i value (reverse self.old) }
+    {
+        self.items[i].value = ItemValue::Known(value);
+    }
+
     /// The operation PUSH: puts an element on top, with the number of the instruction that is run
     /// (bindingApiTester.md, "Data Operations"). After a refusal, for want of memory alone, the stack is unchanged.
     pub fn push(&mut self, element: Elem, instruction: u64) -> Result<(), StackFault>
@@ -106,18 +117,10 @@ impl Stack {
         ensures cause { IsOkUnless result StackFault.NoMemory }
     {
         self.put(Item {
-            element,
+            value: ItemValue::Known(element),
             instruction,
         })?;
         Ok(())
-    }
-
-    // Pops the top item, if there is one.
-    pub(crate) fn pop_top(&mut self) -> Option<Item>
-        ensures popped { PopsTop result self.old self.new }
-        ensures element { IfSome result IsItem }
-    {
-        self.items.pop()
     }
 
     // The top item, if there is one.
@@ -151,8 +154,22 @@ impl Stack {
         self.items.truncate(count);
     }
 
+    // Takes off so many of the newest items, or all.
+    pub(crate) fn drop_newest(&mut self, count: usize)
+        ensures { self.new ≡ drop count self.old }
+    {
+        self.keep_oldest(self.len().saturating_sub(count));
+    }
+
     // The allocator of the stack.
     pub(crate) fn alloc(&self) -> Global {
         *self.items.allocator()
     }
+}
+
+// The top of these items, oldest first, if there is one.
+pub(crate) fn top_of(items: &[Item]) -> Option<&Item>
+    ensures { SeesTop result (reverse items.now) }
+{
+    items.last()
 }

@@ -26,6 +26,24 @@ enum Step {
     Run(StackOperation),
     // Runs an operation, which is refused.
     Refused(StackOperation, StackFault),
+    // Pushes an item that waits for this life.
+    Waits(u64),
+    // Runs an operation, which is refused as an item waits for this life, and all items stay.
+    Stays(StackOperation, u64),
+    // Looks at two byte strings and then a code, of which one waits for this life, and all items stay.
+    LookStays(u64),
+    // Takes an item of an instruction off the top that waits for this life.
+    TakesWaiting(u64, u64),
+    // Makes the uppermost item an integer that waits.
+    Decides(i128),
+    // Makes the item at this place an integer, which waits.
+    DecidesAt(usize, i128),
+    // Drops the uppermost item that waits and all above it.
+    DropsWaiting,
+    // Asks for the place of the uppermost item that waits.
+    HasWaiting(Option<usize>),
+    // Asks for the life that the next batch of a log waits for.
+    BatchLife(Option<u64>),
     // Takes an integer of an instruction off the top.
     TakesInt(i128, u64),
     // Takes a string off the top.
@@ -49,7 +67,112 @@ fn takes_int(stack: &mut Stack, number: i128, instruction: u64) -> bool {
         return false;
     }
     let item = stack.take();
-    item.instruction == instruction && matches!(item.element, Elem::Int(found) if found == number)
+    item.instruction == instruction
+        && matches!(item.value, ItemValue::Known(Elem::Int(found)) if found == number)
+}
+
+fn takes_waiting(stack: &mut Stack, life: u64, instruction: u64) -> bool {
+    if stack.is_empty() {
+        return false;
+    }
+    let item = stack.take();
+    item.instruction == instruction
+        && matches!(item.value, ItemValue::Waits(found) if found == life)
+}
+
+// The numbers of the oldest items.
+fn numbers(stack: &Stack) -> [Option<u64>; 8] {
+    let mut numbers = [None; 8];
+    for (number, item) in numbers.iter_mut().zip(stack.as_slice()) {
+        *number = Some(item.instruction);
+    }
+    numbers
+}
+
+// Whether an operation is refused as an item waits for this life, and all items stay.
+fn stays(stack: &mut Stack, operation: StackOperation, life: u64) -> bool {
+    let before = (stack.len(), numbers(stack));
+    let refused = stack.operate(operation, RUN).err();
+    refused == Some(StackFault::Waits { life }) && before == (stack.len(), numbers(stack))
+}
+
+// Two byte strings and then a code, as a call on the stack pops them.
+fn pop_call(stack: &mut Stack) -> Result<(Bytes, Bytes, u16), StackFault> {
+    let mut operands = stack.operands();
+    let call = look_at_call(&mut operands);
+    let popped = operands.popped();
+    stack.settle(popped, call)
+}
+
+fn look_at_call(operands: &mut Operands<'_>) -> Result<(Bytes, Bytes, u16), StackFault> {
+    let first = operands.copied_bytes()?;
+    let second = operands.copied_bytes()?;
+    let code = operands.code()?;
+    Ok((first, second, code))
+}
+
+// Whether such a call is refused as an item waits for this life, and all items stay.
+fn look_stays(stack: &mut Stack, life: u64) -> bool {
+    let before = (stack.len(), numbers(stack));
+    let refused = pop_call(stack).err();
+    refused == Some(StackFault::Waits { life }) && before == (stack.len(), numbers(stack))
+}
+
+fn pop_code(stack: &mut Stack) -> Result<u16, StackFault> {
+    let mut operands = stack.operands();
+    let code = operands.code();
+    let popped = operands.popped();
+    stack.settle(popped, code)
+}
+
+fn pop_flag(stack: &mut Stack) -> Result<bool, StackFault> {
+    let mut operands = stack.operands();
+    let flag = operands.flag();
+    let popped = operands.popped();
+    stack.settle(popped, flag)
+}
+
+fn pop_offset(stack: &mut Stack) -> Result<i32, StackFault> {
+    let mut operands = stack.operands();
+    let offset = operands.offset();
+    let popped = operands.popped();
+    stack.settle(popped, offset)
+}
+
+fn pop_limit(stack: &mut Stack) -> Result<u32, StackFault> {
+    let mut operands = stack.operands();
+    let limit = operands.limit();
+    let popped = operands.popped();
+    stack.settle(popped, limit)
+}
+
+fn pop_mode(stack: &mut Stack) -> Result<Mode, StackFault> {
+    let mut operands = stack.operands();
+    let mode = operands.mode();
+    let popped = operands.popped();
+    stack.settle(popped, mode)
+}
+
+// Whether the item at this place waits, which is an integer from then on.
+fn decides_at(stack: &mut Stack, place: usize, number: i128) -> bool {
+    match stack.first_waiting() {
+        Some(found) if found == place => {
+            stack.decide(found, Elem::Int(number));
+            true
+        }
+        _ => false,
+    }
+}
+
+// Runs a call that has no answer.
+fn decides(stack: &mut Stack, number: i128) -> bool {
+    stack.decide_first(Elem::Int(number));
+    true
+}
+
+fn drops_waiting(stack: &mut Stack) -> bool {
+    stack.drop_waiting();
+    true
 }
 
 fn pushes_bytes(alloc: Global, stack: &mut Stack, bytes: &[u8], place: u64) -> bool {
@@ -105,14 +228,23 @@ fn is_answered(alloc: Global, stack: &mut Stack, step: Step, place: u64) -> bool
         Step::Stamp(user) => stack.push(Elem::Stamp(stamp(user)), place).is_ok(),
         Step::Run(operation) => stack.operate(operation, RUN).is_ok(),
         Step::Refused(operation, fault) => stack.operate(operation, RUN).err() == Some(fault),
+        Step::Waits(life) => stack.push_waiting(life, place).is_ok(),
+        Step::Stays(operation, life) => stays(stack, operation, life),
+        Step::LookStays(life) => look_stays(stack, life),
+        Step::TakesWaiting(life, instruction) => takes_waiting(stack, life, instruction),
+        Step::Decides(number) => decides(stack, number),
+        Step::DecidesAt(place, number) => decides_at(stack, place, number),
+        Step::DropsWaiting => drops_waiting(stack),
+        Step::HasWaiting(place) => stack.first_waiting() == place,
+        Step::BatchLife(life) => stack.batch_life() == life,
         Step::TakesInt(number, instruction) => takes_int(stack, number, instruction),
         Step::Takes(string) => takes(stack, string) == Ok(true),
         Step::TakesNone(fault) => takes(stack, b"") == Err(fault),
-        Step::TakesCode(code) => stack.pop_code() == code,
-        Step::TakesFlag(flag) => stack.pop_flag() == flag,
-        Step::TakesOffset(offset) => stack.pop_offset() == offset,
-        Step::TakesLimit(limit) => stack.pop_limit() == limit,
-        Step::TakesMode(mode) => stack.pop_mode() == mode,
+        Step::TakesCode(code) => pop_code(stack) == code,
+        Step::TakesFlag(flag) => pop_flag(stack) == flag,
+        Step::TakesOffset(offset) => pop_offset(stack) == offset,
+        Step::TakesLimit(limit) => pop_limit(stack) == limit,
+        Step::TakesMode(mode) => pop_mode(stack) == mode,
         Step::TakesLog(rows) => takes_log(stack, rows),
         Step::Has(count) => stack.len() == count && stack.is_empty() == (count == 0),
     }
@@ -132,9 +264,9 @@ fn first_other(alloc: Global, steps: &[Step]) -> Option<usize> {
 // Whether the integers 5 and 6, of the instructions 0 and 4, lie oldest first, by each way of looking at them.
 fn lies_oldest_first(mut stack: Stack) -> bool {
     stack.len() == 2
-        && matches!(stack.get(1).element, Elem::Int(6))
+        && matches!(stack.get(1).value, ItemValue::Known(Elem::Int(6)))
         && stack.as_slice().len() == 2
-        && bytes_of(&stack.get(0).element).is_none()
+        && bytes_of(&Elem::Int(5)).is_none()
         && stack.take().instruction == 4
 }
 
@@ -142,7 +274,7 @@ fn lies_oldest_first(mut stack: Stack) -> bool {
 fn puts_the_newest_last(alloc: Global) -> bool {
     let mut stack = Stack::new(alloc);
     let item = Item {
-        element: Elem::Int(6),
+        value: ItemValue::Known(Elem::Int(6)),
         instruction: 4,
     };
     stack.push(Elem::Int(5), 0).is_ok() && stack.put(item).is_ok() && lies_oldest_first(stack)
@@ -189,6 +321,139 @@ const MOVED: &[Step] = &[
 #[test]
 fn items_are_copied_and_moved(rt: HostRuntime) {
     assert_eq!(rt; first_other(rt.alloc(), MOVED), None);
+}
+
+const FIRST_WAITS: &[Step] = &[
+    Step::Bytes(b"a"),
+    Step::Waits(9),
+    Step::Stays(Swap, 9),
+    Step::Stays(Pop, 9),
+    Step::Stays(Sub, 9),
+    Step::Stays(Concat, 9),
+    Step::Stays(WaitFuture, 9),
+    Step::Stays(TuplePack, 9),
+    Step::Stays(TuplePackWithVersionstamp, 9),
+    Step::Stays(TupleUnpack, 9),
+    Step::Stays(TupleRange, 9),
+    Step::Stays(TupleSort, 9),
+    Step::Stays(GetEstimatedRangeSize, 9),
+    Step::LookStays(9),
+    Step::Run(GetApproximateSize),
+    Step::Run(UnitTests),
+    Step::Takes(b"GOT_APPROXIMATE_SIZE"),
+    Step::TakesNone(StackFault::Waits { life: 9 }),
+    Step::TakesCode(Err(StackFault::Waits { life: 9 })),
+    Step::TakesWaiting(9, 1),
+];
+
+#[test]
+fn all_items_stay_where_the_first_operand_waits(rt: HostRuntime) {
+    assert_eq!(rt; first_other(rt.alloc(), FIRST_WAITS), None);
+}
+
+const LATER_WAITS: &[Step] = &[
+    Step::Waits(4),
+    Step::Int(2),
+    Step::Stays(Sub, 4),
+    Step::Stays(TuplePack, 4),
+    Step::Stays(TupleRange, 4),
+    Step::Stays(TupleSort, 4),
+    Step::Bytes(b"p"),
+    Step::Stays(TuplePackWithVersionstamp, 4),
+    Step::Int(3),
+    Step::Stays(TuplePack, 4),
+    Step::Stays(TupleRange, 4),
+    Step::Run(Pop),
+    Step::Run(Pop),
+    Step::Run(Pop),
+    Step::Bytes(b"p"),
+    Step::Int(2),
+    Step::Stays(TupleSort, 4),
+    Step::Run(Pop),
+    Step::Stays(Concat, 4),
+    Step::Stays(GetEstimatedRangeSize, 4),
+    Step::Stays(TuplePackWithVersionstamp, 4),
+    Step::LookStays(4),
+    Step::Bytes(b"q"),
+    Step::LookStays(4),
+];
+
+#[test]
+fn all_items_stay_where_a_later_operand_waits(rt: HostRuntime) {
+    assert_eq!(rt; first_other(rt.alloc(), LATER_WAITS), None);
+}
+
+const NOT_POPPED: &[Step] = &[
+    Step::Waits(4),
+    Step::Bool(true),
+    Step::Refused(Sub, StackFault::Operand),
+    Step::Has(1),
+    Step::Int(6),
+    Step::Int(5),
+    Step::Run(Sub),
+    Step::TakesInt(-1, RUN),
+    Step::Int(7),
+    Step::Int(1),
+    Step::Run(TuplePack),
+    Step::Takes(b"\x15\x07"),
+    Step::Has(1),
+];
+
+#[test]
+fn an_item_that_is_not_popped_may_wait(rt: HostRuntime) {
+    assert_eq!(rt; first_other(rt.alloc(), NOT_POPPED), None);
+}
+
+const MOVED_AS_THEY_WAIT: &[Step] = &[
+    Step::Waits(4),
+    Step::Waits(5),
+    Step::Int(1),
+    Step::Run(Swap),
+    Step::Run(Dup),
+    Step::TakesWaiting(4, 0),
+    Step::TakesWaiting(4, 0),
+    Step::TakesWaiting(5, 1),
+    Step::Waits(6),
+    Step::Run(EmptyStack),
+    Step::Has(0),
+    Step::Refused(Pop, StackFault::Underflow),
+];
+
+#[test]
+fn items_that_wait_are_copied_and_moved(rt: HostRuntime) {
+    assert_eq!(rt; first_other(rt.alloc(), MOVED_AS_THEY_WAIT), None);
+}
+
+const DECIDED: &[Step] = &[
+    Step::HasWaiting(None),
+    Step::Waits(4),
+    Step::Waits(5),
+    Step::Int(6),
+    Step::HasWaiting(Some(1)),
+    Step::BatchLife(Some(5)),
+    Step::Decides(50),
+    Step::HasWaiting(Some(0)),
+    Step::BatchLife(Some(4)),
+    Step::DecidesAt(0, 40),
+    Step::HasWaiting(None),
+    Step::BatchLife(None),
+    Step::Decides(60),
+    Step::TakesInt(6, 3),
+    Step::TakesInt(50, 2),
+    Step::TakesInt(40, 1),
+    Step::Int(7),
+    Step::Waits(8),
+    Step::Waits(9),
+    Step::Int(10),
+    Step::DropsWaiting,
+    Step::Has(2),
+    Step::DropsWaiting,
+    Step::TakesInt(7, 16),
+];
+
+#[test]
+fn a_decided_item_keeps_its_number(rt: HostRuntime) {
+    assert_eq!(rt; first_other(rt.alloc(), DECIDED), None);
 }
 
 const DROPPED: &[Step] = &[
@@ -440,6 +705,8 @@ const LOGGED: &[Step] = &[
     ]),
     Step::Has(0),
     Step::TakesLog(&[]),
+    Step::Waits(7),
+    Step::TakesLog(&[(b"\x14\x15\x05", b"*")]),
 ];
 
 // How many entries the next batch of a log has, and whether this is the key of the first.

@@ -1,7 +1,8 @@
 //! The operations on tuples (bindingApiTester.md, "Tuple Operations").
 //!
 //! The operand "tuple" is a count and then so many items, in the order popped. After Underflow or Operand the items
-//! popped before the fault was judged are gone, and all others stand; after NoMemory the items below the operands stand.
+//! popped before the fault was judged are gone, and all others stand; after Waits, which comes exactly where the item that is
+//! to be popped waits, all items stand; after NoMemory the items below the operands stand.
 
 ghost use Rattle.std.specs.Prelude.{◌≡◌, ◌+◌, ◌^◌, ◌<◌, length, map, Err, OnOk, OnErr, IsOkUnless};
 ghost use Rattle.fdb_tuple.specs.Listed.{elements_of};
@@ -28,8 +29,8 @@ const STAMPED_LIMIT: usize = (1 << 32) - 4;
 impl Stack {
     /// TUPLE_PACK: pops a tuple, and pushes its packed bytes.
     pub fn tuple_pack(&mut self, instruction: u64) -> Result<(), StackFault>
-        ensures said { Does result (tuple_pack instruction self.old) self.new }
-        ensures memory { result ≡ Err StackFault.NoMemory → EndsIn (left_of (tuple_operand self.old)) self.new }
+        ensures said { Does result (tuple_pack instruction self.old) self.old self.new }
+        ensures memory { result ≡ Err StackFault.NoMemory → EndsIn (left_of self.old (tuple_operand self.old)) self.new }
     {
         let tuple = self.pop_tuple()?;
         let packed = pack(self.alloc(), &tuple)?;
@@ -41,11 +42,10 @@ impl Stack {
     /// there are more. Operand comes, besides for a wrong kind, exactly where the prefix and the packed tuple have
     /// together 2^32 - 4 bytes or more.
     pub fn tuple_pack_with_versionstamp(&mut self, instruction: u64) -> Result<(), StackFault>
-        ensures said { Does result (tuple_pack_with_versionstamp instruction self.old) self.new }
-        ensures memory { result ≡ Err StackFault.NoMemory → EndsIn (left_of (two_operands bytes_operand tuple_operand self.old)) self.new }
+        ensures said { Does result (tuple_pack_with_versionstamp instruction self.old) self.old self.new }
+        ensures memory { result ≡ Err StackFault.NoMemory → EndsIn (left_of self.old (two_operands bytes_operand tuple_operand self.old)) self.new }
     {
-        let prefix = self.pop_bytes()?;
-        let tuple = self.pop_tuple()?;
+        let (prefix, tuple) = self.pop_prefixed_tuple()?;
         if prefix.len().saturating_add(packed_len(&tuple)) >= STAMPED_LIMIT {
             return Err(StackFault::Operand);
         }
@@ -78,8 +78,8 @@ impl Stack {
     /// TUPLE_UNPACK: pops bytes, and pushes each element of the tuple that they pack, packed alone. Operand comes
     /// exactly where they are not of the kind "bytes", or pack no tuple.
     pub fn tuple_unpack(&mut self, instruction: u64) -> Result<(), StackFault>
-        ensures said { Does result (tuple_unpack instruction self.old) self.new }
-        ensures memory { result ≡ Err StackFault.NoMemory → EndsIn (left_of (bytes_operand self.old)) self.new }
+        ensures said { Does result (tuple_unpack instruction self.old) self.old self.new }
+        ensures memory { result ≡ Err StackFault.NoMemory → EndsIn (left_of self.old (bytes_operand self.old)) self.new }
     {
         let packed = self.pop_bytes()?;
         let tuple = unpack_operand(self.alloc(), packed.as_slice())?;
@@ -101,8 +101,8 @@ impl Stack {
 
     /// TUPLE_RANGE: pops a tuple, and pushes the begin and then the end of its range.
     pub fn tuple_range(&mut self, instruction: u64) -> Result<(), StackFault>
-        ensures said { Does result (tuple_range instruction self.old) self.new }
-        ensures memory { result ≡ Err StackFault.NoMemory → EndsIn (left_of (tuple_operand self.old)) self.new }
+        ensures said { Does result (tuple_range instruction self.old) self.old self.new }
+        ensures memory { result ≡ Err StackFault.NoMemory → EndsIn (left_of self.old (tuple_operand self.old)) self.new }
     {
         let tuple = self.pop_tuple()?;
         let ends = range(self.alloc(), &tuple)?;
@@ -114,8 +114,8 @@ impl Stack {
     /// the greatest last; equal ones all stay. Operand comes exactly where one is not of the kind "bytes", judged as it
     /// is popped, or, after all were popped, where one packs no tuple.
     pub fn tuple_sort(&mut self, instruction: u64) -> Result<(), StackFault>
-        ensures said { Does result (tuple_sort instruction self.old) self.new }
-        ensures memory { result ≡ Err StackFault.NoMemory → EndsIn (left_of (byte_strings_operand self.old)) self.new }
+        ensures said { Does result (tuple_sort instruction self.old) self.old self.new }
+        ensures memory { result ≡ Err StackFault.NoMemory → EndsIn (left_of self.old (byte_strings_operand self.old)) self.new }
     {
         let mut strings = self.pop_byte_strings()?;
         unpack_each(self.alloc(), &strings)?;

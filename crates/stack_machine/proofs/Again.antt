@@ -4,7 +4,7 @@ use Rattle.std.specs.Prelude.{slice_get, IfOk}
 use Rattle.fdb_calls.specs.declared.Reply.{Reply}
 use Rattle.machine_rules.specs.declared.State.{State}
 use Rattle.machine_rules.specs.declared.State.TheVariants as state
-use Rattle.machine_rules.specs.Machines.{Machine, Progress, Act, Does, Stops, Asks, silent, acted, next_act, use_of, used}
+use Rattle.machine_rules.specs.Machines.{Machine, Progress, Act, Does, Stops, Asks, silent, acted, next_act, replied_act}
 use Rattle.machine_rules.specs.Machines.{advance_by, advance, resumed, resumed_by}
 use Rattle.stack_machine.specs.MachineModel.{MachineModel}
 use Rattle.stack_machine.specs.Steps.{IsDue, MayStep, moved, answer_of, Moves}
@@ -31,7 +31,7 @@ resumed_again : (state : State) (machine : Machine) (given : Reply) → IsDue st
     → FinishesAtAgain machine (resumed_by state machine given)
 resumed_again state.Running machine given due e = absurd due
 resumed_again (state.Awaiting awaits) machine given due e =
-    act_again machine (used machine.next machine.registers (use_of awaits given)) e
+    act_again machine (replied_act awaits machine given) e
 resumed_again (state.Stopped end) machine given due e = absurd due
 
 moved_again : (machine : Machine) (given : Option Reply) → IsDue machine.state given → FinishesAtAgain machine (moved machine given)

@@ -6,10 +6,6 @@ use Rattle.fdb_calls.specs.declared.Reply.TheVariants as reply
 use Rattle.machine_rules.specs.declared.State.{State}
 use Rattle.machine_rules.specs.declared.State.TheVariants as state
 use Rattle.machine_rules.specs.Machines.{Machine, Progress, advance, resumed}
-use Rattle.machine_rules.specs.declared.End.{End}
-use Rattle.machine_rules.specs.declared.End.TheVariants as end
-use Rattle.stack_items.specs.declared.fault.StackFault.{StackFault}
-use Rattle.stack_items.specs.declared.fault.StackFault.TheVariants as fault
 use Rattle.stack_machine.specs.MachineModel.{MachineModel}
 use Rattle.stack_machine.specs.declared.machine.Step.{Step}
 use Rattle.stack_machine.specs.declared.machine.Step.TheVariants as step
@@ -45,12 +41,6 @@ answer_by None state = answer_in state
 -- what a step answers: what the machine asks, or how it stands
 abbrev pub answer_of : Progress → Step
 answer_of progress = answer_by progress.asks progress.machine.state
-
--- how a refused operand ends the machine at the instruction of this number
-abbrev pub end_of : StackFault → ℕ → End
-end_of fault.Underflow number = end.Underflow number
-end_of fault.Operand number = end.BadInstruction number
-end_of fault.NoMemory number = end.BadInstruction number
 
 -- the step was made, and memory sufficed
 pub record Moves (old : MachineModel) (progress : Progress) (answer : Step) (new : MachineModel) : Type 0 where

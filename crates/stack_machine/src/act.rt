@@ -1,10 +1,10 @@
 //! What an instruction comes to.
 
 ghost use Rattle.std.specs.Prelude.{◌≡◌, IfOk, IsErr};
-ghost use Rattle.stack_machine.specs.Steps.{end_of};
+ghost use Rattle.stack_machine.specs.Acts.{polls_for, refusal_of};
 
 use fdb_calls::Request;
-use machine_rules::{Awaits, End};
+use machine_rules::{Awaits, End, Wait};
 use stack_items::StackFault;
 use std::alloc::AllocError;
 
@@ -19,14 +19,24 @@ pub enum Act {
     Asks(Request, Awaits),
 }
 
-/// What an instruction of this number that was refused comes to; want of memory is no act.
+/// What an instruction of this number that was refused comes to: it stops the machine, or polls for the item that waits. Want
+/// of memory is no act.
 pub fn refused(number: u64, fault: StackFault) -> Result<Act, AllocError>
-    ensures stops { IfOk result (λ act. act ≡ Act.Stops (end_of fault number)) }
+    ensures refused { IfOk result (λ act. act ≡ refusal_of fault number) }
     ensures memory { fault ≡ StackFault.NoMemory → IsErr result }
 {
     match fault {
         StackFault::Underflow => Ok(Act::Stops(End::Underflow(number))),
         StackFault::Operand => Ok(Act::Stops(End::BadInstruction(number))),
+        StackFault::Waits { life } => Ok(poll(life)),
         StackFault::NoMemory => Err(AllocError),
     }
+}
+
+// The first poll for a life.
+fn poll(life: u64) -> Act
+    ensures { result ≡ polls_for life }
+{
+    let wait = Wait { life, polled: 0 };
+    Act::Asks(Request::PollStamp { life }, Awaits::Stamp(wait))
 }

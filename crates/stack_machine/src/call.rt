@@ -1,78 +1,78 @@
-//! Calls on the database by what an instruction pops.
+//! Calls on the database by the operands of an instruction.
 
 ghost use Rattle.std.specs.Prelude.{◌≡◌, IfOk};
 ghost use Rattle.machine_rules.specs.Calls.{set_call, clear_call, clear_range_call, clear_range_starts_with_call, atomic_call};
 ghost use Rattle.machine_rules.specs.Calls.{call_of, written_in, prefix_end};
-ghost use Rattle.stack_items.specs.Pops.{PopsUnlessFull};
+ghost use Rattle.stack_items.specs.Looks.{LooksUnlessFull};
 
 use crate::reads::{
-    pop_get, pop_get_key, pop_get_range, pop_get_range_selector, pop_get_range_starts_with,
+    get_call, get_key_call, get_range_call, get_range_selector_call, get_range_starts_with_call,
 };
-use crate::requests::pop_range;
+use crate::requests::range_operand;
 use fdb_calls::TxnCall;
 use key_bytes::{Bytes, Key, KeyRange};
 use machine_rules::{Awaits, DatabaseOperation, Scope};
-use stack_items::{Stack, StackFault};
+use stack_items::{Operands, StackFault};
 use std::alloc::{AllocError, Global};
 
 /// A call on the database, and what its reply is used for.
 pub type Call = (TxnCall, Awaits);
 
-/// The call that an operation makes in a scope, by what it pops.
-pub fn pop_call(
-    stack: &mut Stack,
+/// The call that an operation makes in a scope, by its operands.
+pub fn call_of(
+    operands: &mut Operands<'_>,
     alloc: Global,
     operation: DatabaseOperation,
     scope: Scope,
 ) -> Result<Call, StackFault>
-    ensures { PopsUnlessFull (λ call. call) result (call_of operation scope stack.old) stack.new }
+    ensures { LooksUnlessFull (λ call. call) result (call_of operation scope) operands.old operands.new }
 {
     match operation {
-        DatabaseOperation::Get => pop_get(stack, scope),
-        DatabaseOperation::GetKey => pop_get_key(stack, scope),
-        DatabaseOperation::GetRange => pop_get_range(stack, scope),
-        DatabaseOperation::GetRangeStartsWith => pop_get_range_starts_with(stack, alloc, scope),
-        DatabaseOperation::GetRangeSelector => pop_get_range_selector(stack, scope),
-        DatabaseOperation::Set => pop_set(stack, scope),
-        DatabaseOperation::Clear => pop_clear(stack, scope),
-        DatabaseOperation::ClearRange => pop_clear_range(stack, scope),
+        DatabaseOperation::Get => get_call(operands, scope),
+        DatabaseOperation::GetKey => get_key_call(operands, scope),
+        DatabaseOperation::GetRange => get_range_call(operands, scope),
+        DatabaseOperation::GetRangeStartsWith => get_range_starts_with_call(operands, alloc, scope),
+        DatabaseOperation::GetRangeSelector => get_range_selector_call(operands, scope),
+        DatabaseOperation::Set => set_call(operands, scope),
+        DatabaseOperation::Clear => clear_call(operands, scope),
+        DatabaseOperation::ClearRange => clear_range_call(operands, scope),
         DatabaseOperation::ClearRangeStartsWith => {
-            pop_clear_range_starts_with(stack, alloc, scope)
+            clear_range_starts_with_call(operands, alloc, scope)
         }
-        DatabaseOperation::AtomicOp => pop_atomic(stack, scope),
+        DatabaseOperation::AtomicOp => atomic_call(operands, scope),
     }
 }
 
-fn pop_set(stack: &mut Stack, scope: Scope) -> Result<Call, StackFault>
-    ensures { PopsUnlessFull (λ call. call) result (set_call scope stack.old) stack.new }
+fn set_call(operands: &mut Operands<'_>, scope: Scope) -> Result<Call, StackFault>
+    ensures { LooksUnlessFull (λ call. call) result (set_call scope) operands.old operands.new }
 {
-    let key = stack.pop_bytes()?;
-    let value = stack.pop_bytes()?;
+    let key = operands.copied_bytes()?;
+    let value = operands.copied_bytes()?;
     Ok((TxnCall::Set { key, value }, written_in(scope)))
 }
 
-fn pop_clear(stack: &mut Stack, scope: Scope) -> Result<Call, StackFault>
-    ensures { PopsUnlessFull (λ call. call) result (clear_call scope stack.old) stack.new }
+fn clear_call(operands: &mut Operands<'_>, scope: Scope) -> Result<Call, StackFault>
+    ensures { LooksUnlessFull (λ call. call) result (clear_call scope) operands.old operands.new }
 {
-    let key = stack.pop_bytes()?;
+    let key = operands.copied_bytes()?;
     Ok((TxnCall::Clear { key }, written_in(scope)))
 }
 
-fn pop_clear_range(stack: &mut Stack, scope: Scope) -> Result<Call, StackFault>
-    ensures { PopsUnlessFull (λ call. call) result (clear_range_call scope stack.old) stack.new }
+fn clear_range_call(operands: &mut Operands<'_>, scope: Scope) -> Result<Call, StackFault>
+    ensures { LooksUnlessFull (λ call. call) result (clear_range_call scope) operands.old operands.new }
 {
-    let range = pop_range(stack)?;
+    let range = range_operand(operands)?;
     Ok((TxnCall::ClearRange { range }, written_in(scope)))
 }
 
-fn pop_clear_range_starts_with(
-    stack: &mut Stack,
+fn clear_range_starts_with_call(
+    operands: &mut Operands<'_>,
     alloc: Global,
     scope: Scope,
 ) -> Result<Call, StackFault>
-    ensures { PopsUnlessFull (λ call. call) result (clear_range_starts_with_call scope stack.old) stack.new }
+    ensures { LooksUnlessFull (λ call. call) result (clear_range_starts_with_call scope) operands.old operands.new }
 {
-    let begin = stack.pop_bytes()?;
+    let begin = operands.copied_bytes()?;
     let end = prefix_end(alloc, &begin)?;
     let range = KeyRange { begin, end };
     Ok((TxnCall::ClearRange { range }, written_in(scope)))
@@ -88,12 +88,12 @@ pub fn prefix_end(alloc: Global, prefix: &Bytes) -> Result<Key, AllocError>
     }
 }
 
-fn pop_atomic(stack: &mut Stack, scope: Scope) -> Result<Call, StackFault>
-    ensures { PopsUnlessFull (λ call. call) result (atomic_call scope stack.old) stack.new }
+fn atomic_call(operands: &mut Operands<'_>, scope: Scope) -> Result<Call, StackFault>
+    ensures { LooksUnlessFull (λ call. call) result (atomic_call scope) operands.old operands.new }
 {
-    let name = stack.pop_bytes()?;
-    let key = stack.pop_bytes()?;
-    let operand = stack.pop_bytes()?;
+    let name = operands.copied_bytes()?;
+    let key = operands.copied_bytes()?;
+    let operand = operands.copied_bytes()?;
     Ok((TxnCall::Atomic { name, key, operand }, written_in(scope)))
 }
 

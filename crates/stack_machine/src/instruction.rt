@@ -104,6 +104,8 @@ fn transaction_operation(name: &[u8]) -> Option<TransactionOperation>
         Some(TransactionOperation::WriteConflictKey)
     } else if name == b"DISABLE_WRITE_CONFLICT".as_slice() {
         Some(TransactionOperation::DisableWriteConflict)
+    } else if name == b"GET_VERSIONSTAMP".as_slice() {
+        Some(TransactionOperation::GetVersionstamp)
     } else {
         None
     }

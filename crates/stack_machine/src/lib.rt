@@ -10,6 +10,7 @@ mod errors;
 mod instruction;
 mod machine;
 mod packed;
+mod polls;
 mod reads;
 mod registers;
 mod replies;
@@ -23,3 +24,5 @@ pub use machine_rules::{End, ErrorNote, State};
 mod tests;
 #[cfg(test)]
 mod tests_registers;
+#[cfg(test)]
+mod tests_waits;

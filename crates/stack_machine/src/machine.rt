@@ -2,7 +2,8 @@
 
 ghost use Rattle.std.specs.Prelude.{◌≡◌, ◌+◌, ◌<◌, false, true, pos, [], length, Some, Ok, option_copied, slice_get, IfOk, IsErr, OnErr};
 ghost use Rattle.machine_rules.specs.declared.State.TheVariants.{Running};
-ghost use Rattle.machine_rules.specs.Machines.{stopped, done, silent, acted, next_act, advance, resumed};
+ghost use Rattle.machine_rules.specs.Machines.{stopped, done, silent, acted, instruction_at, next_act, advance, resumed};
+ghost use Rattle.stack_machine.specs.Pushes.{PushesAnElement};
 ghost use Rattle.stack_machine.specs.Acts.{act_with};
 
 use crate::act::Act;
@@ -11,7 +12,7 @@ use crate::instruction::instruction_of;
 use crate::registers::Registers;
 use fdb_calls::{Reply, Request};
 use key_bytes::{Bytes, Pairs};
-use machine_rules::{End, State};
+use machine_rules::{Awaits, End, Instruction, State};
 use stack_items::Stack;
 use std::alloc::{AllocError, Global};
 use std::marker::Model;
@@ -199,6 +200,22 @@ impl Machine {
     {
         match &self.state {
             State::Running => Ok(Step::Again),
+            State::Awaiting(Awaits::Stamp(wait)) => {
+                let wait = *wait;
+                let instruction = self.instruction()?;
+                let number = self.next as u64;
+                let act = self
+                    .registers
+                    .resume_poll(number, self.polls, wait, instruction, reply)?;
+                Ok(self.act(act))
+            }
+            State::Awaiting(Awaits::LoggedStamp { prefix, wait }) => {
+                let number = self.next as u64;
+                let act = self
+                    .registers
+                    .resume_log(number, self.polls, prefix, *wait, reply)?;
+                Ok(self.act(act))
+            }
             State::Awaiting(awaits) => {
                 let act = self.registers.use_reply(self.next as u64, awaits, reply)?;
                 Ok(self.act(act))
@@ -214,13 +231,21 @@ impl Machine {
             (acted self.old.machine (next_act self.old.machine (slice_get self.old.machine.instructions self.old.machine.next))) step self.new) }
     {
         if self.next < self.instructions.len() {
-            let value = self.instructions[self.next].as_slice();
-            let instruction = instruction_of(self.alloc, value)?;
+            let instruction = self.instruction()?;
             let act = self.registers.run(self.next as u64, instruction)?;
             Ok(self.act(act))
         } else {
             Ok(self.stop(End::Ended))
         }
+    }
+
+    // The instruction that the machine stands at.
+    fn instruction(&self) -> Result<Option<Instruction>, AllocError>
+        requires { self.now.machine.next < length self.now.machine.instructions }
+        ensures is { IfOk result (λ instruction. instruction ≡ instruction_at self.now.machine) }
+        ensures pushes { IfOk result PushesAnElement }
+    {
+        instruction_of(self.alloc, self.instructions[self.next].as_slice())
     }
 
     // What the instruction, or the reply that it awaited, came to.

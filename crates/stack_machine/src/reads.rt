@@ -1,9 +1,9 @@
-//! Calls that read, by what an instruction pops.
+//! Calls that read, by the operands of an instruction.
 
 ghost use Rattle.std.specs.Prelude.{◌≡◌};
 ghost use Rattle.machine_rules.specs.Calls.{get_call, get_key_call, get_range_call, get_range_starts_with_call, get_range_selector_call};
 ghost use Rattle.machine_rules.specs.Calls.{is_snapshot, selector_operand, manner_operand, get_between};
-ghost use Rattle.stack_items.specs.Pops.{Pops, PopsUnlessFull};
+ghost use Rattle.stack_items.specs.Looks.{Looks, LooksUnlessFull};
 ghost use Rattle.stack_machine.specs.Acts.{manner_of};
 
 use crate::call::{Call, prefix_end};
@@ -11,7 +11,7 @@ use database_rules::{Mode, Selector};
 use fdb_calls::TxnCall;
 use key_bytes::{Key, KeyRange};
 use machine_rules::{Awaits, Scope};
-use stack_items::{Stack, StackFault};
+use stack_items::{Operands, StackFault};
 use std::alloc::Global;
 
 // How a range is read.
@@ -22,10 +22,10 @@ pub(crate) struct Manner {
     mode: Mode,
 }
 
-pub fn pop_get(stack: &mut Stack, scope: Scope) -> Result<Call, StackFault>
-    ensures { PopsUnlessFull (λ call. call) result (get_call scope stack.old) stack.new }
+pub fn get_call(operands: &mut Operands<'_>, scope: Scope) -> Result<Call, StackFault>
+    ensures { LooksUnlessFull (λ call. call) result (get_call scope) operands.old operands.new }
 {
-    let key = stack.pop_bytes()?;
+    let key = operands.copied_bytes()?;
     let call = TxnCall::Get {
         key,
         snapshot: is_snapshot(scope),
@@ -33,11 +33,11 @@ pub fn pop_get(stack: &mut Stack, scope: Scope) -> Result<Call, StackFault>
     Ok((call, Awaits::Value))
 }
 
-pub fn pop_get_key(stack: &mut Stack, scope: Scope) -> Result<Call, StackFault>
-    ensures { PopsUnlessFull (λ call. call) result (get_key_call scope stack.old) stack.new }
+pub fn get_key_call(operands: &mut Operands<'_>, scope: Scope) -> Result<Call, StackFault>
+    ensures { LooksUnlessFull (λ call. call) result (get_key_call scope) operands.old operands.new }
 {
-    let selector = pop_selector(stack)?;
-    let prefix = stack.pop_bytes()?;
+    let selector = selector_operand(operands)?;
+    let prefix = operands.copied_bytes()?;
     let call = TxnCall::GetKey {
         selector,
         snapshot: is_snapshot(scope),
@@ -45,35 +45,38 @@ pub fn pop_get_key(stack: &mut Stack, scope: Scope) -> Result<Call, StackFault>
     Ok((call, Awaits::Key { prefix }))
 }
 
-pub fn pop_get_range(stack: &mut Stack, scope: Scope) -> Result<Call, StackFault>
-    ensures { PopsUnlessFull (λ call. call) result (get_range_call scope stack.old) stack.new }
+pub fn get_range_call(operands: &mut Operands<'_>, scope: Scope) -> Result<Call, StackFault>
+    ensures { LooksUnlessFull (λ call. call) result (get_range_call scope) operands.old operands.new }
 {
-    let begin = stack.pop_bytes()?;
-    let end = stack.pop_bytes()?;
-    let manner = pop_manner(stack)?;
+    let begin = operands.copied_bytes()?;
+    let end = operands.copied_bytes()?;
+    let manner = manner_operand(operands)?;
     Ok((get_between(scope, begin, end, manner), Awaits::Pairs))
 }
 
-pub fn pop_get_range_starts_with(
-    stack: &mut Stack,
+pub fn get_range_starts_with_call(
+    operands: &mut Operands<'_>,
     alloc: Global,
     scope: Scope,
 ) -> Result<Call, StackFault>
-    ensures { PopsUnlessFull (λ call. call) result (get_range_starts_with_call scope stack.old) stack.new }
+    ensures { LooksUnlessFull (λ call. call) result (get_range_starts_with_call scope) operands.old operands.new }
 {
-    let begin = stack.pop_bytes()?;
-    let manner = pop_manner(stack)?;
+    let begin = operands.copied_bytes()?;
+    let manner = manner_operand(operands)?;
     let end = prefix_end(alloc, &begin)?;
     Ok((get_between(scope, begin, end, manner), Awaits::Pairs))
 }
 
-pub fn pop_get_range_selector(stack: &mut Stack, scope: Scope) -> Result<Call, StackFault>
-    ensures { PopsUnlessFull (λ call. call) result (get_range_selector_call scope stack.old) stack.new }
+pub fn get_range_selector_call(
+    operands: &mut Operands<'_>,
+    scope: Scope,
+) -> Result<Call, StackFault>
+    ensures { LooksUnlessFull (λ call. call) result (get_range_selector_call scope) operands.old operands.new }
 {
-    let begin = pop_selector(stack)?;
-    let end = pop_selector(stack)?;
-    let manner = pop_manner(stack)?;
-    let prefix = stack.pop_bytes()?;
+    let begin = selector_operand(operands)?;
+    let end = selector_operand(operands)?;
+    let manner = manner_operand(operands)?;
+    let prefix = operands.copied_bytes()?;
     let call = TxnCall::GetRange {
         begin,
         end,
@@ -104,13 +107,13 @@ fn is_snapshot(scope: Scope) -> bool
     matches!(scope, Scope::Snapshot)
 }
 
-// Pops a selector: its key, whether a key that equals it counts among those before, and its offset.
-fn pop_selector(stack: &mut Stack) -> Result<Selector, StackFault>
-    ensures { Pops (λ selector. selector) result (selector_operand stack.old) stack.new }
+// A selector: its key, whether a key that equals it counts among those before, and its offset.
+fn selector_operand(operands: &mut Operands<'_>) -> Result<Selector, StackFault>
+    ensures { LooksUnlessFull (λ selector. selector) result selector_operand operands.old operands.new }
 {
-    let key = stack.pop_bytes()?;
-    let or_equal = stack.pop_flag()?;
-    let offset = stack.pop_offset()?;
+    let key = operands.copied_bytes()?;
+    let or_equal = operands.flag()?;
+    let offset = operands.offset()?;
     Ok(Selector {
         key,
         or_equal,
@@ -118,13 +121,13 @@ fn pop_selector(stack: &mut Stack) -> Result<Selector, StackFault>
     })
 }
 
-// Pops how a range is read: the limit, whether reversed, and the mode.
-fn pop_manner(stack: &mut Stack) -> Result<Manner, StackFault>
-    ensures { Pops manner_of result (manner_operand stack.old) stack.new }
+// How a range is read: the limit, whether reversed, and the mode.
+fn manner_operand(operands: &mut Operands<'_>) -> Result<Manner, StackFault>
+    ensures { Looks manner_of result manner_operand operands.old operands.new }
 {
-    let limit = stack.pop_limit()?;
-    let reverse = stack.pop_flag()?;
-    let mode = stack.pop_mode()?;
+    let limit = operands.limit()?;
+    let reverse = operands.flag()?;
+    let mode = operands.mode()?;
     Ok(Manner {
         limit,
         reverse,

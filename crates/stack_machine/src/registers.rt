@@ -1,25 +1,26 @@
 //! What a machine's instructions work on.
 
-ghost use Rattle.std.specs.Prelude.{◌≡◌, pos, [], ◌∷◌, ◌++◌, IfOk, OnOk};
+ghost use Rattle.std.specs.Prelude.{◌≡◌, pos, [], ◌∷◌, ◌++◌, take, IfOk, OnOk};
 ghost use Rattle.fdb_tuple.specs.Listed.{IsElement};
 ghost use Rattle.machine_rules.specs.Operands.{bytes_operand};
 ghost use Rattle.machine_rules.specs.StackOperations.{operated};
 ghost use Rattle.machine_rules.specs.Calls.{call_of, request_in, request_of, awaits_of};
-ghost use Rattle.machine_rules.specs.Machines.{act_of, pushing, does, uses, asks, calls, logs_stack, logs_on};
-ghost use Rattle.machine_rules.specs.Machines.{Does};
+ghost use Rattle.machine_rules.specs.Machines.{act_of, pushing, does, uses, asks, calls, logs_stack, logs_on, logs_batch, first_life, with_stack, knowing, below_waiting, used};
+ghost use Rattle.machine_rules.specs.Machines.{Does, PushesWaiting};
+ghost use Rattle.machine_rules.specs.declared.TheConstants.{LOG_BATCH};
 ghost use Rattle.stack_machine.specs.Acts.{act_with};
 ghost use Rattle.stack_machine.specs.Pushes.{PushesAnElement};
 
 use crate::act::{Act, refused};
-use crate::call::pop_call;
+use crate::call::call_of;
 use crate::errors::Errors;
-use crate::requests::{awaits_of, pop_request};
+use crate::requests::{awaits_of, request_of};
 use fdb_calls::{Request, TxnCall};
 use fdb_tuple::Elem;
 use key_bytes::Bytes;
 use machine_rules::{
-    Awaits, DatabaseOperation, End, ErrorNote, Instruction, Item, Scope, StackOperation,
-    TransactionOperation,
+    Awaits, DatabaseOperation, End, ErrorNote, Instruction, Item, ItemValue, Scope, StackOperation,
+    TransactionOperation, Wait,
 };
 use stack_items::Stack;
 use std::alloc::{AllocError, Global};
@@ -106,7 +107,18 @@ impl Registers {
         ensures { IfOk result (λ act. act_with self.new act ≡ Does (pushing number self.old element)) }
     {
         self.stack.put(Item {
-            element,
+            value: ItemValue::Known(element),
+            instruction: number,
+        })?;
+        Ok(Act::Does)
+    }
+
+    // The instruction of this number pushes an item that waits for a life.
+    pub(crate) fn push_waiting(&mut self, number: u64, life: u64) -> Result<Act, AllocError>
+        ensures { IfOk result (λ act. act_with self.new act ≡ used number self.old (PushesWaiting life)) }
+    {
+        self.stack.put(Item {
+            value: ItemValue::Waits(life),
             instruction: number,
         })?;
         Ok(Act::Does)
@@ -164,7 +176,10 @@ impl Registers {
             ≡ asks number self.old (awaits_of operation) (request_of operation self.old.name self.old.last_seen self.old.stack)) }
     {
         let name = self.name.copy()?;
-        match pop_request(&mut self.stack, self.alloc, operation, name, self.last_seen) {
+        let mut operands = self.stack.operands();
+        let request = request_of(&mut operands, self.alloc, operation, name, self.last_seen);
+        let popped = operands.popped();
+        match self.stack.settle(popped, request) {
             Ok(request) => Ok(Act::Asks(request, awaits_of(operation))),
             Err(fault) => refused(number, fault),
         }
@@ -179,7 +194,10 @@ impl Registers {
     ) -> Result<Act, AllocError>
         ensures { IfOk result (λ act. act_with self.new act ≡ calls number self.old scope (call_of operation scope self.old.stack)) }
     {
-        match pop_call(&mut self.stack, self.alloc, operation, scope) {
+        let mut operands = self.stack.operands();
+        let call = call_of(&mut operands, self.alloc, operation, scope);
+        let popped = operands.popped();
+        match self.stack.settle(popped, call) {
             Ok((call, awaits)) => Ok(Act::Asks(self.request_in(scope, call)?, awaits)),
             Err(fault) => refused(number, fault),
         }
@@ -208,20 +226,52 @@ impl Registers {
         }
     }
 
-    // LOG_STACK takes the uppermost items and asks that they are written under the prefix, if there are any.
+    // LOG_STACK goes on with the uppermost items, if there are any.
     pub(crate) fn log_on(&mut self, prefix: &Bytes) -> Result<Act, AllocError>
-        ensures { IfOk result (λ act. act_with self.new act ≡ logs_on self.old.stack self.old prefix.now) }
+        ensures { IfOk result (λ act. act_with self.new act ≡ logs_on self.old prefix.now) }
     {
         if self.stack.is_empty() {
             return Ok(Act::Does);
         }
+        self.log_batch(prefix)
+    }
+
+    // LOG_STACK polls for an item that waits among the uppermost ones, or takes these and asks that they are written under the
+    // prefix.
+    fn log_batch(&mut self, prefix: &Bytes) -> Result<Act, AllocError>
+        ensures { IfOk result (λ act. act_with self.new act
+            ≡ logs_batch (first_life (take LOG_BATCH self.old.stack)) self.old prefix.now) }
+    {
+        let copy = prefix.copy()?;
+        if let Some(life) = self.stack.batch_life() {
+            let wait = Wait { life, polled: 0 };
+            let request = Request::PollStamp { life };
+            return Ok(Act::Asks(request, Awaits::LoggedStamp { prefix: copy, wait }));
+        }
         let entries = self.stack.take_log()?;
-        let request = Request::Log {
-            prefix: prefix.copy()?,
-            entries,
-        };
         let prefix = prefix.copy()?;
-        Ok(Act::Asks(request, Awaits::Logged { prefix }))
+        Ok(Act::Asks(
+            Request::Log {
+                prefix: copy,
+                entries,
+            },
+            Awaits::Logged { prefix },
+        ))
+    }
+
+    // The uppermost item that waits is this element from now on.
+    pub(crate) fn know(&mut self, element: Elem)
+        requires { IsElement element }
+        ensures { self.new ≡ knowing self.old element }
+    {
+        self.stack.decide_first(element);
+    }
+
+    // Drops the uppermost item that waits and all above it.
+    pub(crate) fn drop_waiting(&mut self)
+        ensures { self.new ≡ with_stack self.old (below_waiting self.old.stack) }
+    {
+        self.stack.drop_waiting();
     }
 
     // The allocator.

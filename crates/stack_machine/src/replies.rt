@@ -46,6 +46,7 @@ impl Registers {
             }
             (Awaits::ConflictRange, Reply::Done) => self.push_text(number, b"SET_CONFLICT_RANGE"),
             (Awaits::ConflictKey, Reply::Done) => self.push_text(number, b"SET_CONFLICT_KEY"),
+            (Awaits::Promise, Reply::Life(life)) => self.push_waiting(number, *life),
             _ => Ok(Act::Does),
         }
     }

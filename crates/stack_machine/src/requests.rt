@@ -1,29 +1,29 @@
-//! Requests on the current transaction by what an instruction pops.
+//! Requests on the current transaction by the operands of an instruction.
 
 ghost use Rattle.std.specs.Prelude.{◌≡◌};
 ghost use Rattle.machine_rules.specs.Calls.{request_of, awaits_of, on_error_request, range_request, key_request};
-ghost use Rattle.stack_items.specs.Pops.{Pops, PopsUnlessFull};
+ghost use Rattle.stack_items.specs.Looks.{LooksUnlessFull};
 ghost use Rattle.stack_machine.specs.Ranges.{range_operand, one_key_operand};
 
 use fdb_calls::{Code, Request, TxnCall};
 use key_bytes::{Bytes, KeyRange};
 use machine_rules::{Awaits, TransactionOperation};
-use stack_items::{Stack, StackFault};
+use stack_items::{Operands, StackFault};
 use std::alloc::Global;
 
-/// The request that an operation makes on the transaction of a name, by the last version seen and what it pops.
-pub fn pop_request(
-    stack: &mut Stack,
+/// The request that an operation makes on the transaction of a name, by the last version seen and its operands.
+pub fn request_of(
+    operands: &mut Operands<'_>,
     alloc: Global,
     operation: TransactionOperation,
     name: Bytes,
     last_seen: i64,
 ) -> Result<Request, StackFault>
-    ensures { PopsUnlessFull (λ request. request) result (request_of operation name last_seen stack.old) stack.new }
+    ensures { LooksUnlessFull (λ request. request) result (request_of operation name last_seen) operands.old operands.new }
 {
     match operation {
         TransactionOperation::NewTransaction => Ok(Request::New { name }),
-        TransactionOperation::OnError => pop_on_error(stack, name),
+        TransactionOperation::OnError => on_error_request(operands, name),
         TransactionOperation::Reset => Ok(on(name, TxnCall::Reset)),
         TransactionOperation::Cancel => Ok(on(name, TxnCall::Cancel)),
         TransactionOperation::Commit => Ok(on(name, TxnCall::Commit)),
@@ -33,11 +33,12 @@ pub fn pop_request(
             Ok(on(name, TxnCall::SetReadVersion { version }))
         }
         TransactionOperation::GetCommittedVersion => Ok(on(name, TxnCall::CommittedVersion)),
-        TransactionOperation::ReadConflictRange => pop_read_conflict_range(stack, name),
-        TransactionOperation::WriteConflictRange => pop_write_conflict_range(stack, name),
-        TransactionOperation::ReadConflictKey => pop_read_conflict_key(stack, alloc, name),
-        TransactionOperation::WriteConflictKey => pop_write_conflict_key(stack, alloc, name),
+        TransactionOperation::ReadConflictRange => read_range_request(operands, name),
+        TransactionOperation::WriteConflictRange => write_range_request(operands, name),
+        TransactionOperation::ReadConflictKey => read_key_request(operands, alloc, name),
+        TransactionOperation::WriteConflictKey => write_key_request(operands, alloc, name),
         TransactionOperation::DisableWriteConflict => Ok(on(name, TxnCall::NoWriteConflict)),
+        TransactionOperation::GetVersionstamp => Ok(on(name, TxnCall::Versionstamp)),
     }
 }
 
@@ -47,63 +48,63 @@ fn on(name: Bytes, call: TxnCall) -> Request
     Request::On { name, call }
 }
 
-fn pop_on_error(stack: &mut Stack, name: Bytes) -> Result<Request, StackFault>
-    ensures { PopsUnlessFull (λ request. request) result (on_error_request name stack.old) stack.new }
+fn on_error_request(operands: &mut Operands<'_>, name: Bytes) -> Result<Request, StackFault>
+    ensures { LooksUnlessFull (λ request. request) result (on_error_request name) operands.old operands.new }
 {
-    let code = Code(stack.pop_code()?);
+    let code = Code(operands.code()?);
     Ok(on(name, TxnCall::OnError { code }))
 }
 
-fn pop_read_conflict_range(stack: &mut Stack, name: Bytes) -> Result<Request, StackFault>
-    ensures { PopsUnlessFull (λ request. request) result (range_request name TxnCall.ReadConflict stack.old) stack.new }
+fn read_range_request(operands: &mut Operands<'_>, name: Bytes) -> Result<Request, StackFault>
+    ensures { LooksUnlessFull (λ request. request) result (range_request name TxnCall.ReadConflict) operands.old operands.new }
 {
-    let range = pop_range(stack)?;
+    let range = range_operand(operands)?;
     Ok(on(name, TxnCall::ReadConflict { range }))
 }
 
-fn pop_write_conflict_range(stack: &mut Stack, name: Bytes) -> Result<Request, StackFault>
-    ensures { PopsUnlessFull (λ request. request) result (range_request name TxnCall.WriteConflict stack.old) stack.new }
+fn write_range_request(operands: &mut Operands<'_>, name: Bytes) -> Result<Request, StackFault>
+    ensures { LooksUnlessFull (λ request. request) result (range_request name TxnCall.WriteConflict) operands.old operands.new }
 {
-    let range = pop_range(stack)?;
+    let range = range_operand(operands)?;
     Ok(on(name, TxnCall::WriteConflict { range }))
 }
 
-fn pop_read_conflict_key(
-    stack: &mut Stack,
+fn read_key_request(
+    operands: &mut Operands<'_>,
     alloc: Global,
     name: Bytes,
 ) -> Result<Request, StackFault>
-    ensures { PopsUnlessFull (λ request. request) result (key_request name TxnCall.ReadConflict stack.old) stack.new }
+    ensures { LooksUnlessFull (λ request. request) result (key_request name TxnCall.ReadConflict) operands.old operands.new }
 {
-    let range = pop_one_key(stack, alloc)?;
+    let range = one_key_operand(operands, alloc)?;
     Ok(on(name, TxnCall::ReadConflict { range }))
 }
 
-fn pop_write_conflict_key(
-    stack: &mut Stack,
+fn write_key_request(
+    operands: &mut Operands<'_>,
     alloc: Global,
     name: Bytes,
 ) -> Result<Request, StackFault>
-    ensures { PopsUnlessFull (λ request. request) result (key_request name TxnCall.WriteConflict stack.old) stack.new }
+    ensures { LooksUnlessFull (λ request. request) result (key_request name TxnCall.WriteConflict) operands.old operands.new }
 {
-    let range = pop_one_key(stack, alloc)?;
+    let range = one_key_operand(operands, alloc)?;
     Ok(on(name, TxnCall::WriteConflict { range }))
 }
 
-/// Pops the two ends of a range.
-pub fn pop_range(stack: &mut Stack) -> Result<KeyRange, StackFault>
-    ensures { Pops (λ range. range) result (range_operand stack.old) stack.new }
+/// The two ends of a range.
+pub fn range_operand(operands: &mut Operands<'_>) -> Result<KeyRange, StackFault>
+    ensures { LooksUnlessFull (λ range. range) result range_operand operands.old operands.new }
 {
-    let begin = stack.pop_bytes()?;
-    let end = stack.pop_bytes()?;
+    let begin = operands.copied_bytes()?;
+    let end = operands.copied_bytes()?;
     Ok(KeyRange { begin, end })
 }
 
-// Pops a key, as the range of it alone.
-fn pop_one_key(stack: &mut Stack, alloc: Global) -> Result<KeyRange, StackFault>
-    ensures { PopsUnlessFull (λ range. range) result (one_key_operand stack.old) stack.new }
+// A key, as the range of it alone.
+fn one_key_operand(operands: &mut Operands<'_>, alloc: Global) -> Result<KeyRange, StackFault>
+    ensures { LooksUnlessFull (λ range. range) result one_key_operand operands.old operands.new }
 {
-    let key = stack.pop_bytes()?;
+    let key = operands.copied_bytes()?;
     Ok(KeyRange::single(alloc, &key)?)
 }
 
@@ -126,5 +127,6 @@ pub fn awaits_of(operation: TransactionOperation) -> Awaits
         TransactionOperation::ReadConflictKey | TransactionOperation::WriteConflictKey => {
             Awaits::ConflictKey
         }
+        TransactionOperation::GetVersionstamp => Awaits::Promise,
     }
 }

@@ -14,7 +14,9 @@ use TransactionOperation::{
 use fdb_calls::{Code, Reply, Request, TxnCall};
 use fdb_tuple::Elem;
 use key_bytes::{Bytes, KeyRange, Pair, Pairs};
-use machine_rules::{Awaits, DatabaseOperation, End, Instruction, Scope, TransactionOperation};
+use machine_rules::{
+    Awaits, DatabaseOperation, End, Instruction, ItemValue, Scope, TransactionOperation,
+};
 use stack_items::bytes_of;
 use std::alloc::{AllocError, Global};
 use std::test::Fail;
@@ -60,10 +62,18 @@ fn registers_with(alloc: Global, items: &[Lying]) -> Result<Registers, AllocErro
     Ok(registers)
 }
 
+// The bytes of an item; none where it is no string, or waits.
+fn known_bytes(value: &ItemValue) -> &[u8] {
+    match value {
+        ItemValue::Known(element) => bytes_of(element).unwrap_or(&[]),
+        ItemValue::Waits(_) => &[],
+    }
+}
+
 // The bytes of the top item; none where it is no string.
 fn top_bytes(registers: &Registers) -> &[u8] {
     match registers.stack().as_slice().last() {
-        Some(item) => bytes_of(&item.element).unwrap_or(&[]),
+        Some(item) => known_bytes(&item.value),
         None => &[],
     }
 }

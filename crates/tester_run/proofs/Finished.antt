@@ -22,6 +22,7 @@ use Rattle.tester_run.specs.Driving.{Leads, run_of}
 use Rattle.line_rules.specs.Inputs.{pair_lines}
 use Rattle.tester_run.specs.Dumps.{machine_dump}
 use Rattle.tester_run.specs.Rendered.{Renders}
+use Rattle.tester_run.proofs.Leading.{stopped_rests}
 use Rattle.tester_run.specs.declared.running.Rendered.{Rendered}
 
 -- the map at the last version that a core keeps
@@ -58,11 +59,6 @@ begins pairs prefix core words machine stands has_words is =
       runs =
           ap (λ (m : Machine). Some (run_of world (silent m))) (sym (is ∙ ap (λ (d : Database). first_machine d prefix) (kept_newest core world stands)));
     }
-
-stopped_rests : (state : State) → has_stopped state ≡ true → is_running state ≡ false
-stopped_rests state.Running e = absurd cc
-stopped_rests (state.Awaiting awaits) e = absurd cc
-stopped_rests (state.Stopped end) e = refl
 
 alone : {X : Type 0} (f : X → List ℕ) (x : X) → flat_map f (x ∷ []) ≡ f x
 alone f x = flat_map-cons f x [] ∙ append-nil (f x)

@@ -15,10 +15,10 @@ use Rattle.machine_rules.specs.declared.State.{State}
 use Rattle.machine_rules.specs.declared.State.TheVariants as state
 use Rattle.machine_rules.specs.Worlds.{Stepped, HasWords, step as world_step}
 use Rattle.machine_rules.specs.Machines.{Machine, Progress, silent, advance, resumed}
-use Rattle.machine_rules.specs.Runs.{Run, start, at_rest, take_place, replied, run_from, is_running}
-use Rattle.machine_rules.specs.Laws.{is_awaiting, advance_finishes, advance_asks, advance_quiet, advance_still, advance_asks_inside}
-use Rattle.machine_rules.specs.Laws.{GoesOn as HasUsed, Further, Again, resumed_goes, at_rest_advance, at_rest_still, run_from-append}
-use Rattle.tester_run.specs.Driving.{asked_by, with_asked, run_of, Leads, GoesOn, Takes, HasFinished, work_left}
+use Rattle.machine_rules.specs.Runs.{Run, start, at_rest, take_place, replied, run_from, is_running, has_stopped}
+use Rattle.machine_rules.specs.Laws.{HasItsItemIn, effort_in, is_awaiting, quiet_item, advance_item, resumed_item, advance_finishes, advance_asks, advance_quiet, advance_still, advance_asks_inside}
+use Rattle.machine_rules.specs.Laws.{GoesOn as HasUsed, Further, Again, Halts, resumed_goes, at_rest_advance, at_rest_still, run_from-append}
+use Rattle.tester_run.specs.Driving.{asked_by, with_asked, run_of, Leads, GoesOn, Takes, HasFinished, Finished, Halted, work_left}
 
 -- ---- what an answer of a step says
 
@@ -83,6 +83,9 @@ was_running : (old new : MachineModel) (answer : Step) → Moves old (advance ol
     → ((end : End) → answer ≢ step.Stopped end) → is_running old.machine.state ≡ true
 was_running old new answer moves quiet goes = runs_by old.machine.state old.machine refl quiet (λ end e. goes end (moves.answer_is ∙ e))
 
+above_none : (n : ℕ) → 0 < n + 1
+above_none n = omega arith
+
 -- a machine that went on by one instruction, or has stopped, has less left
 less_left : (before after : Machine) → is_running before.state ≡ true → after.instructions ≡ before.instructions
     → after.next ≡ before.next + 1 → before.next < length before.instructions → work_left after < work_left before
@@ -92,9 +95,6 @@ less_left before after was same next inside =
   where
     counts : (i j n m : ℕ) → j ≡ i + 1 → m ≡ n → i < n → m - j + 1 < n - i + 1
     counts i j n m next same inside = omega arith
-
-    above_none : (n : ℕ) → 0 < n + 1
-    above_none n = omega arith
 
     by : (b : Bool) → is_running after.state ≡ b → work_left after < length before.instructions - before.next + 1
     by true e =
@@ -165,13 +165,40 @@ turn_asks old new answer request moves quiet e =
       inside = at.inside;
     }
 
--- the instruction at which it asked is finished: a machine that runs, with less left
+stopped_awaits_none : (state : State) → has_stopped state ≡ true → is_awaiting state ≡ false
+stopped_awaits_none state.Running e = refl
+stopped_awaits_none (state.Awaiting awaits) e = absurd cc
+stopped_awaits_none (state.Stopped end) e = refl
+
+pub stopped_rests : (state : State) → has_stopped state ≡ true → is_running state ≡ false
+stopped_rests state.Running e = absurd cc
+stopped_rests (state.Awaiting awaits) e = refl
+stopped_rests (state.Stopped end) e = refl
+
+-- one that has stopped has nothing left
+stopped_nearer : (before after : Machine) → is_running before.state ≡ true → has_stopped after.state ≡ true → work_left after < work_left before
+stopped_nearer before after was stops =
+    subst (λ n. n < work_left before) (sym (ap (λ b. cond b (length after.instructions - after.next + 1) 0) (stopped_rests after.state stops)))
+    (subst (λ n. 0 < n) (sym (ap (λ b. cond b (length before.instructions - before.next + 1) 0) was))
+    (above_none (length before.instructions - before.next)))
+
+-- the instruction at which it asked is finished, or the machine has stopped there: it has less left
 pub asked_nearer : (before asking after : Machine) → ComesToAsk before asking → HasFinished asking after → RunsOn before after
-asked_nearer before asking after comes finished = record {
-  awaits_none = running_awaits_none after.state finished.runs;
-  nearer = less_left before after comes.was_running (finished.instructions ∙ comes.instructions)
-      (finished.next ∙ ap (λ n. n + 1) comes.next) comes.inside;
+asked_nearer before asking after comes (Finished instructions next runs) = record {
+  awaits_none = running_awaits_none after.state runs;
+  nearer = less_left before after comes.was_running (instructions ∙ comes.instructions)
+      (next ∙ ap (λ n. n + 1) comes.next) comes.inside;
 }
+asked_nearer before asking after comes (Halted stops) = record {
+  awaits_none = stopped_awaits_none after.state stops;
+  nearer = stopped_nearer before after comes.was_running stops;
+}
+
+-- where it asks, an item waits for which it polls
+pub turn_item : (old new : MachineModel) (answer : Step) → Moves old (advance old.machine) answer new
+    → is_awaiting old.machine.state ≡ false → HasItsItemIn new.machine
+turn_item old new answer moves quiet =
+    subst HasItsItemIn (sym moves.machine) (advance_item old.machine (quiet_item old.machine quiet))
 
 -- ---- a reply
 
@@ -184,6 +211,8 @@ stands_after (reply.KeyIs key) core words stepped is answers = answers
 stands_after (reply.PairsAre pairs) core words stepped is answers = answers
 stands_after (reply.Version version) core words stepped is answers = answers
 stands_after (reply.Life life) core words stepped is answers = answers
+stands_after (reply.Stamp stamp) core words stepped is answers = answers
+stands_after reply.NotYet core words stepped is answers = answers
 stands_after (reply.Fault code) core words stepped is answers = answers
 stands_after reply.NoMemory core words stepped is answers = absurd (is refl)
 
@@ -237,20 +266,34 @@ taken_goes_on core core_after words words_after machine progress order order_aft
 -- the machine has used its reply
 pub taken_used : (old new : MachineModel) (given : Reply) (answer : Step) (asks : Option Request)
     → Moves old (resumed old.machine given) answer new → asked_by answer ≡ asks → is_awaiting old.machine.state ≡ true
-    → (with_asked new.machine asks ≡ resumed old.machine given) × HasUsed old.machine (with_asked new.machine asks)
-taken_used old new given answer asks moves e awaits =
+    → HasItsItemIn old.machine → (with_asked new.machine asks ≡ resumed old.machine given) × HasUsed old.machine (with_asked new.machine asks)
+taken_used old new given answer asks moves e awaits item =
     let is : resumed old.machine given ≡ with_asked new.machine asks =
     moved_asking old new (resumed old.machine given) answer asks moves e in
-    (sym is, subst (HasUsed old.machine) is (resumed_goes old.machine given awaits))
+    (sym is, subst (HasUsed old.machine) is (resumed_goes old.machine given awaits item))
 
--- one that asks on stands at the same instruction, and has fewer items
+-- an item waits for which it polls
+pub taken_item : (old new : MachineModel) (given : Reply) (answer : Step) → Moves old (resumed old.machine given) answer new
+    → HasItsItemIn old.machine → HasItsItemIn new.machine
+taken_item old new given answer moves item = subst HasItsItemIn (sym moves.machine) (resumed_item old.machine given item)
+
+-- one that asks on stands at the same instruction, and has less to poll for and to log
 pub record AsksOn (before after : Machine) : Type 0 where
   pub instructions : after.instructions ≡ before.instructions
   pub next : after.next ≡ before.next
   pub awaits : is_awaiting after.state ≡ true
-  pub fewer : length after.registers.stack < length before.registers.stack
+  pub lighter : effort_in after < effort_in before
 
 pub used_asks : (before after : Machine) (request : Request) → HasUsed before (with_asked after (Some request)) → AsksOn before after
 used_asks before after request (Further instructions next runs silent_is) = absurd cc
-used_asks before after request (Again instructions next awaits asked asks_is fewer) =
-    record { instructions = instructions; next = next; awaits = awaits; fewer = fewer }
+used_asks before after request (Again instructions next awaits asked asks_is lighter) =
+    record { instructions = instructions; next = next; awaits = awaits; lighter = lighter }
+used_asks before after request (Halts instructions next stops silent_is) = absurd cc
+
+-- one that asks nothing more has finished the instruction at which it stood, or has stopped there
+pub used_finishes : (first before after : Machine) → before.instructions ≡ first.instructions → before.next ≡ first.next
+    → HasUsed before (with_asked after None) → HasFinished first after
+used_finishes first before after same at (Further instructions next runs silent_is) =
+    Finished (instructions ∙ same) (next ∙ ap (λ n. n + 1) at) runs
+used_finishes first before after same at (Again instructions next awaits asked asks_is lighter) = absurd cc
+used_finishes first before after same at (Halts instructions next stops silent_is) = Halted stops

@@ -8,7 +8,7 @@ use Rattle.stack_machine.specs.declared.machine.Step.{Step}
 use Rattle.stack_machine.specs.declared.machine.Step.TheVariants as step
 use Rattle.machine_rules.specs.Worlds.{World, HasWords, step as world_step}
 use Rattle.machine_rules.specs.Machines.{Machine, Progress, resumed}
-use Rattle.machine_rules.specs.Runs.{Run, start, at_rest, run_from, is_running}
+use Rattle.machine_rules.specs.Runs.{Run, start, at_rest, run_from, is_running, has_stopped}
 use Rattle.machine_rules.specs.Laws.{is_awaiting}
 
 -- what a machine asks, by the answer of its step
@@ -56,8 +56,8 @@ pub record Takes (core : CoreModel) (words : ℕ → ℕ) (machine : Machine) (o
   pub progress_is : progress_after ≡ resumed machine given
   pub order_is : order_after ≡ order ++ 0 ∷ []
 
--- the machine finished the instruction at which it stood, and goes on
-pub record HasFinished (before after : Machine) : Type 0 where
-  pub instructions : after.instructions ≡ before.instructions
-  pub next : after.next ≡ before.next + 1
-  pub runs : is_running after.state ≡ true
+-- the machine finished the instruction at which it stood, and goes on; or it has stopped there
+pub data HasFinished (before after : Machine) : Type 0 where
+  Finished : (instructions_are : after.instructions ≡ before.instructions) (next_is : after.next ≡ before.next + 1)
+      (runs : is_running after.state ≡ true) → HasFinished before after
+  Halted : (stops : has_stopped after.state ≡ true) → HasFinished before after

@@ -4,7 +4,7 @@ ghost use Rattle.std.specs.Prelude.{◌≡◌, ◌↔◌, ◌<◌, ◌^◌, fals
 ghost use Rattle.fdb_calls.specs.declared.Reply.TheVariants.{NoMemory};
 ghost use Rattle.machine_rules.specs.Machines.{silent};
 ghost use Rattle.machine_rules.specs.Runs.{has_stopped};
-ghost use Rattle.machine_rules.specs.Laws.{is_awaiting};
+ghost use Rattle.machine_rules.specs.Laws.{HasItsItemIn, is_awaiting};
 ghost use Rattle.machine_rules.specs.Laws.{GoesOn as HasUsed};
 ghost use Rattle.tester_run.specs.Driving.{GoesOn, HasFinished, asked_by, with_asked, work_left};
 
@@ -85,6 +85,7 @@ fn take_all<W: Words>(
 ) -> Result<(), AllocError>
     requires ready { machine.old.is_out_of_memory ≡ false }
     requires awaits { is_awaiting machine.old.machine.state ≡ true }
+    requires item { HasItsItemIn machine.old.machine }
     requires counted { core.old.applied ≡ length order.old }
     ensures goes_on { OnOk result (GoesOn core.old (W.words words.old) (with_asked machine.old.machine (Some first)) order.old
         core.new (W.words words.new) (silent machine.new.machine) order.new) }
@@ -110,11 +111,13 @@ fn take<W: Words>(
 ) -> Result<Option<Request>, AllocError>
     requires ready { machine.old.is_out_of_memory ≡ false }
     requires awaits { is_awaiting machine.old.machine.state ≡ true }
+    requires item { HasItsItemIn machine.old.machine }
     requires counted { core.old.applied ≡ length order.old }
     ensures goes_on { IfOk result (λ next. GoesOn core.old (W.words words.old) (with_asked machine.old.machine (Some request.now)) order.old
         core.new (W.words words.new) (with_asked machine.new.machine next) order.new) }
     ensures ready { OnOk result (machine.new.is_out_of_memory ≡ false) }
     ensures counted { OnOk result (core.new.applied ≡ length order.new) }
+    ensures item { OnOk result (HasItsItemIn machine.new.machine) }
     ensures used { IfOk result (λ next. HasUsed machine.old.machine (with_asked machine.new.machine next)) }
 {
     shows_short(order);

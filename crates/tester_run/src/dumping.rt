@@ -3,6 +3,7 @@
 ghost use Rattle.std.specs.Prelude.{◌≡◌, ℕ, ◌++◌, length, IfOk, OnOk};
 ghost use Rattle.std.specs.List.{flat_map};
 ghost use Rattle.line_rules.specs.Printing.{order_line};
+ghost use Rattle.machine_rules.specs.Calls.{item_bytes};
 ghost use Rattle.machine_rules.specs.Runs.{end_line, stack_lines, error_lines};
 ghost use Rattle.line_rules.specs.Inputs.{pair_lines};
 ghost use Rattle.tester_run.specs.Dumps.{newest_pairs, machine_dump};
@@ -13,6 +14,7 @@ use dump_text::{
     write_pair_line,
 };
 use fdb_tuple::pack_element_into;
+use machine_rules::ItemValue;
 use stack_machine::{End, Machine, State};
 use std::alloc::{AllocError, Global};
 
@@ -60,6 +62,9 @@ fn add_end(to: &mut Vec<u8>, machine: &Machine, end: End) -> Result<(), AllocErr
         End::Underflow(instruction) => {
             write_machine_line(to, number, EndWord::Underflow, instruction, prefix)
         }
+        End::WaitBound(instruction) => {
+            write_machine_line(to, number, EndWord::WaitBound, instruction, prefix)
+        }
     }
 }
 
@@ -71,10 +76,20 @@ fn add_stack_lines(alloc: Global, to: &mut Vec<u8>, machine: &Machine) -> Result
     let mut packed = Vec::new(alloc);
     for (place, item) in items.iter().enumerate() {
         packed.clear();
-        pack_element_into(&mut packed, &item.element)?;
+        add_item_bytes(&mut packed, &item.value)?;
         write_item_line(to, number, place as u64, item.instruction, &packed)?;
     }
     Ok(())
+}
+
+// The packed bytes of an item; of one that waits the byte `*`.
+fn add_item_bytes(to: &mut Vec<u8>, value: &ItemValue) -> Result<(), AllocError>
+    ensures { OnOk result (to.new.items ≡ to.old.items ++ item_bytes value.now) }
+{
+    match value {
+        ItemValue::Known(element) => pack_element_into(to, element),
+        ItemValue::Waits(_) => to.extend_from_slice(b"*"),
+    }
 }
 
 fn add_error_lines(to: &mut Vec<u8>, machine: &Machine) -> Result<(), AllocError>

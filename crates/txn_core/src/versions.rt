@@ -5,15 +5,17 @@ ghost use Rattle.database_rules.specs.Histories.{Setting};
 ghost use Rattle.database_rules.specs.Transactions as rules;
 ghost use Rattle.edge_map.specs.Edges.{Edges};
 ghost use Rattle.fdb_calls.specs.declared.Reply.TheVariants as reply;
+ghost use Rattle.fdb_calls.specs.Outcomes.{outcome_of};
 ghost use Rattle.fdb_calls.specs.Calling.{read_version_called, set_read_version_called};
 ghost use Rattle.txn_core.specs.Accesses.{Calls};
 ghost use Rattle.txn_core.specs.Judging.{Promises};
 ghost use Rattle.txn_core.specs.Stands.{Keeps};
 
 use crate::codes::{phase_code, set_version_code};
+use crate::declaring::stamp_of;
 use crate::txn::Txn;
-use database_rules::{Code, Phase, Tried};
-use fdb_calls::TrFault;
+use database_rules::{Code, NO_COMMIT_VERSION, Phase, TRANSACTION_CANCELLED, Tried};
+use fdb_calls::{Outcome, TrFault};
 use version_store::Store;
 
 impl Txn {
@@ -61,6 +63,27 @@ impl Txn {
         match phase_code(self.phase) {
             Some(code) => Err(code),
             None => Ok(self.life),
+        }
+    }
+
+    /// The number of its life. It takes no memory.
+    pub fn life(&self) -> u64
+        ensures { result ≡ self.now.life }
+    {
+        self.life
+    }
+
+    /// What became of its life: the versionstamp of its commit, or the code of why it has none; None where that isn't decided
+    /// yet. It takes no memory.
+    pub fn outcome(&self) -> Option<Outcome>
+        ensures { result ≡ outcome_of self.now.phase }
+    {
+        match self.phase {
+            Phase::Active => None,
+            Phase::Cancelled => Some(Outcome::Lacks(Code(TRANSACTION_CANCELLED))),
+            Phase::Tried(Tried::ReadOnly) => Some(Outcome::Lacks(Code(NO_COMMIT_VERSION))),
+            Phase::Tried(Tried::Version(version)) => Some(Outcome::HasStamp(stamp_of(version))),
+            Phase::Tried(Tried::Refused(code)) => Some(Outcome::Lacks(code)),
         }
     }
 }

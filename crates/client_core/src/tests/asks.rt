@@ -20,19 +20,31 @@ pub enum Say {
     LongClearRange(usize, usize),
     Atomic(&'static [u8], &'static [u8], &'static [u8]),
     LongAtomic(&'static [u8], usize, usize),
+    ReadConflict(&'static [u8], &'static [u8]),
+    LongReadConflict(usize, usize),
+    WriteConflict(&'static [u8], &'static [u8]),
+    LongWriteConflict(usize, usize),
+    NoWriteConflict,
+    ReadVersion,
+    SetReadVersion(i64),
+    CommittedVersion,
+    Versionstamp,
     Commit,
     OnError(u16),
     Reset,
     Cancel,
 }
 
-/// A request. The long log has one entry more, whose prefix, key and value have so many bytes; the full one has the
-/// value of 100000 bytes under its prefix, so many times.
+/// A request. A read on the transaction of a name is by snapshot where that is said. The long log has one entry more,
+/// whose prefix, key and value have so many bytes; the full one has the value of 100000 bytes under its prefix, so many
+/// times.
 #[derive(Clone, Copy)]
 pub enum Ask {
     New(&'static [u8]),
     On(&'static [u8], Say),
+    Snapshot(&'static [u8], Say),
     Database(Say),
+    Poll(u64),
     Log(&'static [u8], &'static [Loaded]),
     LongLog(usize, usize, usize),
     FullLog(&'static [u8], usize),
@@ -64,48 +76,58 @@ fn selector_of(alloc: Global, place: Place) -> Result<Selector, AllocError> {
     })
 }
 
-fn get_of(key: Bytes) -> TxnCall {
-    TxnCall::Get {
-        key,
-        snapshot: false,
-    }
+fn get_of(key: Bytes, snapshot: bool) -> TxnCall {
+    TxnCall::Get { key, snapshot }
 }
 
-fn get_key_of(alloc: Global, place: Place) -> Result<TxnCall, AllocError> {
+fn get_key_of(alloc: Global, place: Place, snapshot: bool) -> Result<TxnCall, AllocError> {
     let selector = selector_of(alloc, place)?;
-    Ok(TxnCall::GetKey {
-        selector,
-        snapshot: true,
-    })
+    Ok(TxnCall::GetKey { selector, snapshot })
+}
+
+// How a range is read: up to a limit, in order or reversed, in a streaming mode, and whether by snapshot.
+#[derive(Clone, Copy)]
+struct Manner {
+    limit: u32,
+    reverse: bool,
+    mode: Mode,
+    snapshot: bool,
+}
+
+fn new_manner(limit: u32, reverse: bool, mode: Mode, snapshot: bool) -> Manner {
+    Manner {
+        limit,
+        reverse,
+        mode,
+        snapshot,
+    }
 }
 
 fn get_range_of(
     alloc: Global,
     begin: Place,
     end: Place,
-    limit: u32,
-    reverse: bool,
-    mode: Mode,
+    manner: Manner,
 ) -> Result<TxnCall, AllocError> {
     let begin = selector_of(alloc, begin)?;
     let end = selector_of(alloc, end)?;
     Ok(TxnCall::GetRange {
         begin,
         end,
-        limit,
-        reverse,
-        mode,
-        snapshot: false,
+        limit: manner.limit,
+        reverse: manner.reverse,
+        mode: manner.mode,
+        snapshot: manner.snapshot,
     })
 }
 
-fn get_key_range_of(range: KeyRange, limit: u32, reverse: bool, mode: Mode) -> TxnCall {
+fn get_key_range_of(range: KeyRange, manner: Manner) -> TxnCall {
     TxnCall::GetKeyRange {
         range,
-        limit,
-        reverse,
-        mode,
-        snapshot: false,
+        limit: manner.limit,
+        reverse: manner.reverse,
+        mode: manner.mode,
+        snapshot: manner.snapshot,
     }
 }
 
@@ -154,16 +176,22 @@ fn long_atomic(
     Ok(atomic_of(name, key, long(alloc, operand)?))
 }
 
-fn read_of(alloc: Global, say: Say) -> Result<TxnCall, AllocError> {
+// A read, which is by snapshot where that is said, or another call.
+fn call_of(alloc: Global, say: Say, snapshot: bool) -> Result<TxnCall, AllocError> {
     match say {
-        Say::Get(key) => Ok(get_of(bytes_of(alloc, key)?)),
-        Say::GetKey(place) => get_key_of(alloc, place),
+        Say::Get(key) => Ok(get_of(bytes_of(alloc, key)?, snapshot)),
+        Say::GetKey(place) => get_key_of(alloc, place, snapshot),
         Say::GetRange(begin, end, limit, reverse, mode) => {
-            get_range_of(alloc, begin, end, limit, reverse, mode)
+            get_range_of(
+                alloc,
+                begin,
+                end,
+                new_manner(limit, reverse, mode, snapshot),
+            )
         }
         Say::GetKeyRange(begin, end, limit, reverse, mode) => {
             let range = range_of(alloc, begin, end)?;
-            Ok(get_key_range_of(range, limit, reverse, mode))
+            Ok(get_key_range_of(range, new_manner(limit, reverse, mode, snapshot)))
         }
         _ => write_of(alloc, say),
     }
@@ -179,23 +207,46 @@ fn write_of(alloc: Global, say: Say) -> Result<TxnCall, AllocError> {
         Say::LongClearRange(begin, end) => Ok(clear_range_of(long_range(alloc, begin, end)?)),
         Say::Atomic(name, key, operand) => short_atomic(alloc, name, key, operand),
         Say::LongAtomic(name, key, operand) => long_atomic(alloc, name, key, operand),
-        _ => Ok(TxnCall::Reset),
+        _ => conflict_of(alloc, say),
     }
 }
 
-fn call_of(alloc: Global, say: Say) -> Result<TxnCall, AllocError> {
+fn read_conflict_of(range: KeyRange) -> TxnCall {
+    TxnCall::ReadConflict { range }
+}
+
+fn write_conflict_of(range: KeyRange) -> TxnCall {
+    TxnCall::WriteConflict { range }
+}
+
+fn conflict_of(alloc: Global, say: Say) -> Result<TxnCall, AllocError> {
     match say {
-        Say::Commit => Ok(TxnCall::Commit),
-        Say::OnError(code) => Ok(TxnCall::OnError { code: Code(code) }),
-        Say::Reset => Ok(TxnCall::Reset),
-        Say::Cancel => Ok(TxnCall::Cancel),
-        _ => read_of(alloc, say),
+        Say::ReadConflict(begin, end) => Ok(read_conflict_of(range_of(alloc, begin, end)?)),
+        Say::LongReadConflict(begin, end) => Ok(read_conflict_of(long_range(alloc, begin, end)?)),
+        Say::WriteConflict(begin, end) => Ok(write_conflict_of(range_of(alloc, begin, end)?)),
+        Say::LongWriteConflict(begin, end) => Ok(write_conflict_of(long_range(alloc, begin, end)?)),
+        _ => Ok(short_of(say)),
     }
 }
 
-fn on(alloc: Global, name: &[u8], say: Say) -> Result<Request, AllocError> {
+// A call without a key.
+fn short_of(say: Say) -> TxnCall {
+    match say {
+        Say::NoWriteConflict => TxnCall::NoWriteConflict,
+        Say::ReadVersion => TxnCall::ReadVersion,
+        Say::SetReadVersion(version) => TxnCall::SetReadVersion { version },
+        Say::CommittedVersion => TxnCall::CommittedVersion,
+        Say::Versionstamp => TxnCall::Versionstamp,
+        Say::Commit => TxnCall::Commit,
+        Say::OnError(code) => TxnCall::OnError { code: Code(code) },
+        Say::Cancel => TxnCall::Cancel,
+        _ => TxnCall::Reset,
+    }
+}
+
+fn on(alloc: Global, name: &[u8], say: Say, snapshot: bool) -> Result<Request, AllocError> {
     let name = bytes_of(alloc, name)?;
-    let call = call_of(alloc, say)?;
+    let call = call_of(alloc, say, snapshot)?;
     Ok(Request::On { name, call })
 }
 
@@ -232,10 +283,12 @@ pub fn request_of(alloc: Global, ask: Ask) -> Result<Request, AllocError> {
         Ask::New(name) => Ok(Request::New {
             name: bytes_of(alloc, name)?,
         }),
-        Ask::On(name, say) => on(alloc, name, say),
+        Ask::On(name, say) => on(alloc, name, say, false),
+        Ask::Snapshot(name, say) => on(alloc, name, say, true),
         Ask::Database(say) => Ok(Request::Database {
-            call: call_of(alloc, say)?,
+            call: call_of(alloc, say, false)?,
         }),
+        Ask::Poll(life) => Ok(Request::PollStamp { life }),
         Ask::Log(prefix, entries) => log_of(alloc, prefix, pairs_of(alloc, entries)?),
         Ask::LongLog(prefix, key, value) => long_log(alloc, prefix, key, value),
         Ask::FullLog(prefix, count) => log_of(alloc, prefix, full_entries(alloc, count)?),

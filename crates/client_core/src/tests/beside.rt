@@ -4,10 +4,10 @@ use super::draws::Draws;
 use super::plain::Plain;
 use super::*;
 
-// How many lists are drawn, and how many requests each has.
+// How many lists are drawn, and how many requests of each.
 const LISTS: usize = 300;
 
-const REQUESTS: usize = 20;
+const REQUESTS: usize = 27;
 
 // The core and the plain program.
 #[derive(Drop)]
@@ -50,6 +50,12 @@ struct Answers {
     values: usize,
     keys: usize,
     pairs: usize,
+    versions: usize,
+    lives: usize,
+    stamps: usize,
+    undecided: usize,
+    // how many commits rested on a key and were let through beside a commit after their version
+    passed: usize,
 }
 
 impl Answers {
@@ -61,6 +67,10 @@ impl Answers {
             Reply::PairsAre(pairs) if !pairs.is_empty() => {
                 self.pairs = self.pairs.saturating_add(1);
             }
+            Reply::Version(1..) => self.versions = self.versions.saturating_add(1),
+            Reply::Life(1..) => self.lives = self.lives.saturating_add(1),
+            Reply::Stamp(_) => self.stamps = self.stamps.saturating_add(1),
+            Reply::NotYet => self.undecided = self.undecided.saturating_add(1),
             _ => {}
         }
         Ok(())
@@ -98,20 +108,59 @@ fn is_alike(beside: &Beside) -> Result<bool, AllocError> {
     )
 }
 
-// The place of the first request of a drawn list that the two answer otherwise, or after which they differ.
+// Whether both take a request alike.
+fn is_taken_alike(
+    alloc: Global,
+    beside: &mut Beside,
+    ask: Ask,
+    answers: &mut Answers,
+) -> Result<bool, AllocError> {
+    let request = request_of(alloc, ask)?;
+    Ok(is_answered_alike(beside, &request, answers)? && is_alike(beside)?)
+}
+
+// The place of the first drawn request that the two take otherwise.
+fn first_drawn(
+    alloc: Global,
+    beside: &mut Beside,
+    draws: &mut Draws,
+    answers: &mut Answers,
+) -> Result<Option<usize>, AllocError> {
+    for place in 0..REQUESTS {
+        if !is_taken_alike(alloc, beside, draws.ask(), answers)? {
+            return Ok(Some(place));
+        }
+    }
+    Ok(None)
+}
+
+// The same of the last requests of a list, by which each name commits.
+fn first_last(
+    alloc: Global,
+    beside: &mut Beside,
+    answers: &mut Answers,
+) -> Result<Option<usize>, AllocError> {
+    for (place, name) in [P, Q, R].iter().enumerate() {
+        if !is_taken_alike(alloc, beside, Ask::On(name, Say::Commit), answers)? {
+            return Ok(Some(place.saturating_add(REQUESTS)));
+        }
+    }
+    Ok(None)
+}
+
+// The place of the first request of a list that the two take otherwise.
 fn first_difference(
     alloc: Global,
     draws: &mut Draws,
     answers: &mut Answers,
 ) -> Result<Option<usize>, AllocError> {
     let mut beside = new_beside(alloc, draws.loaded())?;
-    for place in 0..REQUESTS {
-        let request = request_of(alloc, draws.ask())?;
-        if !is_answered_alike(&mut beside, &request, answers)? || !is_alike(&beside)? {
-            return Ok(Some(place));
-        }
+    let mut place = first_drawn(alloc, &mut beside, draws, answers)?;
+    if place.is_none() {
+        place = first_last(alloc, &mut beside, answers)?;
     }
-    Ok(None)
+    answers.passed = answers.passed.saturating_add(beside.plain.passed());
+    Ok(place)
 }
 
 // The first list in which the two differ, and the place of its request there; and what was answered.
@@ -122,6 +171,11 @@ fn compared(alloc: Global) -> Result<(Option<(usize, usize)>, Answers), AllocErr
         values: 0,
         keys: 0,
         pairs: 0,
+        versions: 0,
+        lives: 0,
+        stamps: 0,
+        undecided: 0,
+        passed: 0,
     };
     for list in 0..LISTS {
         if let Some(place) = first_difference(alloc, &mut draws, &mut answers)? {
@@ -132,7 +186,9 @@ fn compared(alloc: Global) -> Result<(Option<(usize, usize)>, Answers), AllocErr
 }
 
 // The codes of faults that a request can be answered with, a code that is only handed in not among them.
-const FAULTS: &[u16] = &[1025, 2004, 2005, 2017, 2018, 2101, 2102, 2103, 2210];
+const FAULTS: &[u16] = &[
+    1009, 1020, 1025, 1036, 2000, 2004, 2005, 2010, 2011, 2017, 2018, 2021, 2101, 2102, 2103, 2210,
+];
 
 // The first code that no request was answered with.
 fn first_missing(answers: &Answers) -> Option<u16> {
@@ -150,5 +206,7 @@ fn is_the_plain_program(rt: HostRuntime) -> Result<(), Fail> {
     assert_eq!(rt; difference, None);
     assert_eq!(rt; first_missing(&answers), None);
     assert!(rt; answers.values > 0 && answers.keys > 0 && answers.pairs > 0);
+    assert!(rt; answers.versions > 0 && answers.lives > 0 && answers.passed > 0);
+    assert!(rt; answers.stamps > 0 && answers.undecided > 0);
     Ok(())
 }

@@ -2,14 +2,25 @@
 
 use super::asks::Place;
 use super::*;
+use key_bytes::is_below;
 
-/// Numbers drawn one after another (xorshift).
+// What the next request does: anything, or it begins a transaction anew, or it is the first read of one.
+#[derive(Clone, Copy)]
+enum Turn {
+    Any,
+    Anew(&'static [u8]),
+    First(&'static [u8]),
+}
+
+/// Numbers drawn one after another (xorshift), and what the next request does.
 #[derive(Drop)]
 pub struct Draws {
     state: u64,
+    turn: Turn,
 }
 
-const KEYS: &[&[u8]] = &[b"", b"a", b"a\0", b"b", b"bb", b"c", b"d", b"\xfe"];
+/// The keys of calls.
+pub const KEYS: &[&[u8]] = &[b"", b"a", b"a\0", b"b", b"bb", b"c", b"d", b"\xfe"];
 
 const VALUES: &[&[u8]] = &[b"", b"1", b"22", b"\0\xff", b"\xff\xff\xff", b"\x01\x02"];
 
@@ -32,6 +43,34 @@ const OPERATIONS: &[&[u8]] = &[
     b"SET_VERSIONSTAMPED_VALUE",
 ];
 
+/// Keys with room for a versionstamp.
+pub const STAMPED_KEYS: &[&[u8]] = &[
+    b"..........\0\0\0\0",
+    b"b..........\x01\0\0\0",
+    b"c..........b\x01\0\0\0",
+    b"\xff.........\0\0\0\0",
+];
+
+// Keys and values without room, or outside.
+const NOT_STAMPED: &[&[u8]] = &[
+    b"\0\0\0",
+    b"b.........\x01\0\0\0",
+    b"..........\0\0\0\x01",
+    b"\xff..........\x01\0\0\0",
+];
+
+const STAMPED_VALUES: &[&[u8]] = &[
+    b"..........\0\0\0\0",
+    b"<..........>\x01\0\0\0",
+    b"..........\x01\0\0\0",
+];
+
+const VERSIONS: &[i64] = &[-1, 0, 1, 1, 1, 2, 2, 3, 4, 9, i64::MAX];
+
+const STAMP_KEY: &[u8] = b"SET_VERSIONSTAMPED_KEY";
+
+const STAMP_VALUE: &[u8] = b"SET_VERSIONSTAMPED_VALUE";
+
 const MODES: &[Mode] = &[
     Mode::WantAll,
     Mode::Iterator,
@@ -48,7 +87,11 @@ const KEY_LENS: &[usize] = &[0, 1, 9_999, 10_000, 10_001];
 
 const VALUE_LENS: &[usize] = &[0, 1, 99_999, 100_000, 100_001];
 
-const ENTRIES: &[&[Loaded]] = &[
+/// The prefixes of entries.
+pub const PREFIXES: &[&[u8]] = &[b"", b"a", b"\xff"];
+
+/// Entries to be logged.
+pub const ENTRIES: &[&[Loaded]] = &[
     &[],
     &[(b"", b"1")],
     &[(b"b", b"22"), (b"a", b"1"), (b"b", b"\0\xff")],
@@ -78,6 +121,7 @@ impl Draws {
     pub fn new() -> Draws {
         Draws {
             state: 0x9e37_79b9_7f4a_7c15,
+            turn: Turn::Any,
         }
     }
 
@@ -106,6 +150,11 @@ impl Draws {
     fn mode(&mut self) -> Mode {
         let place = self.below(MODES.len() as u64) as usize;
         MODES.get(place).copied().unwrap_or(Mode::WantAll)
+    }
+
+    fn version(&mut self) -> i64 {
+        let place = self.below(VERSIONS.len() as u64) as usize;
+        VERSIONS.get(place).copied().unwrap_or(0)
     }
 
     fn error(&mut self) -> u16 {
@@ -159,37 +208,81 @@ impl Draws {
     fn read(&mut self) -> Say {
         let limit = u32::try_from(self.below(4)).unwrap_or(0);
         let (reverse, mode) = (self.is_one(2), self.mode());
-        match self.below(5) {
-            0 => Say::Get(self.key()),
-            1..=2 => Say::GetKey(self.place()),
-            3 => Say::GetRange(self.place(), self.place(), limit, reverse, mode),
-            _ => Say::GetKeyRange(self.end(), self.end(), limit, reverse, mode),
+        let (begin, end) = self.ends();
+        match self.below(6) {
+            0..=1 => Say::Get(self.key()),
+            2..=3 => Say::GetKey(self.place()),
+            4 => Say::GetRange(self.place(), self.place(), limit, reverse, mode),
+            _ => Say::GetKeyRange(begin, end, limit, reverse, mode),
         }
     }
 
     // A call with a key or a value about its limit.
     fn long(&mut self) -> Say {
         let (key, value) = (self.len(KEY_LENS), self.len(VALUE_LENS));
-        match self.below(6) {
+        match self.below(8) {
             0 => Say::LongSet(key, value),
             1 => Say::LongClear(key),
-            2 => Say::LongClearRange(key, value),
+            2 => Say::LongClearRange(key, self.len(KEY_LENS)),
             3 => Say::LongAtomic(self.pick(OPERATIONS), key, value),
+            4 => Say::LongReadConflict(key, self.len(KEY_LENS)),
+            5 => Say::LongWriteConflict(key, self.len(KEY_LENS)),
             _ => Say::LongAtomic(b"APPEND_IF_FITS", self.len(&[0, 1]), value),
         }
     }
 
+    // An atomic operation with a versionstamp.
+    fn stamped(&mut self) -> Say {
+        match self.below(16) {
+            0..=7 => Say::Atomic(STAMP_KEY, self.pick(STAMPED_KEYS), self.pick(VALUES)),
+            8 => Say::Atomic(STAMP_KEY, self.pick(NOT_STAMPED), self.pick(VALUES)),
+            9 => Say::Atomic(STAMP_VALUE, self.key(), self.pick(NOT_STAMPED)),
+            _ => Say::Atomic(STAMP_VALUE, self.key(), self.pick(STAMPED_VALUES)),
+        }
+    }
+
+    // A call about versions and conflicts.
+    fn aside(&mut self) -> Say {
+        let (begin, end) = self.ends();
+        match self.below(16) {
+            0..=2 => Say::ReadConflict(begin, end),
+            3..=5 => Say::WriteConflict(begin, end),
+            6..=9 => Say::NoWriteConflict,
+            10 => Say::ReadVersion,
+            11..=12 => Say::SetReadVersion(self.version()),
+            13..=14 => Say::CommittedVersion,
+            _ => Say::Versionstamp,
+        }
+    }
+
+    // A range, which now and then is inverted.
+    fn ends(&mut self) -> (&'static [u8], &'static [u8]) {
+        let (begin, end) = (self.end(), self.end());
+        if is_below(end, begin) && !self.is_one(8) {
+            (end, begin)
+        } else {
+            (begin, end)
+        }
+    }
+
+    fn clear_range(&mut self) -> Say {
+        let (begin, end) = self.ends();
+        Say::ClearRange(begin, end)
+    }
+
     fn say(&mut self) -> Say {
-        match self.below(64) {
-            0..=22 => self.read(),
-            23..=32 => Say::Set(self.key(), self.pick(VALUES)),
-            33..=36 => Say::Clear(self.key()),
-            37..=40 => Say::ClearRange(self.end(), self.end()),
-            41..=55 => Say::Atomic(self.pick(OPERATIONS), self.key(), self.pick(VALUES)),
-            56 => self.long(),
-            57..=60 => Say::Commit,
-            61 => Say::OnError(self.error()),
-            62 => Say::Reset,
+        match self.below(128) {
+            0..=39 => self.read(),
+            40..=63 => Say::Set(self.key(), self.pick(VALUES)),
+            64..=68 => Say::Clear(self.key()),
+            69..=73 => self.clear_range(),
+            74..=83 => Say::Atomic(self.pick(OPERATIONS), self.key(), self.pick(VALUES)),
+            84..=87 => self.stamped(),
+            88..=102 => self.aside(),
+            103 => self.long(),
+            104..=122 => Say::Commit,
+            123..=124 => Say::OnError(self.error()),
+            125..=126 => Say::Reset,
             _ => Say::Cancel,
         }
     }
@@ -204,15 +297,56 @@ impl Draws {
         }
     }
 
+    // A call on the transaction of a name. After most calls that end a life it begins anew.
+    fn on(&mut self, name: &'static [u8]) -> Ask {
+        let say = self.say();
+        if matches!(say, Say::Commit | Say::Cancel | Say::OnError(_)) && !self.is_one(8) {
+            self.turn = Turn::Anew(name);
+        }
+        if self.is_one(4) {
+            Ask::Snapshot(name, say)
+        } else {
+            Ask::On(name, say)
+        }
+    }
+
+    // A new life under a name, whose first call is a read; or first the version that its commit made.
+    fn anew(&mut self, name: &'static [u8]) -> Ask {
+        if self.is_one(8) {
+            return Ask::On(name, Say::CommittedVersion);
+        }
+        self.turn = Turn::First(name);
+        match self.below(4) {
+            0 => Ask::New(name),
+            1 => Ask::On(name, Say::OnError(1020)),
+            _ => Ask::On(name, Say::Reset),
+        }
+    }
+
+    // The first read of a life.
+    fn first(&mut self, name: &'static [u8]) -> Ask {
+        self.turn = Turn::Any;
+        Ask::On(name, self.read())
+    }
+
+    fn any(&mut self) -> Ask {
+        let name = self.pick(&[P, Q, R]);
+        match self.below(256) {
+            0..=5 => Ask::New(name),
+            6..=25 => Ask::Database(self.say()),
+            26..=31 => Ask::Log(self.pick(PREFIXES), self.pairs(ENTRIES)),
+            32 => self.long_log(),
+            33..=48 => Ask::Poll(self.below(12)),
+            _ => self.on(name),
+        }
+    }
+
     /// The next request.
     pub fn ask(&mut self) -> Ask {
-        let name = self.pick(&[P, Q]);
-        match self.below(256) {
-            0..=11 => Ask::New(name),
-            12..=47 => Ask::Database(self.say()),
-            48..=59 => Ask::Log(self.key(), self.pairs(ENTRIES)),
-            60 => self.long_log(),
-            _ => Ask::On(name, self.say()),
+        match self.turn {
+            Turn::Any => self.any(),
+            Turn::Anew(name) => self.anew(name),
+            Turn::First(name) => self.first(name),
         }
     }
 }

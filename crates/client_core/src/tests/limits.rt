@@ -79,6 +79,17 @@ const ENDS: &[Row] = &[
         Told::Fault(2005),
         1,
     ),
+    (Ask::On(P, Say::ReadConflict(b"", b"\xff")), Told::Done, 1),
+    (
+        Ask::On(P, Say::ReadConflict(b"b\0", b"b")),
+        Told::Fault(2005),
+        1,
+    ),
+    (
+        Ask::On(P, Say::WriteConflict(b"b", b"\xff\0")),
+        Told::Fault(2004),
+        1,
+    ),
     (
         Ask::On(P, Say::Atomic(b"ADD", b"n", b"\x01")),
         Told::Done,
@@ -91,12 +102,12 @@ const ENDS: &[Row] = &[
     ),
     (
         Ask::On(P, Say::Atomic(b"SET_VERSIONSTAMPED_KEY", b"n", b"")),
-        Told::Fault(2018),
+        Told::Fault(2000),
         1,
     ),
     (
         Ask::On(P, Say::Atomic(b"SET_VERSIONSTAMPED_VALUE", b"n", b"")),
-        Told::Fault(2018),
+        Told::Fault(2000),
         1,
     ),
     (
@@ -192,6 +203,83 @@ fn a_range_counts_its_ends_and_a_clear_its_key_twice(rt: HostRuntime) -> Result<
     assert_eq!(rt; first_wrong_after(rt.alloc(), 99, CLEARS_FIT)?, None);
     assert_eq!(rt;
         first_wrong_after(rt.alloc(), 99, CLEARS_ARE_TOO_LARGE)?,
+        None
+    );
+    Ok(())
+}
+
+// Behind 99 sets: a range of 50000 bytes to rest on, and an empty one of as many to declare.
+const CONFLICTS_FIT: &[Row] = &[
+    (
+        Ask::On(P, Say::LongReadConflict(20_000, 30_000)),
+        Told::Done,
+        1,
+    ),
+    (
+        Ask::On(P, Say::LongWriteConflict(25_000, 25_000)),
+        Told::Done,
+        1,
+    ),
+    (Ask::On(P, Say::NoWriteConflict), Told::Done, 1),
+    (Ask::On(P, Say::LongSet(0, 0)), Told::Done, 1),
+    (Ask::On(P, Say::Commit), Told::Done, 2),
+];
+
+const CONFLICTS_ARE_TOO_LARGE: &[Row] = &[
+    (
+        Ask::On(P, Say::LongReadConflict(20_000, 30_000)),
+        Told::Done,
+        1,
+    ),
+    (
+        Ask::On(P, Say::LongWriteConflict(25_000, 25_000)),
+        Told::Done,
+        1,
+    ),
+    (Ask::On(P, Say::LongSet(0, 1)), Told::Done, 1),
+    (Ask::On(P, Say::Commit), Told::Fault(2101), 1),
+];
+
+#[test]
+fn a_conflict_range_counts_its_ends(rt: HostRuntime) -> Result<(), Fail> {
+    assert_eq!(rt; first_wrong_after(rt.alloc(), 99, CONFLICTS_FIT)?, None);
+    assert_eq!(rt;
+        first_wrong_after(rt.alloc(), 99, CONFLICTS_ARE_TOO_LARGE)?,
+        None
+    );
+    Ok(())
+}
+
+// Behind 99 sets: an operation of 16 bytes with the four of its place, and a set of 99984 bytes.
+const STAMPS_FIT: &[Row] = &[
+    (
+        Ask::On(P, Say::Atomic(STAMP_KEY, b"..........\0\0\0\0", b"11")),
+        Told::Done,
+        1,
+    ),
+    (Ask::On(P, Say::LongSet(0, 99_984)), Told::Done, 1),
+    (Ask::On(P, Say::Commit), Told::Done, 2),
+];
+
+const STAMPS_ARE_TOO_LARGE: &[Row] = &[
+    (
+        Ask::On(P, Say::Atomic(STAMP_VALUE, b"11", b"..........\0\0\0\0")),
+        Told::Done,
+        1,
+    ),
+    (Ask::On(P, Say::LongSet(0, 99_985)), Told::Done, 1),
+    (Ask::On(P, Say::Commit), Told::Fault(2101), 1),
+];
+
+const STAMP_KEY: &[u8] = b"SET_VERSIONSTAMPED_KEY";
+
+const STAMP_VALUE: &[u8] = b"SET_VERSIONSTAMPED_VALUE";
+
+#[test]
+fn stamped_bytes_count_with_their_place(rt: HostRuntime) -> Result<(), Fail> {
+    assert_eq!(rt; first_wrong_after(rt.alloc(), 99, STAMPS_FIT)?, None);
+    assert_eq!(rt;
+        first_wrong_after(rt.alloc(), 99, STAMPS_ARE_TOO_LARGE)?,
         None
     );
     Ok(())

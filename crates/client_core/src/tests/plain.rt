@@ -1,72 +1,30 @@
-//! The step of each request, written plainly: each version is a whole map.
+//! The step of each request, written plainly: each version is a whole map, and each commit is judged by all that came after
+//! its read version.
 
-use super::plain_atoms::{Operation, atom, operation_of};
+use super::plain_fates::{Fate, Fates};
+use super::plain_keys::{Span, alphabet, has_any};
+use super::plain_lives::{Life, Stage};
 use super::plain_reads::answer;
+use super::plain_rests::{interval, is_by_snapshot};
+use super::plain_writes::{is_end_outside, is_outside, stamp_of, write_code, write_of};
 use database_rules::{Code, Mode};
 use fdb_calls::{Reply, Request, TxnCall};
-use key_bytes::{Bytes, Key, KeyRange, Pair, Pairs, is_below};
+use key_bytes::{Bytes, Key, Pair, Pairs};
 use key_map::KeyMap;
 use std::alloc::{AllocError, Global};
 
-// Where a life stands.
-#[derive(Clone, Copy, Debug, PartialEq, Eq)]
-enum Stage {
-    Open,
-    Cancelled,
-    Tried,
-}
-
-#[derive(Drop)]
-enum Write {
-    Set {
-        key: Key,
-        value: Bytes,
-    },
-    Clear {
-        key: Key,
-    },
-    ClearRange {
-        range: KeyRange,
-    },
-    Atomic {
-        operation: Operation,
-        key: Key,
-        operand: Bytes,
-    },
-}
-
-#[derive(Drop)]
-struct Life {
-    version: Option<usize>,
-    writes: Vec<Write>,
-    stage: Stage,
-}
-
-/// The map at each version, and the transactions by name.
+/// The map at each version and the keys that its commit declared, and the transactions by name.
 #[derive(Drop)]
 pub struct Plain {
     alloc: Global,
+    // a key at each place where a set of keys may begin or end
+    keys: Vec<Key>,
     maps: Vec<KeyMap<Bytes>>,
+    declared: Vec<Vec<Span>>,
     lives: KeyMap<Life>,
-}
-
-impl Life {
-    fn new(alloc: Global) -> Life {
-        Life {
-            version: None,
-            writes: Vec::new(alloc),
-            stage: Stage::Open,
-        }
-    }
-
-    // How many bytes its writes count.
-    fn size(&self) -> usize {
-        let mut size: usize = 0;
-        for write in self.writes.as_slice() {
-            size = size.saturating_add(write_size(write));
-        }
-        size
-    }
+    fates: Fates,
+    // how many commits rested on a key and were let through beside a commit after their version
+    passed: usize,
 }
 
 fn fault(code: u16) -> Reply {
@@ -77,31 +35,6 @@ fn is_fault(reply: &Reply) -> bool {
     matches!(reply, Reply::Fault(_))
 }
 
-fn is_outside(key: &Key) -> bool {
-    !is_below(key.as_slice(), b"\xff")
-}
-
-fn is_end_outside(key: &Key) -> bool {
-    is_below(b"\xff", key.as_slice())
-}
-
-fn write_code(key: &Key, value: &Bytes) -> Option<u16> {
-    match () {
-        _ if is_outside(key) => Some(2004),
-        _ if key.len() > 10_000 => Some(2102),
-        _ if value.len() > 100_000 => Some(2103),
-        _ => None,
-    }
-}
-
-fn clear_range_code(range: &KeyRange) -> Option<u16> {
-    match () {
-        _ if is_end_outside(&range.begin) || is_end_outside(&range.end) => Some(2004),
-        _ if range.end < range.begin => Some(2005),
-        _ => None,
-    }
-}
-
 fn range_code(begin: &Key, end: &Key, limit: u32, mode: Mode) -> Option<u16> {
     match () {
         _ if is_end_outside(begin) || is_end_outside(end) => Some(2004),
@@ -110,10 +43,10 @@ fn range_code(begin: &Key, end: &Key, limit: u32, mode: Mode) -> Option<u16> {
     }
 }
 
-// The code of a call's own check.
-fn code_of(call: &TxnCall) -> Option<u16> {
+// The code of a read's own check.
+fn read_code(call: &TxnCall) -> Option<u16> {
     match call {
-        TxnCall::Get { key, .. } | TxnCall::Clear { key } => is_outside(key).then_some(2004),
+        TxnCall::Get { key, .. } => is_outside(key).then_some(2004),
         TxnCall::GetKey { selector, .. } => is_end_outside(&selector.key).then_some(2004),
         TxnCall::GetRange {
             begin,
@@ -128,107 +61,31 @@ fn code_of(call: &TxnCall) -> Option<u16> {
             mode,
             ..
         } => range_code(&range.begin, &range.end, *limit, *mode),
-        TxnCall::Set { key, value } => write_code(key, value),
-        TxnCall::ClearRange { range } => clear_range_code(range),
-        TxnCall::Atomic { name, key, operand } => match operation_of(name.as_slice()) {
-            Some(_) => write_code(key, operand),
-            None => Some(2018),
-        },
         _ => None,
     }
 }
 
-fn range_copy(range: &KeyRange) -> Result<KeyRange, AllocError> {
-    let begin = range.begin.copy()?;
-    let end = range.end.copy()?;
-    Ok(KeyRange { begin, end })
+fn version_reply(version: usize) -> Reply {
+    Reply::Version(i64::try_from(version).unwrap_or(-1))
 }
 
-fn set_of(key: &Key, value: &Bytes) -> Result<Write, AllocError> {
-    let key = key.copy()?;
-    let value = value.copy()?;
-    Ok(Write::Set { key, value })
-}
-
-fn atomic_of(operation: Operation, key: &Key, operand: &Bytes) -> Result<Write, AllocError> {
-    let key = key.copy()?;
-    let operand = operand.copy()?;
-    Ok(Write::Atomic {
-        operation,
-        key,
-        operand,
-    })
-}
-
-// What a call writes; None where it is a read.
-fn write_of(call: &TxnCall) -> Result<Option<Write>, AllocError> {
-    match call {
-        TxnCall::Set { key, value } => Ok(Some(set_of(key, value)?)),
-        TxnCall::Clear { key } => Ok(Some(Write::Clear { key: key.copy()? })),
-        TxnCall::ClearRange { range } => Ok(Some(Write::ClearRange {
-            range: range_copy(range)?,
-        })),
-        TxnCall::Atomic { name, key, operand } => match operation_of(name.as_slice()) {
-            Some(operation) => Ok(Some(atomic_of(operation, key, operand)?)),
-            None => Ok(None),
-        },
-        _ => Ok(None),
+// The version that the commit of a life made.
+fn made_by(life: &Life) -> i64 {
+    match life.stage {
+        Stage::Tried(version) => version,
+        _ => -1,
     }
 }
 
-fn write_size(write: &Write) -> usize {
-    match write {
-        Write::Set { key, value } => key.len().saturating_add(value.len()),
-        Write::Clear { key } => key.len().saturating_mul(2).saturating_add(1),
-        Write::ClearRange { range } => range.begin.len().saturating_add(range.end.len()),
-        Write::Atomic { key, operand, .. } => key.len().saturating_add(operand.len()),
+fn set_version(life: &mut Life, version: i64) -> Reply {
+    if life.version.is_some() {
+        return fault(2010);
     }
-}
-
-fn do_atomic(
-    alloc: Global,
-    map: &mut KeyMap<Bytes>,
-    operation: Operation,
-    key: &Key,
-    operand: &[u8],
-) -> Result<(), AllocError> {
-    let old = map.remove(key);
-    let old = old.as_ref().map(|value| value.as_slice());
-    if let Some(value) = atom(alloc, operation, old, operand)? {
-        map.insert(key.copy()?, Bytes::from_vec(value)?)?;
+    if version <= 0 {
+        return fault(2011);
     }
-    Ok(())
-}
-
-fn do_write(alloc: Global, map: &mut KeyMap<Bytes>, write: &Write) -> Result<(), AllocError> {
-    match write {
-        Write::Set { key, value } => {
-            map.insert(key.copy()?, value.copy()?)?;
-        }
-        Write::Clear { key } => {
-            map.remove(key);
-        }
-        Write::ClearRange { range } => map.clear_range(&range.begin, &range.end),
-        Write::Atomic {
-            operation,
-            key,
-            operand,
-        } => do_atomic(alloc, map, *operation, key, operand.as_slice())?,
-    }
-    Ok(())
-}
-
-// A copy of a map, after writes.
-fn written(
-    alloc: Global,
-    map: &KeyMap<Bytes>,
-    writes: &[Write],
-) -> Result<KeyMap<Bytes>, AllocError> {
-    let mut copy = KeyMap::from_pairs(alloc, map.pairs()?)?;
-    for next in writes {
-        do_write(alloc, &mut copy, next)?;
-    }
-    Ok(copy)
+    life.version = Some(usize::try_from(version).unwrap_or(usize::MAX));
+    Reply::Done
 }
 
 fn logged(prefix: &Bytes, entry: &Pair) -> Result<TxnCall, AllocError> {
@@ -238,22 +95,44 @@ fn logged(prefix: &Bytes, entry: &Pair) -> Result<TxnCall, AllocError> {
     Ok(TxnCall::Set { key, value })
 }
 
+// The map after no commit, and that after the first.
+fn first_maps(alloc: Global, pairs: Pairs) -> Result<Vec<KeyMap<Bytes>>, AllocError> {
+    let mut maps = Vec::new(alloc);
+    maps.push(KeyMap::new(alloc))?;
+    maps.push(KeyMap::from_pairs(alloc, pairs)?)?;
+    Ok(maps)
+}
+
+// Neither declared a key.
+fn first_declared(alloc: Global) -> Result<Vec<Vec<Span>>, AllocError> {
+    let mut declared = Vec::new(alloc);
+    declared.push(Vec::new(alloc))?;
+    declared.push(Vec::new(alloc))?;
+    Ok(declared)
+}
+
 impl Plain {
     /// The pairs of an input as version 1.
     pub fn new(alloc: Global, pairs: Pairs) -> Result<Plain, AllocError> {
-        let mut maps = Vec::new(alloc);
-        maps.push(KeyMap::new(alloc))?;
-        maps.push(KeyMap::from_pairs(alloc, pairs)?)?;
         Ok(Plain {
             alloc,
-            maps,
+            keys: alphabet(alloc)?,
+            maps: first_maps(alloc, pairs)?,
+            declared: first_declared(alloc)?,
             lives: KeyMap::new(alloc),
+            fates: Fates::new(alloc),
+            passed: 0,
         })
     }
 
     /// The last version.
     pub fn last(&self) -> usize {
         self.maps.len().saturating_sub(1)
+    }
+
+    /// How many commits rested on a key and were let through beside a commit after their version.
+    pub fn passed(&self) -> usize {
+        self.passed
     }
 
     /// The pairs of the map at the last version.
@@ -264,30 +143,71 @@ impl Plain {
         }
     }
 
+    // A new life.
+    fn begin(&mut self) -> Result<Life, AllocError> {
+        let number = self.fates.begin()?;
+        Ok(Life::new(self.alloc, number))
+    }
+
+    // A new life in place of this one, which ends.
+    fn begin_anew(&mut self, life: &mut Life) -> Result<(), AllocError> {
+        self.fates.decide(life.number, Fate::Unstamped(1025));
+        *life = self.begin()?;
+        Ok(())
+    }
+
+    // A life that takes no further call.
+    fn cancel(&mut self, life: &mut Life) {
+        life.stage = Stage::Cancelled;
+        self.fates.decide(life.number, Fate::Unstamped(1025));
+    }
+
+    // A new life at the last version.
+    fn begin_at_last(&mut self) -> Result<Life, AllocError> {
+        let mut life = self.begin()?;
+        life.version = Some(self.last());
+        Ok(life)
+    }
+
+    // The life of a name, which is taken out, or a new one.
+    fn life_of(&mut self, name: &Bytes) -> Result<Life, AllocError> {
+        match self.lives.remove(name) {
+            Some(life) => Ok(life),
+            None => self.begin(),
+        }
+    }
+
+    // A new life under a name, which ends the one that is there.
+    fn make_new(&mut self, name: &Bytes) -> Result<Reply, AllocError> {
+        if let Some(life) = self.lives.remove(name) {
+            self.fates.decide(life.number, Fate::Unstamped(1025));
+        }
+        let life = self.begin()?;
+        self.lives.insert(name.copy()?, life)?;
+        Ok(Reply::Done)
+    }
+
     /// The step of a request.
     pub fn take(&mut self, request: &Request) -> Result<Reply, AllocError> {
         match request {
-            Request::New { name } => {
-                self.lives.insert(name.copy()?, Life::new(self.alloc))?;
-                Ok(Reply::Done)
-            }
+            Request::New { name } => self.make_new(name),
             Request::On { name, call } => {
-                let found = self.lives.remove(name);
-                let mut life = found.unwrap_or_else(|| Life::new(self.alloc));
+                let mut life = self.life_of(name)?;
                 let reply = self.call(&mut life, call)?;
                 self.lives.insert(name.copy()?, life)?;
                 Ok(reply)
             }
             Request::Database { call } => {
-                let mut life = Life::new(self.alloc);
+                let mut life = self.begin_at_last()?;
                 let reply = self.call(&mut life, call)?;
                 self.and_commit(&mut life, reply)
             }
             Request::Log { prefix, entries } => {
-                let mut life = Life::new(self.alloc);
+                let mut life = self.begin_at_last()?;
                 let reply = self.log(&mut life, prefix, entries)?;
                 self.and_commit(&mut life, reply)
             }
+            Request::PollStamp { life } => Ok(self.fates.poll(*life)),
         }
     }
 
@@ -320,64 +240,149 @@ impl Plain {
     }
 
     fn call(&mut self, life: &mut Life, call: &TxnCall) -> Result<Reply, AllocError> {
+        let is_tried = matches!(life.stage, Stage::Tried(_));
         match call {
-            TxnCall::Reset => *life = Life::new(self.alloc),
-            TxnCall::Cancel if life.stage == Stage::Tried => {}
-            TxnCall::Cancel => life.stage = Stage::Cancelled,
+            TxnCall::Reset => self.begin_anew(life)?,
+            TxnCall::Cancel if is_tried => {}
+            TxnCall::Cancel => self.cancel(life),
+            TxnCall::CommittedVersion => return Ok(Reply::Version(made_by(life))),
             _ if life.stage == Stage::Cancelled => return Ok(fault(1025)),
-            TxnCall::OnError { code } => return Ok(self.handle(life, code.0)),
-            _ if life.stage == Stage::Tried => return Ok(fault(2017)),
+            TxnCall::OnError { code } => return self.handle(life, code.0),
+            _ if is_tried => return Ok(fault(2017)),
+            TxnCall::Versionstamp => return Ok(Reply::Life(life.number)),
+            TxnCall::SetReadVersion { version } => return Ok(set_version(life, *version)),
+            TxnCall::ReadVersion => return Ok(version_reply(self.take_version(life))),
+            TxnCall::NoWriteConflict => life.is_silent = true,
             TxnCall::Commit => return self.commit(life),
             _ => return self.work(life, call),
         }
         Ok(Reply::Done)
     }
 
-    fn handle(&self, life: &mut Life, code: u16) -> Reply {
+    fn handle(&mut self, life: &mut Life, code: u16) -> Result<Reply, AllocError> {
         if matches!(code, 1007 | 1009 | 1020 | 1021 | 1037) {
-            *life = Life::new(self.alloc);
-            return Reply::Done;
+            self.begin_anew(life)?;
+            return Ok(Reply::Done);
         }
-        life.stage = Stage::Cancelled;
-        fault(code)
+        self.cancel(life);
+        Ok(fault(code))
+    }
+
+    // Takes the version of a life, where it has none.
+    fn take_version(&self, life: &mut Life) -> usize {
+        let version = life.version.unwrap_or(self.last());
+        life.version = Some(version);
+        version
+    }
+
+    // Whether one of the keys at these places is declared.
+    fn is_declared(&self, declared: &[Span], places: &[usize]) -> bool {
+        for place in places {
+            if let Some(key) = self.keys.get(*place)
+                && has_any(declared, key)
+            {
+                return true;
+            }
+        }
+        false
+    }
+
+    // Whether a commit after a version declared a key that a life rests on.
+    fn has_conflict(&self, life: &Life, version: usize) -> bool {
+        for declared in self.declared.iter().skip(version.saturating_add(1)) {
+            if self.is_declared(declared.as_slice(), life.rests.as_slice()) {
+                return true;
+            }
+        }
+        false
+    }
+
+    // The code of the first check of a commit that fails.
+    fn commit_code(&self, life: &Life) -> Option<u16> {
+        let version = life.version.unwrap_or(self.last());
+        match () {
+            _ if life.size > 10_000_000 => Some(2101),
+            _ if version > self.last() => Some(1009),
+            _ if self.has_conflict(life, version) => Some(1020),
+            _ => None,
+        }
     }
 
     fn commit(&mut self, life: &mut Life) -> Result<Reply, AllocError> {
-        life.stage = Stage::Tried;
-        if life.writes.is_empty() {
+        life.stage = Stage::Tried(-1);
+        if life.made.is_empty() && life.told.is_empty() {
+            self.fates.decide(life.number, Fate::Unstamped(2021));
             return Ok(Reply::Done);
         }
-        if life.size() > 10_000_000 {
-            return Ok(fault(2101));
+        if let Some(code) = self.commit_code(life) {
+            self.fates.decide(life.number, Fate::Unstamped(code));
+            return Ok(fault(code));
         }
+        if !life.rests.is_empty() && self.take_version(life) < self.last() {
+            self.passed = self.passed.saturating_add(1);
+        }
+        self.make_version(life)?;
+        Ok(Reply::Done)
+    }
+
+    fn make_version(&mut self, life: &mut Life) -> Result<(), AllocError> {
+        let version = self.last().saturating_add(1);
+        let stamp = stamp_of(version);
         if let Some(map) = self.maps.last() {
-            let next = written(self.alloc, map, life.writes.as_slice())?;
+            let next = life.makes(map, &stamp)?;
             self.maps.push(next)?;
+        }
+        self.declared.push(life.declared(&stamp)?)?;
+        self.fates.decide(life.number, Fate::Stamped(stamp));
+        life.stage = Stage::Tried(i64::try_from(version).unwrap_or(-1));
+        Ok(())
+    }
+
+    // A call with a key or a range.
+    fn work(&self, life: &mut Life, call: &TxnCall) -> Result<Reply, AllocError> {
+        if let Some(code) = write_code(self.alloc, call)? {
+            return Ok(fault(code));
+        }
+        match call {
+            TxnCall::ReadConflict { range } => life.rest_on_range(self.keys.as_slice(), range)?,
+            TxnCall::WriteConflict { range } => life.declare(range)?,
+            _ => match write_of(call)? {
+                Some(write) => life.write(write)?,
+                None => return self.read(life, call),
+            },
         }
         Ok(Reply::Done)
     }
 
-    // A read or a write.
-    fn work(&self, life: &mut Life, call: &TxnCall) -> Result<Reply, AllocError> {
-        if let Some(code) = code_of(call) {
+    fn read(&self, life: &mut Life, call: &TxnCall) -> Result<Reply, AllocError> {
+        if let Some(code) = read_code(call) {
             return Ok(fault(code));
         }
-        match write_of(call)? {
-            Some(write) => {
-                life.writes.push(write)?;
-                Ok(Reply::Done)
+        let version = self.take_version(life);
+        match self.maps.get(version) {
+            Some(map) => {
+                let pairs = life.sees(map)?;
+                self.read_pairs(life, call, &pairs)
             }
-            None => self.read(life, call),
+            None => Ok(fault(1009)),
         }
     }
 
-    fn read(&self, life: &mut Life, call: &TxnCall) -> Result<Reply, AllocError> {
-        let version = life.version.unwrap_or(self.last());
-        life.version = Some(version);
-        let Some(map) = self.maps.get(version) else {
-            return Ok(Reply::NoMemory);
-        };
-        let seen = written(self.alloc, map, life.writes.as_slice())?;
-        answer(self.alloc, &seen, call)
+    // A read of pairs that a life sees.
+    fn read_pairs(
+        &self,
+        life: &mut Life,
+        call: &TxnCall,
+        pairs: &Pairs,
+    ) -> Result<Reply, AllocError> {
+        let reply = answer(self.alloc, pairs, call)?;
+        let spans = interval(self.alloc, pairs, call, &reply)?;
+        if life.is_hidden(self.keys.as_slice(), spans.as_slice()) {
+            return Ok(fault(1036));
+        }
+        if !is_by_snapshot(call) {
+            life.rest_on(self.keys.as_slice(), spans.as_slice())?;
+        }
+        Ok(reply)
     }
 }

@@ -3,15 +3,13 @@
 use database_rules::Selector;
 use fdb_calls::{Reply, TxnCall};
 use key_bytes::{Bytes, Key, KeyRange, Pair, Pairs};
-use key_map::KeyMap;
 use std::alloc::{AllocError, Global};
 
-/// What a read is answered.
-pub fn answer(alloc: Global, map: &KeyMap<Bytes>, call: &TxnCall) -> Result<Reply, AllocError> {
-    let pairs = map.pairs()?;
+/// What a read is answered on a map of these pairs.
+pub fn answer(alloc: Global, pairs: &Pairs, call: &TxnCall) -> Result<Reply, AllocError> {
     match call {
-        TxnCall::Get { key, .. } => value_of(map, key),
-        TxnCall::GetKey { selector, .. } => Ok(Reply::KeyIs(select(alloc, &pairs, selector)?)),
+        TxnCall::Get { key, .. } => value_of(pairs, key),
+        TxnCall::GetKey { selector, .. } => Ok(Reply::KeyIs(select(alloc, pairs, selector)?)),
         TxnCall::GetRange {
             begin,
             end,
@@ -19,27 +17,30 @@ pub fn answer(alloc: Global, map: &KeyMap<Bytes>, call: &TxnCall) -> Result<Repl
             reverse,
             ..
         } => {
-            let range = selected(alloc, &pairs, begin, end)?;
-            slice(alloc, &pairs, &range, *limit, *reverse)
+            let range = selected(alloc, pairs, begin, end)?;
+            slice(alloc, pairs, &range, *limit, *reverse)
         }
         TxnCall::GetKeyRange {
             range,
             limit,
             reverse,
             ..
-        } => slice(alloc, &pairs, range, *limit, *reverse),
+        } => slice(alloc, pairs, range, *limit, *reverse),
         _ => Ok(Reply::Done),
     }
 }
 
-fn value_of(map: &KeyMap<Bytes>, key: &Key) -> Result<Reply, AllocError> {
-    match map.get(key) {
-        Some(value) => Ok(Reply::Value(Some(value.copy()?))),
-        None => Ok(Reply::Value(None)),
+fn value_of(pairs: &Pairs, key: &Key) -> Result<Reply, AllocError> {
+    for pair in pairs.as_slice() {
+        if pair.key == *key {
+            return Ok(Reply::Value(Some(pair.value.copy()?)));
+        }
     }
+    Ok(Reply::Value(None))
 }
 
-fn stands_before(key: &Key, selector: &Selector) -> bool {
+/// Whether a key stands before a selector's place.
+pub fn stands_before(key: &Key, selector: &Selector) -> bool {
     *key < selector.key || (selector.or_equal && *key == selector.key)
 }
 
@@ -66,7 +67,8 @@ fn key_at(alloc: Global, pairs: &Pairs, place: i64) -> Result<Key, AllocError> {
     }
 }
 
-fn select(alloc: Global, pairs: &Pairs, selector: &Selector) -> Result<Key, AllocError> {
+/// The key that a selector means.
+pub fn select(alloc: Global, pairs: &Pairs, selector: &Selector) -> Result<Key, AllocError> {
     let place = keys_before(pairs, selector).saturating_sub(1);
     key_at(
         alloc,
@@ -75,7 +77,8 @@ fn select(alloc: Global, pairs: &Pairs, selector: &Selector) -> Result<Key, Allo
     )
 }
 
-fn selected(
+/// The range between the keys that two selectors mean.
+pub fn selected(
     alloc: Global,
     pairs: &Pairs,
     begin: &Selector,

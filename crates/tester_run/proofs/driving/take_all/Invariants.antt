@@ -1,5 +1,5 @@
 use Rattle.std.proofs.Common.{◌≡◌, true, false, length, Some}
-use Rattle.machine_rules.specs.Laws.{is_awaiting}
+use Rattle.machine_rules.specs.Laws.{HasItsItemIn, effort_in, is_awaiting}
 use Rattle.tester_run.specs.Driving.{GoesOn, with_asked}
 use Rattle.tester_run.proofs.driving.take_all.Given as goal
 
@@ -9,11 +9,12 @@ invariant-loop-request g l = record {
       l.core (g.W.Words.words l.words) (with_asked l.machine.machine (Some l.request)) l.order;
   ready : l.machine.is_out_of_memory ≡ false;
   awaits : is_awaiting l.machine.machine.state ≡ true;
+  item : HasItsItemIn l.machine.machine;
   counted : l.core.applied ≡ length l.order;
   instructions : l.machine.machine.instructions ≡ l.fn.machine.machine.instructions;
   next : l.machine.machine.next ≡ l.fn.machine.machine.next;
 }
 
--- the items that are left to be logged
+-- what is left to poll for and to log
 abbrev pub decreases-loop-request : goal.decreases-loop-request
-decreases-loop-request g l = length l.machine.machine.registers.stack
+decreases-loop-request g l = effort_in l.machine.machine

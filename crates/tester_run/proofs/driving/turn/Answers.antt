@@ -1,12 +1,16 @@
 use Rattle.std.proofs.Common.{Some, None, ap}
 use Rattle.tester_run.specs.Driving.{asked_by}
-use Rattle.tester_run.proofs.Leading.{turn_again, turn_asks, asked_nearer, step_goes_on}
+use Rattle.tester_run.proofs.Leading.{turn_again, turn_asks, turn_item, asked_nearer, step_goes_on}
 use Rattle.tester_run.proofs.driving.turn.Goals as goal
 
 pub take_all-requires-clause-awaits : goal.take_all-requires-clause-awaits
 take_all-requires-clause-awaits g c =
     (turn_asks c.args.machine.now c.step.new.self c.in_ok-step.field-0 c.in-Ask.request c.in_ok-step.ensures.ok c.requires.silent
     c.in-Ask.is).awaits
+
+pub take_all-requires-clause-item : goal.take_all-requires-clause-item
+take_all-requires-clause-item g c =
+    turn_item c.args.machine.now c.step.new.self c.in_ok-step.field-0 c.in_ok-step.ensures.ok c.requires.silent
 
 pub returns-in-Again-clause-goes_on : goal.returns-in-Again-clause-goes_on
 returns-in-Again-clause-goes_on g c =

@@ -1,4 +1,5 @@
-use Rattle.machine_rules.specs.Worlds.{step}
+use Rattle.std.proofs.Common.{None, slice_index_or, ap, ◌∙◌}
+use Rattle.machine_rules.specs.Worlds.{promised, step}
 use Rattle.client_core.proofs.contents.Contents.take.Goals as goal
 
 pub returns-in-New-clause-step : goal.returns-in-New-clause-step
@@ -8,3 +9,10 @@ returns-in-New-clause-step c = rw c.in-New.is c.make_new.ensures.stands
 pub returns-in-On-clause-step : goal.returns-in-On-clause-step
 unfolding step
 returns-in-On-clause-step c = rw c.in-On.is c.call_made.ensures.step
+
+pub returns-in-PollStamp-clause-step : goal.returns-in-PollStamp-clause-step
+unfolding step
+returns-in-PollStamp-clause-step c = rw c.in-PollStamp.is (λ world stands. record {
+  reply_is = c.poll.ensures ∙ ap (λ lives. promised (slice_index_or lives c.in-PollStamp.life None)) stands.lives;
+  stands = stands;
+})

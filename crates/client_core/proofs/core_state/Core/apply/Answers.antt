@@ -14,7 +14,7 @@ take-requires g c =
 pub invariant_of-self-in-Ok : goal.invariant_of-self-in-Ok
 invariant_of-self-in-Ok g c = λ still.
     let its = model_of c.self.inside.contents in
-    subst (λ n. IsSound (model_of c.take.new.self) (n + 1) (2 * n)) (sym c.take.ensures.applied)
+    subst (λ n. IsSound (model_of c.take.new.self) (n + 1)) (sym c.take.ensures.applied)
     (sound_taken its (model_of c.take.new.self) c.args.request.now c.in-Ok.reply c.self.inside.contents.applied
     (λ world stands. c.in-Ok.ensures.step world (stands_counted its (c.self.inside.contents.applied + 1) world stands))
     (c.self.invariant c.if-self.false))

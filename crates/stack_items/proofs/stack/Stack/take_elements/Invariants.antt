@@ -1,7 +1,9 @@
-use Rattle.std.proofs.Common.{◌≡◌, map, take, drop}
+use Rattle.std.proofs.Common.{◌≡◌, ◌-◌}
 use Rattle.fdb_tuple.specs.Listed.{elements_of}
-use Rattle.stack_items.proofs.Popping.{element}
+use Rattle.machine_rules.specs.Operands.{element_operand, operands_by}
+use Rattle.stack_items.proofs.Repeats.{operands_after}
 use Rattle.stack_items.proofs.stack.Stack.take_elements.Given as goal
 
 abbrev pub invariant-loop-taken : goal.invariant-loop-taken
-invariant-loop-taken l = record { taken : elements_of l.tuple ≡ map element (take l._taken l.fn.self); left : l.self ≡ drop l._taken l.fn.self }
+invariant-loop-taken l =
+    operands_by element_operand l.count l.fn.self ≡ operands_after element_operand (elements_of l.tuple) (l.count - l._taken) l.self

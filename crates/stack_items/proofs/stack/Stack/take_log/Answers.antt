@@ -3,7 +3,7 @@ use Rattle.std.specs.List.{enumerate_from}
 use Rattle.std.proofs.lemmas.List.{take_rest}
 use Rattle.machine_rules.specs.declared.TheConstants.{LOG_BATCH}
 use Rattle.machine_rules.specs.Calls.{log_entry}
-use Rattle.stack_items.proofs.Reversals.{drop-reverse, kept_is}
+use Rattle.stack_items.proofs.Reversals.{drop-reverse}
 use Rattle.stack_items.proofs.stack.Stack.take_log.Goals as goal
 
 pub returns-clause-entries : goal.returns-clause-entries
@@ -17,9 +17,3 @@ returns-clause-entries c =
     ∙ ap (λ items. map log_entry (enumerate_from place items)) items
     ∙ ap (λ n. map log_entry (enumerate_from n (drop n (reverse stack)))) first
     ∙ ap (λ items. map log_entry (enumerate_from (length stack - LOG_BATCH) items)) (drop-reverse LOG_BATCH stack)
-
-pub returns-clause-left : goal.returns-clause-left
-returns-clause-left c =
-    let stack = c.args.self.now in
-    let first : c.saturating_sub-first.result ≡ length stack - LOG_BATCH = omega arith in
-    kept_is LOG_BATCH stack c.keep_oldest.new.self (c.keep_oldest.ensures ∙ ap (λ n. take n (reverse stack)) first)

@@ -14,7 +14,7 @@ returns-in_err-unpack_each-clause-said c =
 
 pub returns-clause-said : goal.returns-clause-said
 returns-clause-said c =
-    does_all c.push_strings.result _ _ c.push_strings.new.self
+    does_all c.push_strings.result _ _ c.args.self.now c.push_strings.new.self
     (tuple_sort-done c.args.instruction c.args.self.now c.pop_byte_strings.new.self c.in_ok-strings.strings.items c.sort_unstable.new.self.items c.in_ok-strings.ensures.popped
     (subst (All PacksSome) c.deref.ensures.value c.in_ok-unpack_each.ensures) c.sort_unstable.ensures.permutation c.sort_unstable.ensures.sorted)
     c.push_strings.ensures.ok c.push_strings.ensures.cause

@@ -1,0 +1,98 @@
+//! What became of each life that was drawn.
+
+ghost use Rattle.std.specs.Prelude.{◌≡◌, [], List, None, Option, length, slice_index_or, if◌then◌else◌, OnOk};
+ghost use Rattle.machine_rules.specs.Worlds.{decide, with_lives};
+ghost use Rattle.client_core.specs.Lives.{outcome_by};
+
+use database_rules::{Code, TRANSACTION_CANCELLED};
+use fdb_calls::Outcome;
+use std::alloc::{AllocError, Global};
+use std::marker::Model;
+use txn_core::Txn;
+
+/// What became of each life that was drawn, at its number, once it is decided. Contracts see the list. A life takes 16 bytes, and
+/// is kept as long as the core.
+#[derive(Drop)]
+pub struct Lives {
+    outcomes: Vec<Option<Outcome>>,
+}
+
+impl Model for Lives {
+    ghost use Rattle.std.specs.Prelude.{List, Option};
+    ghost use Rattle.fdb_calls.specs.declared.Outcome.{Outcome as OutcomeSaid};
+
+    ghost Value = { List (Option OutcomeSaid) };
+
+    ghost view = { λ lives. lives.outcomes.items };
+}
+
+impl Lives {
+    /// No life. It takes no memory, and keeps the allocator.
+    pub fn new(alloc: Global) -> Lives
+        ensures { result ≡ [] }
+    {
+        Lives {
+            outcomes: Vec::new(alloc),
+        }
+    }
+
+    /// The number of the next life. It takes no memory.
+    pub fn next(&self) -> u64
+        ensures { result ≡ length self.now }
+    {
+        self.outcomes.len() as u64
+    }
+
+    /// What became of a life; None where it isn't decided yet, or wasn't drawn. It takes no memory.
+    pub fn outcome(&self, life: u64) -> Option<Outcome>
+        ensures { result ≡ slice_index_or self.now life None }
+    {
+        *self.outcomes.get(life as usize).unwrap_or(&None)
+    }
+
+    /// One life more. It is refused for want of memory alone.
+    pub fn draw(&mut self) -> Result<(), AllocError>
+        ensures { OnOk result (self.new ≡ with_lives self.old 1) }
+    {
+        self.outcomes.push(None)?;
+        Ok(())
+    }
+
+    /// One life more, where one was drawn; then this one is decided so, unless it is decided already, or isn't yet. It is refused
+    /// for want of memory alone.
+    pub fn go_on(
+        &mut self,
+        drew: bool,
+        life: u64,
+        outcome: Option<Outcome>,
+    ) -> Result<(), AllocError>
+        ensures { OnOk result (self.new ≡ decide life outcome (with_lives self.old (if drew then 1 else 0))) }
+    {
+        if drew {
+            self.draw()?;
+        }
+        self.decide(life, outcome);
+        Ok(())
+    }
+
+    // A life is decided so, unless it is decided already. It takes no memory.
+    fn decide(&mut self, life: u64, outcome: Option<Outcome>)
+        ensures { self.new ≡ decide life outcome self.old }
+    {
+        let place = life as usize;
+        if place < self.outcomes.len() && self.outcomes[place].is_none() {
+            self.outcomes[place] = outcome;
+        }
+    }
+}
+
+/// What becomes of a life by the transaction that stands in its place then: another life ends it.
+pub fn outcome_after(life: u64, after: &Txn) -> Option<Outcome>
+    ensures { result ≡ outcome_by life after.now.life after.now.phase }
+{
+    if life == after.life() {
+        after.outcome()
+    } else {
+        Some(Outcome::Lacks(Code(TRANSACTION_CANCELLED)))
+    }
+}
