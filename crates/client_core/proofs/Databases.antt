@@ -1,12 +1,12 @@
 -- Calls on a transaction of its own, which is then committed.
-use Rattle.std.proofs.Common.{◌≡◌, ℕ, ◌+◌, ◌^◌, ◌<◌, ◌≤◌, true, false, cond, List, [], ◌++◌, length, sym, ap, subst, ◌∙◌, length-append, arith}
+use Rattle.std.proofs.Common.{◌≡◌, ℕ, ◌+◌, ◌^◌, ◌<◌, ◌≤◌, true, false, cond, [], ◌++◌, length, sym, ap, subst, ◌∙◌, length-append, arith}
 use Rattle.std.proofs.lemmas.List.{append-nil}
 use Rattle.std.specs.Prelude.{Option}
 use Rattle.fdb_calls.specs.declared.Outcome.{Outcome}
 use Rattle.fdb_calls.specs.declared.Reply.{Reply}
 use Rattle.fdb_calls.specs.declared.TxnCall.{TxnCall}
 use Rattle.fdb_calls.specs.declared.TxnCall.TheVariants as call
-use Rattle.database_rules.specs.Histories.{History, Commit, Setting, grown_by, last}
+use Rattle.database_rules.specs.Histories.{History, Setting, grown_by, last}
 use Rattle.database_rules.specs.Transactions.{Transaction, fresh, with_version}
 use Rattle.fdb_calls.specs.Calling.{Called, called, is_fault}
 use Rattle.edge_map.specs.Edges.{Edges}

@@ -1,5 +1,5 @@
 -- What became of lives.
-use Rattle.std.proofs.Common.{◌≡◌, ℕ, List, Option, Some, None, refl, ap, ◌∙◌}
+use Rattle.std.proofs.Common.{◌≡◌, ℕ, List, Option, Some, None, ap, ◌∙◌}
 use Rattle.std.specs.Prelude.{option_map, unwrap_or}
 use Rattle.database_rules.specs.Transactions.{Transaction, fresh}
 use Rattle.fdb_calls.specs.declared.Outcome.{Outcome}

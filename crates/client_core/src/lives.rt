@@ -10,8 +10,8 @@ use std::alloc::{AllocError, Global};
 use std::marker::Model;
 use txn_core::Txn;
 
-/// What became of each life that was drawn, at its number, once it is decided. Contracts see the list. A life takes 16 bytes, and
-/// is kept as long as the core.
+/// What became of each life that was drawn, at its number, once it is decided. Contracts see the list. An entry is small, and
+/// stays as long as the core.
 #[derive(Drop)]
 pub struct Lives {
     outcomes: Vec<Option<Outcome>>,

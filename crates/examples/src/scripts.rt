@@ -9,7 +9,7 @@ pub struct Script {
 }
 
 /// All of them.
-pub const SCRIPTS: [Script; 22] = [
+pub const SCRIPTS: [Script; 23] = [
     Script {
         input: "first.kv",
         prefix: "p",
@@ -141,5 +141,11 @@ pub const SCRIPTS: [Script; 22] = [
         prefix: "p",
         status: 0,
         dump: "versionstamped_key.dump",
+    },
+    Script {
+        input: "versionstamp_waited_for.kv",
+        prefix: "p",
+        status: 0,
+        dump: "versionstamp_waited_for.dump",
     },
 ];

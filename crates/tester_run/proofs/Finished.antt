@@ -5,7 +5,6 @@ use Rattle.std.specs.List.{flat_map}
 use Rattle.std.proofs.lemmas.List.{append-nil}
 use Rattle.std.proofs.lemmas.List.Concat.{flat_map-cons}
 use Rattle.client_core.specs.Stands.{CoreModel, StandsFor}
-use Rattle.machine_rules.specs.declared.State.{State}
 use Rattle.machine_rules.specs.declared.State.TheVariants as state
 use Rattle.std.specs.FinMap as finite
 use Rattle.version_store.specs.Versions.{at, last_of}
@@ -14,7 +13,7 @@ use Rattle.database_rules.specs.Histories.{last}
 use Rattle.machine_rules.specs.Worlds.{World, HasWords, begun}
 use Rattle.machine_rules.specs.Machines.{Machine, Progress, silent}
 use Rattle.machine_rules.specs.declared.TheConstants.{POLLS}
-use Rattle.machine_rules.specs.Runs.{words_of_run, started, instructions_in, newest, run_from, is_running, has_stopped, has_ended}
+use Rattle.machine_rules.specs.Runs.{words_of_run, started, instructions_in, newest, run_from, has_stopped, has_ended}
 use Rattle.machine_rules.specs.Runs.{status_of, end_line, stack_lines, error_lines, dump}
 use Rattle.machine_rules.specs.Laws.{at_rest_still}
 use Rattle.line_rules.specs.Printing.{order_line}

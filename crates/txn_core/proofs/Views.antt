@@ -6,7 +6,7 @@ use Rattle.key_bytes.specs.declared.range.KeyRange.{KeyRange}
 use Rattle.database_rules.specs.declared.Code.{Code}
 use Rattle.database_rules.specs.declared.TheConstants.{ACCESSED_UNREADABLE, FUTURE_VERSION}
 use Rattle.database_rules.specs.Databases.{Database, Mutation}
-use Rattle.database_rules.specs.States.{covers, seen, state_under, unreadable}
+use Rattle.database_rules.specs.States.{covers, seen, unreadable}
 use Rattle.database_rules.specs.Intervals.{any_meet, added, decided, interval, without}
 use Rattle.database_rules.specs.Reads.{Read, Answer, answer}
 use Rattle.database_rules.specs.Histories.{Setting, at}
@@ -19,8 +19,8 @@ use Rattle.fdb_calls.specs.declared.fault.TrFault.TheVariants as fault
 use Rattle.fdb_calls.specs.declared.Reply.{Reply}
 use Rattle.fdb_calls.specs.declared.Reply.TheVariants as reply
 use Rattle.fdb_calls.specs.Answers.{Answered}
-use Rattle.fdb_calls.specs.Calling.{Called, code_of, reply_of, refuses, read_answered, read_at_version, read_by, read_called}
-use Rattle.version_store.specs.Versions.{Versions, last_of}
+use Rattle.fdb_calls.specs.Calling.{Called, reply_of, refuses, read_answered, read_at_version, read_by, read_called}
+use Rattle.version_store.specs.Versions.{Versions}
 use Rattle.txn_core.specs.Stands.{Kept, SameMutations, StandsFor, Keeps}
 use Rattle.txn_core.specs.Accesses.{version_of, seen_by, is_ahead_of, early_code, Admits, Rests, HasRested, ranges_of}
 use Rattle.txn_core.proofs.States.{same_maps}

@@ -1,8 +1,8 @@
-use Rattle.std.proofs.Common.{rules, ◌≡◌, Bool, true, false, not, ◌&&◌, ◌||◌, List, ℕ, length, nat_lt, refl, sym, ap, ◌∙◌}
+use Rattle.std.proofs.Common.{◌≡◌, true, not, ◌&&◌, ◌||◌, length, nat_lt, sym, ap, ◌∙◌}
 use Rattle.std.proofs.Math.Bool.{or-true}
 use Rattle.std.proofs.lemmas.Bool.{not-true, not-false}
 use Rattle.std.proofs.lemmas.Result.{on_ok_weaker}
-use Rattle.key_bytes.specs.Keys.{key_le, key_lt}
+use Rattle.key_bytes.specs.Keys.{key_lt}
 use Rattle.key_bytes.proofs.Orders.{irreflexive}
 use Rattle.database_rules.specs.States.{covers}
 use Rattle.database_rules.proofs.Ranges.{none_within}

@@ -1,4 +1,4 @@
-use Rattle.std.proofs.Common.{rules, ◌≡◌, ◌||◌, ℕ, List, sym, ap, ◌∙◌}
+use Rattle.std.proofs.Common.{rules, ◌||◌, sym, ap, ◌∙◌}
 use Rattle.key_bytes.specs.Ranges.{has}
 use Rattle.database_rules.specs.States.{covers, range_from}
 use Rattle.database_rules.proofs.States.{or_assoc}

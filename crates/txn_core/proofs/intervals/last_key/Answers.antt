@@ -1,4 +1,4 @@
-use Rattle.std.proofs.Common.{rules, sym, ap, subst, ◌∙◌}
+use Rattle.std.proofs.Common.{rules, ap, ◌∙◌}
 use Rattle.database_rules.specs.Intervals.{last_key}
 use Rattle.txn_core.proofs.LastKeys.{last_key_at}
 use Rattle.txn_core.proofs.intervals.last_key.Goals as goal

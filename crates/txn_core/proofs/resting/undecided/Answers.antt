@@ -1,4 +1,4 @@
-use Rattle.std.proofs.Common.{rules, ◌≡◌, ◌≤◌, Bool, true, false, not, ◌&&◌, ◌||◌, [], length, drop, refl, sym, ap, ◌∙◌, arith}
+use Rattle.std.proofs.Common.{◌≡◌, not, ◌&&◌, ◌||◌, [], drop, sym, ap, ◌∙◌, arith}
 use Rattle.std.proofs.lemmas.List.{drop_all}
 use Rattle.database_rules.specs.States.{covers, unreadable}
 use Rattle.database_rules.specs.Intervals.{any_meet, decided}

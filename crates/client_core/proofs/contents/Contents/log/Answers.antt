@@ -1,18 +1,15 @@
-use Rattle.std.proofs.Common.{◌≡◌, ◌+◌, ◌^◌, ◌<◌, ◌≤◌, ℕ, Result, Ok, Err, List, [], refl, sym, ap, subst, ◌∙◌, arith}
-use Rattle.std.proofs.lemmas.List.{append-nil}
+use Rattle.std.proofs.Common.{◌≡◌, Result, Ok, Err, refl, ap, ◌∙◌}
 use Rattle.std.proofs.lemmas.Result.{IfOk-weaker}
-use Rattle.database_rules.specs.Histories.{History}
 use Rattle.fdb_calls.specs.declared.fault.TrFault.{TrFault}
 use Rattle.fdb_calls.specs.declared.fault.TrFault.TheVariants as fault
 use Rattle.fdb_calls.specs.declared.Reply.{Reply}
 use Rattle.fdb_calls.specs.Calling.{Called, in_turn, logs}
-use Rattle.machine_rules.specs.Worlds.{World, fresh_at_last, called_apart, step}
+use Rattle.machine_rules.specs.Worlds.{fresh_at_last, called_apart, step}
 use Rattle.version_store.specs.Versions.{last_of}
 use Rattle.txn_core.specs.Logging.{Logs}
 use Rattle.txn_core.specs.Stands as txn
 use Rattle.client_core.specs.Contents.{model_of}
 use Rattle.client_core.specs.Lives.{drawn_in}
-use Rattle.client_core.specs.Stands.{StandsFor}
 use Rattle.client_core.specs.Sound.{Replies}
 use Rattle.client_core.proofs.Calls.{logs_in_place}
 use Rattle.client_core.proofs.Databases.{logged_apart, few_at}

@@ -1,4 +1,4 @@
-use Rattle.std.proofs.Common.{◌<◌, ◌+◌, ◌*◌, ◌^◌, ap, sym, subst}
+use Rattle.std.proofs.Common.{◌<◌, ◌+◌, ◌^◌, ap, sym, subst}
 use Rattle.client_core.specs.Stands.{CoreModel, StandsFor}
 use Rattle.client_core.specs.Sound.{IsSound}
 use Rattle.client_core.specs.Contents.{model_of}

@@ -1,4 +1,4 @@
-use Rattle.std.proofs.Common.{ℕ, refl, arith}
+use Rattle.std.proofs.Common.{ℕ, arith}
 use Rattle.machine_rules.specs.Worlds.{begun}
 use Rattle.client_core.specs.Stands.{StandsFor}
 use Rattle.client_core.specs.Contents.{model_of}

@@ -1,16 +1,13 @@
 use Rattle.std.proofs.Common.{false, ap, subst, sym}
 use Rattle.std.proofs.lemmas.Result.{IfOk-weaker, on_err_weaker}
-use Rattle.database_rules.specs.Databases.{Set, Clear, ClearRange}
 use Rattle.database_rules.specs.Modes.{lacks_limit}
 use Rattle.database_rules.specs.Reads as read
-use Rattle.database_rules.specs.Atomics.{atomic_named}
-use Rattle.database_rules.specs.Transactions.{set_code, clear_code, range_code, atomic_code}
 use Rattle.fdb_calls.specs.declared.Reply.TheVariants as reply
 use Rattle.fdb_calls.specs.Calling.{Called, called}
 use Rattle.txn_core.specs.declared.reading.Manner.{Manner}
-use Rattle.txn_core.specs.Accesses.{Reads, Writes, WritesNamed}
+use Rattle.txn_core.specs.Accesses.{Reads}
 use Rattle.txn_core.specs.Stands.{Answers}
-use Rattle.txn_core.proofs.Answering.{subst2, subst3, told_in_place, left_standing, read_in_place, does_in_place, write_in_place, atomic_in_place, writes_answered, named_answered}
+use Rattle.txn_core.proofs.Answering.{told_in_place, left_standing, read_in_place}
 use Rattle.txn_core.proofs.txn.Txn.answer_read.Goals as goal
 
 pub returns-in-Get-clause-ok : goal.returns-in-Get-clause-ok

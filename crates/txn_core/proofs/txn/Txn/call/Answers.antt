@@ -4,17 +4,14 @@ use mir.Val.{SFits}
 use mir.Syntax.{w64}
 use Rattle.std.proofs.lemmas.Result.{IfOk-weaker, on_err_weaker}
 use Rattle.database_rules.specs.Databases.{Set, Clear, ClearRange}
-use Rattle.database_rules.specs.Modes.{lacks_limit}
-use Rattle.database_rules.specs.Reads as read
 use Rattle.database_rules.specs.Atomics.{atomic_named}
 use Rattle.database_rules.specs.Transactions.{phase_code, set_code, clear_code, range_code, atomic_code, set_version_code, with_read_range, with_write_range, silenced}
 use Rattle.fdb_calls.specs.declared.Reply.TheVariants as reply
 use Rattle.fdb_calls.specs.Answers.{Answered}
 use Rattle.fdb_calls.specs.Calling.{Called, called, set_read_version_called}
-use Rattle.txn_core.specs.declared.reading.Manner.{Manner}
-use Rattle.txn_core.specs.Accesses.{Reads, Writes, WritesNamed}
+use Rattle.txn_core.specs.Accesses.{Writes, WritesNamed}
 use Rattle.txn_core.specs.Stands.{StandsFor, Answers}
-use Rattle.txn_core.proofs.Answering.{subst2, subst3, told_in_place, left_standing, read_in_place, does_in_place, write_in_place, atomic_in_place, writes_answered, named_answered}
+use Rattle.txn_core.proofs.Answering.{subst2, subst3, told_in_place, left_standing, does_in_place, write_in_place, atomic_in_place, writes_answered, named_answered}
 use Rattle.txn_core.proofs.txn.Txn.call.Goals as goal
 
 -- a read of each kind

@@ -1,7 +1,7 @@
-use Rattle.std.proofs.Common.{rules, ◌≡◌, List, true, sym, ap, subst, ◌∙◌}
+use Rattle.std.proofs.Common.{◌≡◌, true, sym, ap, subst, ◌∙◌}
 use Rattle.std.specs.List.{All}
 use Rattle.std.proofs.lemmas.Result.{IfOk-weaker}
-use Rattle.database_rules.specs.Databases.{Mutation, do_all}
+use Rattle.database_rules.specs.Databases.{do_all}
 use Rattle.database_rules.specs.KeyByKey.{is_modified_by}
 use Rattle.database_rules.specs.States.{all_filled, unreadable}
 use Rattle.version_store.specs.Versions.{at, last_of}

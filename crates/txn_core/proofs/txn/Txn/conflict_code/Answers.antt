@@ -1,4 +1,4 @@
-use Rattle.std.proofs.Common.{rules, ◌≡◌, true, false, [], ◌∷◌, sym, ap, ◌∙◌}
+use Rattle.std.proofs.Common.{◌≡◌, true, false, [], ◌∷◌, sym, ap, ◌∙◌}
 use Rattle.database_rules.specs.declared.TheConstants.{FUTURE_VERSION, NOT_COMMITTED}
 use Rattle.database_rules.specs.Histories.{conflicts}
 use Rattle.database_rules.specs.Transactions.{first_failing}

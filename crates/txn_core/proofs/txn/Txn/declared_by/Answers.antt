@@ -1,7 +1,7 @@
-use Rattle.std.proofs.Common.{rules, ◌≡◌, ◌++◌, List, sym, ap, ◌∙◌}
+use Rattle.std.proofs.Common.{◌++◌, sym, ap, ◌∙◌}
 use Rattle.std.proofs.lemmas.Result.{IfOk-weaker}
 use Rattle.database_rules.specs.States.{all_filled, covers}
-use Rattle.txn_core.specs.Stands.{Kept, declared_among, declared_in}
+use Rattle.txn_core.specs.Stands.{Kept, declared_among}
 use Rattle.write_map.proofs.Filled.{plain_filled}
 use Rattle.txn_core.proofs.txn.Txn.declared_by.Goals as goal
 

@@ -1,5 +1,4 @@
-use Rattle.std.proofs.Common.{rules, ◌≡◌, ◌∷◌, [], false, refl, sym, ap, ◌∙◌}
-use Rattle.database_rules.specs.Intervals as intervals
+use Rattle.std.proofs.Common.{rules, ◌∷◌, [], false, refl, ap, ◌∙◌}
 use Rattle.std.specs.FinMap as finite
 use Rattle.database_rules.specs.Reads as read
 use Rattle.database_rules.specs.Reads.{answer}

@@ -1,4 +1,4 @@
-use Rattle.std.proofs.Common.{rules, ◌≡◌, ◌∷◌, [], false, refl, sym, ap, ◌∙◌}
+use Rattle.std.proofs.Common.{rules, ◌∷◌, [], false, refl, ap, ◌∙◌}
 use Rattle.database_rules.specs.Intervals as intervals
 use Rattle.database_rules.specs.Selecting.{select}
 use Rattle.database_rules.specs.Reads as read

@@ -1,7 +1,7 @@
-use Rattle.std.proofs.Common.{rules, ◌≡◌, true, subst}
+use Rattle.std.proofs.Common.{rules, subst}
 use Rattle.database_rules.specs.Transactions.{phase_code, silenced}
 use Rattle.fdb_calls.specs.declared.Reply.TheVariants as reply
-use Rattle.txn_core.specs.Stands.{Kept, StandsFor}
+use Rattle.txn_core.specs.Stands.{StandsFor}
 use Rattle.txn_core.proofs.Answering.{does_done}
 use Rattle.txn_core.proofs.Standing.{stands_silenced}
 use Rattle.txn_core.proofs.txn.Txn.no_write_conflict.Goals as goal

@@ -1,4 +1,4 @@
-use Rattle.std.proofs.Common.{rules, ◌≡◌, ◌||◌, List, ℕ, sym, ap, subst, ◌∙◌}
+use Rattle.std.proofs.Common.{rules, ◌||◌, ap, subst, ◌∙◌}
 use Rattle.key_bytes.specs.Ranges.{has}
 use Rattle.database_rules.specs.States.{covers}
 use Rattle.database_rules.specs.Transactions.{range_code, with_read_range}

@@ -1,8 +1,7 @@
-use Rattle.std.proofs.Common.{rules, ◌≡◌, pos, Some, sym, ap, subst, ◌∙◌}
+use Rattle.std.proofs.Common.{rules, ◌≡◌, pos, ap, subst, ◌∙◌}
 use Rattle.database_rules.specs.Transactions.{phase_code, version_in, with_version}
 use Rattle.fdb_calls.specs.declared.Reply.TheVariants as reply
-use Rattle.txn_core.specs.Accesses.{version_of}
-use Rattle.txn_core.specs.Stands.{Kept, StandsFor}
+use Rattle.txn_core.specs.Stands.{StandsFor}
 use Rattle.txn_core.proofs.Answering.{does_done}
 use Rattle.txn_core.proofs.Standing.{versioned}
 use Rattle.txn_core.proofs.Views.{version_same}

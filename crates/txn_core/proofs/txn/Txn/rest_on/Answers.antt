@@ -1,5 +1,4 @@
-use Rattle.std.proofs.Common.{rules, ◌≡◌, true, false, ◌||◌, ℕ, List, [], refl, sym, ap, subst, ◌∙◌}
-use Rattle.database_rules.specs.Databases.{Mutation}
+use Rattle.std.proofs.Common.{rules, ◌≡◌, true, false, ◌||◌, [], refl, sym, ap, subst, ◌∙◌}
 use Rattle.database_rules.specs.States.{covers, unreadable}
 use Rattle.database_rules.specs.Intervals.{any_meet, decided, without}
 use Rattle.database_rules.proofs.Ranges.{covers_without}

@@ -1,7 +1,7 @@
-use Rattle.std.proofs.Common.{rules, ◌≡◌, Some, unsigned_abs, sym, ap, subst, ◌∙◌}
-use Rattle.database_rules.specs.Transactions.{Transaction, set_version_code}
+use Rattle.std.proofs.Common.{rules, Some, unsigned_abs, subst}
+use Rattle.database_rules.specs.Transactions.{set_version_code}
 use Rattle.fdb_calls.specs.declared.Reply.TheVariants as reply
-use Rattle.txn_core.specs.Stands.{Kept, StandsFor}
+use Rattle.txn_core.specs.Stands.{StandsFor}
 use Rattle.txn_core.proofs.Answering.{does_done}
 use Rattle.txn_core.proofs.Standing.{stands_set_version}
 use Rattle.txn_core.proofs.txn.Txn.set_read_version.Goals as goal

@@ -1,4 +1,4 @@
-use Rattle.std.proofs.Common.{rules, sym, ap, ◌∙◌}
+use Rattle.std.proofs.Common.{sym, ap, ◌∙◌}
 use Rattle.std.specs.FinMap as finite
 use Rattle.version_store.specs.Versions.{at}
 use Rattle.ryw_view.proofs.Seen.{seen_unreadable}

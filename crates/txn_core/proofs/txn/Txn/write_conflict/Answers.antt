@@ -1,4 +1,4 @@
-use Rattle.std.proofs.Common.{rules, ◌≡◌, not, ◌&&◌, ◌||◌, List, ℕ, length, nat_lt, sym, ap, subst, ◌∙◌}
+use Rattle.std.proofs.Common.{rules, not, ◌&&◌, ◌||◌, length, nat_lt, ap, subst, ◌∙◌}
 use Rattle.key_bytes.specs.Keys.{key_lt}
 use Rattle.key_bytes.specs.Ranges.{has}
 use Rattle.database_rules.specs.States.{covers}
