@@ -12,6 +12,8 @@ mod dumping;
 mod running;
 #[cfg(test)]
 mod tests;
+#[cfg(test)]
+mod tests_waits;
 mod top;
 
 pub use args::ArgWords;

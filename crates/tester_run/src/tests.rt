@@ -1,11 +1,5 @@
 use super::*;
-use client_core::Core;
-use driving::drive;
-use dump_text::Order;
-use fdb_tuple::{Elem, pack_element};
-use key_bytes::{Bytes, Pair, Pairs};
-use outside::{ListWords, MemSink, MemSource, OpenGate, Source, Taken};
-use stack_machine::{End, Machine, State};
+use outside::{MemSink, MemSource, OpenGate, Source, Taken};
 use std::alloc::{AllocError, Global};
 use std::sync::Wait;
 use std::test::Fail;
@@ -239,39 +233,5 @@ fn words_stand_in_their_order(rt: HostRuntime) -> Result<(), Fail> {
     assert_eq!(rt; args.len(), 3);
     assert_eq!(rt; args.prefix(), Some(b"p".as_slice()));
     assert!(rt; args.len() > 2 && args.get(2).as_str() == "630");
-    Ok(())
-}
-
-// A pair whose value is the instruction of this name alone, under this key.
-fn instruction(alloc: Global, key: &[u8], name: &[u8]) -> Result<Pair, AllocError> {
-    let key = Bytes::from_slice(alloc, key)?;
-    let value = pack_element(alloc, &Elem::Bytes(Bytes::from_slice(alloc, name)?))?;
-    Ok(Pair { key, value })
-}
-
-// The instructions that push an item that waits, and pop it.
-fn waiting(alloc: Global) -> Result<Pairs, AllocError> {
-    let mut pairs = Pairs::new(alloc);
-    pairs.push(instruction(alloc, b"1", b"GET_VERSIONSTAMP")?)?;
-    pairs.push(instruction(alloc, b"2", b"POP")?)?;
-    Ok(pairs)
-}
-
-// How a machine ends whose polls of one wait may be answered three times that it isn't decided yet, how many items are left,
-// and how many places the order has.
-fn waited(alloc: Global) -> Result<(bool, usize, usize), AllocError> {
-    let mut core = Core::load(alloc, Pairs::new(alloc))?;
-    let prefix = Bytes::from_slice(alloc, b"p")?;
-    let mut machine = Machine::new(alloc, 0, prefix, waiting(alloc)?, 3)?;
-    let mut order = Order::new(alloc);
-    let mut words = ListWords::new(alloc, &[])?;
-    drive(&mut core, &mut words, &mut machine, &mut order)?;
-    let is_bound = matches!(machine.state(), State::Stopped(End::WaitBound(1)));
-    Ok((is_bound, machine.stack().len(), order.len()))
-}
-
-#[test]
-fn a_wait_ends_after_its_polls(rt: HostRuntime) -> Result<(), Fail> {
-    assert_eq!(rt; waited(rt.alloc())?, (true, 0, 4));
     Ok(())
 }

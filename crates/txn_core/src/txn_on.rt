@@ -15,14 +15,14 @@ ghost use Rattle.fdb_calls.specs.Calling.{read_called, set_called, clear_called,
 ghost use Rattle.fdb_calls.specs.Calling.{read_conflict_called, write_conflict_called, no_write_conflict_called, read_version_called, set_read_version_called};
 ghost use Rattle.version_store.specs.Changed.{changed};
 ghost use Rattle.version_store.specs.Versions.{at, last_of};
-ghost use Rattle.txn_core.specs.Judging.{Judged, IsLow};
+ghost use Rattle.txn_core.specs.Judging.{IsLow, Judged, Promises};
 ghost use Rattle.txn_core.specs.Stands.{StandsFor, Keeps};
 
 use crate::reading::Manner;
 use crate::txn::Txn;
 use crate::verdict::Verdict;
 use conflict_ranges::{RangeSet, WriteIndex};
-use database_rules::{AtomicOp, Mode, Selector, Tried};
+use database_rules::{AtomicOp, Code, Mode, Selector, Tried};
 use fdb_calls::{Tr, TrFault};
 use key_bytes::{Bytes, Key, KeyRange, Pairs};
 use std::alloc::AllocError;
@@ -187,6 +187,21 @@ impl TxnOn<'_> {
         ensures same_index { self.new.index ≡ self.old.index }
     {
         self.txn.set_read_version(version)
+    }
+
+    /// The life whose commit's versionstamp is promised (`fdb_transaction_get_versionstamp`); 1025 exactly where it was
+    /// cancelled, and 2017 exactly where a commit of it was tried. It takes no memory.
+    pub fn promise(&self) -> Result<u64, Code>
+        ensures { Promises result self.now.txn.now }
+    {
+        self.txn.promise()
+    }
+
+    /// The keys that the transaction rests on, as ranges that are not empty, lie apart and rise. It takes no memory.
+    pub fn read_ranges(&self) -> &RangeSet
+        ensures { result.now ≡ self.now.txn.now.read_ranges }
+    {
+        self.txn.read_ranges()
     }
 }
 

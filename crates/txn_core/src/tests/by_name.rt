@@ -310,7 +310,7 @@ fn read_by_name(alloc: Global, snapshot: bool) -> Result<([usize; 4], Vec<u8>), 
     on.set(b"k", b"v")?;
     on.set(b"l", b"w")?;
     let counts = counts_by(&mut on, &places, snapshot)?;
-    Ok((counts, spelled(alloc, txn.read_ranges())?))
+    Ok((counts, spelled(alloc, on.read_ranges())?))
 }
 
 #[test]

@@ -40,7 +40,7 @@ fn promised(alloc: Global) -> [Result<u64, Code>; 4] {
         index: &index,
     };
     on.tried(Tried::ReadOnly);
-    [first, next, other.promise(), txn.promise()]
+    [first, next, on.promise(), txn.promise()]
 }
 
 #[test]

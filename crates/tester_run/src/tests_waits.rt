@@ -1,0 +1,195 @@
+//! Waits of a machine with three polls over the core.
+
+use crate::driving::drive;
+use crate::dumping::render;
+use client_core::Core;
+use dump_text::Order;
+use key_bytes::{Bytes, Pair, Pairs};
+use outside::ListWords;
+use stack_machine::Machine;
+use std::alloc::{AllocError, Global};
+use std::test::Fail;
+
+// Pairs with these values, and the empty key.
+fn pairs_of(alloc: Global, values: &[&[u8]]) -> Result<Pairs, AllocError> {
+    let mut pairs = Pairs::new(alloc);
+    for value in values {
+        let key = Bytes::new(alloc);
+        let value = Bytes::from_slice(alloc, value)?;
+        pairs.push(Pair { key, value })?;
+    }
+    Ok(pairs)
+}
+
+// The dump of a run of these instructions over an empty database.
+fn dumped(alloc: Global, instructions: &[&[u8]]) -> Result<Vec<u8>, AllocError> {
+    let mut core = Core::load(alloc, Pairs::new(alloc))?;
+    let prefix = Bytes::from_slice(alloc, b"p")?;
+    let mut machine = Machine::new(alloc, 0, prefix, pairs_of(alloc, instructions)?, 3)?;
+    let mut order = Order::new(alloc);
+    let mut words = ListWords::new(alloc, &[])?;
+    drive(&mut core, &mut words, &mut machine, &mut order)?;
+    render(alloc, &machine, &order, &core)
+}
+
+// Instructions, and the dump of their run.
+type Row = (&'static [&'static [u8]], &'static [u8]);
+
+const ROWS: &[Row] = &[
+    // Never decided: the wait ends the machine.
+    (
+        &[b"\x02GET_VERSIONSTAMP\x00", b"\x02POP\x00"],
+        b"M 0 wait-bound 1 p\n\
+O 0\n\
+O 0\n\
+O 0\n\
+O 0\n",
+    ),
+    // Decided by a commit with a version.
+    (
+        &[
+            b"\x02GET_VERSIONSTAMP\x00",
+            b"\x02PUSH\x00\x01v\x00",
+            b"\x02PUSH\x00\x01k\x00",
+            b"\x02SET\x00",
+            b"\x02COMMIT\x00",
+            b"\x02POP\x00",
+            b"\x02WAIT_FUTURE\x00",
+        ],
+        b"M 0 ended 7 p\n\
+S 0 0 0 \\x01\\x00\\xff\\x00\\xff\\x00\\xff\\x00\\xff\\x00\\xff\\x00\\xff\\x00\\xff\\x02\\x00\\xff\\x00\\xff\\x00\n\
+O 0\n\
+O 0\n\
+O 0\n\
+O 0\n\
+K k\\=v\n",
+    ),
+    // By a commit that was read-only.
+    (
+        &[
+            b"\x02GET_VERSIONSTAMP\x00",
+            b"\x02COMMIT\x00",
+            b"\x02POP\x00",
+            b"\x02WAIT_FUTURE\x00",
+        ],
+        b"M 0 ended 4 p\n\
+S 0 0 0 \\x01\\x01ERROR\\x00\\xff\\x012021\\x00\\xff\\x00\n\
+E 0 3 2021\n\
+O 0\n\
+O 0\n\
+O 0\n",
+    ),
+    // Nothing is promised of a life whose commit was tried.
+    (
+        &[b"\x02COMMIT\x00", b"\x02GET_VERSIONSTAMP\x00"],
+        b"M 0 ended 2 p\n\
+S 0 0 0 \\x01RESULT_NOT_PRESENT\\x00\n\
+S 0 1 1 \\x01\\x01ERROR\\x00\\xff\\x012017\\x00\\xff\\x00\n\
+E 0 1 2017\n\
+O 0\n\
+O 0\n",
+    ),
+    // Each copy is polled for and noted by itself.
+    (
+        &[
+            b"\x02GET_VERSIONSTAMP\x00",
+            b"\x02DUP\x00",
+            b"\x02RESET\x00",
+            b"\x02WAIT_FUTURE\x00",
+            b"\x02POP\x00",
+            b"\x02WAIT_FUTURE\x00",
+        ],
+        b"M 0 ended 6 p\n\
+S 0 0 0 \\x01\\x01ERROR\\x00\\xff\\x011025\\x00\\xff\\x00\n\
+E 0 3 1025\n\
+E 0 5 1025\n\
+O 0\n\
+O 0\n\
+O 0\n\
+O 0\n",
+    ),
+    // An error is no integer.
+    (
+        &[
+            b"\x02PUSH\x00\x15\x01",
+            b"\x02GET_VERSIONSTAMP\x00",
+            b"\x02CANCEL\x00",
+            b"\x02SUB\x00",
+        ],
+        b"M 0 bad-instruction 3 p\n\
+S 0 0 0 \\x15\\x01\n\
+E 0 3 1025\n\
+O 0\n\
+O 0\n\
+O 0\n",
+    ),
+    // Only the operand of SWAP is waited for.
+    (
+        &[
+            b"\x02GET_VERSIONSTAMP\x00",
+            b"\x02PUSH\x00\x15\x07",
+            b"\x02PUSH\x00\x15\x01",
+            b"\x02SWAP\x00",
+        ],
+        b"M 0 ended 4 p\n\
+S 0 0 1 \\x15\\x07\n\
+S 0 1 0 *\n\
+O 0\n",
+    ),
+    // LOG_STACK polls for what it takes.
+    (
+        &[
+            b"\x02PUSH\x00\x01a\x00",
+            b"\x02GET_VERSIONSTAMP\x00",
+            b"\x02COMMIT\x00",
+            b"\x02PUSH\x00\x01L\x00",
+            b"\x02LOG_STACK\x00",
+        ],
+        b"M 0 ended 5 p\n\
+E 0 4 2021\n\
+O 0\n\
+O 0\n\
+O 0\n\
+O 0\n\
+K L\\x14\\x14\\=\\x01a\\x00\n\
+K L\\x15\\x01\\x15\\x01\\=\\x01\\x01ERROR\\x00\\xff\\x012021\\x00\\xff\\x00\n\
+K L\\x15\\x02\\x15\\x02\\=\\x01RESULT_NOT_PRESENT\\x00\n",
+    ),
+    // And ends where that is not decided.
+    (
+        &[
+            b"\x02PUSH\x00\x01a\x00",
+            b"\x02GET_VERSIONSTAMP\x00",
+            b"\x02PUSH\x00\x15\x02",
+            b"\x02PUSH\x00\x01L\x00",
+            b"\x02LOG_STACK\x00",
+        ],
+        b"M 0 wait-bound 4 p\n\
+S 0 0 0 \\x01a\\x00\n\
+O 0\n\
+O 0\n\
+O 0\n\
+O 0\n",
+    ),
+];
+
+fn is_dumped(alloc: Global, row: Row) -> Result<bool, AllocError> {
+    let (instructions, wanted) = row;
+    Ok(dumped(alloc, instructions)?.as_slice() == wanted)
+}
+
+// The first of the rows whose dump is another.
+fn first_other_row(alloc: Global) -> Result<Option<usize>, AllocError> {
+    for (place, row) in ROWS.iter().enumerate() {
+        if !is_dumped(alloc, *row)? {
+            return Ok(Some(place));
+        }
+    }
+    Ok(None)
+}
+
+#[test]
+fn waits_end_by_a_decision_or_by_the_number_of_polls(rt: HostRuntime) -> Result<(), Fail> {
+    assert_eq!(rt; first_other_row(rt.alloc())?, None);
+    Ok(())
+}
