@@ -3,7 +3,8 @@
 //!
 //! Byte strings of up to 22 bytes lie in place, and longer ones are shared. The database is one `BTreeMap`, whose
 //! entries have the newest value and, only where there are any, older ones behind it. A transaction keeps its writes
-//! by key. The dump is printed into one vector, and the process ends without giving back what it still has.
+//! by key, and the keys that it has read. The dump is printed into one vector, and the process ends without giving back
+//! what it still has.
 
 use std::cmp::Ordering;
 use std::collections::btree_map::{BTreeMap, Entry};
@@ -16,6 +17,9 @@ use std::rc::Rc;
 use std::{env, str};
 
 mod ranges;
+mod transactions;
+
+use transactions::{Keys, Transaction};
 
 /// The statuses of the program; a stop at another operation has that of a bad input.
 const ENDED: u8 = 0;
@@ -90,6 +94,17 @@ impl From<&[u8]> for Bytes {
         let mut room = [0; IN_PLACE];
         room[..bytes.len()].copy_from_slice(bytes);
         Bytes::Short(bytes.len() as u8, room)
+    }
+}
+
+impl Bytes {
+    /// The least of those that are greater.
+    fn after(&self) -> Bytes {
+        match self {
+            // Behind its bytes a room is zero.
+            Bytes::Short(len, room) if usize::from(*len) < IN_PLACE => Bytes::Short(len + 1, *room),
+            _ => [&**self, &[0]].concat().as_slice().into(),
+        }
     }
 }
 
@@ -446,15 +461,17 @@ impl Value {
     }
 }
 
+/// The keys with their values, and the version of the last commit that wrote a key, where one did.
 struct Database {
     entries: BTreeMap<Bytes, Value>,
+    writers: BTreeMap<Bytes, u64>,
     last: u64,
 }
 
 impl Database {
     /// Of two pairs of one key the later stays.
     fn load(pairs: Vec<(Bytes, Value)>) -> Database {
-        Database { entries: pairs.into_iter().collect(), last: 1 }
+        Database { entries: pairs.into_iter().collect(), writers: BTreeMap::new(), last: 1 }
     }
 
     fn get_at(&self, key: &Bytes, version: u64) -> Option<&Bytes> {
@@ -464,11 +481,23 @@ impl Database {
     fn commit(&mut self, writes: BTreeMap<Bytes, Option<Bytes>>) {
         self.last += 1;
         for (key, value) in writes {
+            self.writers.insert(key.clone(), self.last);
             match self.entries.entry(key) {
                 Entry::Occupied(entry) => entry.into_mut().set(self.last, value),
                 Entry::Vacant(entry) => {
                     entry.insert(Value { since: self.last, newest: value, older: None });
                 }
+            }
+        }
+    }
+
+    /// Whether a commit after a version wrote one of these keys.
+    fn is_written_after(&self, version: u64, keys: &Keys) -> bool {
+        match keys {
+            Keys::One(key) => self.writers.get(key).is_some_and(|writer| *writer > version),
+            Keys::Range(begin, end) => {
+                let mut writers = self.writers.range::<Bytes, _>(begin..end);
+                writers.any(|(_, writer)| *writer > version)
             }
         }
     }
@@ -483,77 +512,6 @@ impl Database {
         let range = Bytes::from(begin.as_slice())..Bytes::from(end.as_slice());
         let pairs = self.entries.range(range);
         pairs.filter_map(|(_, value)| value.newest.clone()).collect()
-    }
-}
-
-// ---- a transaction
-
-const USED_DURING_COMMIT: u16 = 2017;
-const KEY_OUTSIDE_LEGAL_RANGE: u16 = 2004;
-const TRANSACTION_TOO_LARGE: u16 = 2101;
-const KEY_TOO_LARGE: u16 = 2102;
-const VALUE_TOO_LARGE: u16 = 2103;
-
-/// A transaction: a key has its value, or none where it was cleared, as the last write of it says.
-#[derive(Default)]
-struct Transaction {
-    version: Option<u64>,
-    writes: BTreeMap<Bytes, Option<Bytes>>,
-    size: usize,
-    is_tried: bool,
-}
-
-impl Transaction {
-    fn check(&self, key: &[u8]) -> Result<(), u16> {
-        if self.is_tried {
-            return Err(USED_DURING_COMMIT);
-        }
-        if *key >= *TOP {
-            return Err(KEY_OUTSIDE_LEGAL_RANGE);
-        }
-        Ok(())
-    }
-
-    fn get(&mut self, database: &Database, key: &Bytes) -> Result<Option<Bytes>, u16> {
-        self.check(key)?;
-        let version = *self.version.get_or_insert(database.last);
-        Ok(match self.writes.get(key) {
-            Some(written) => written.clone(),
-            None => database.get_at(key, version).cloned(),
-        })
-    }
-
-    fn set(&mut self, key: Bytes, value: Bytes) -> Result<(), u16> {
-        self.check(&key)?;
-        if key.len() > KEY_LIMIT {
-            return Err(KEY_TOO_LARGE);
-        }
-        if value.len() > VALUE_LIMIT {
-            return Err(VALUE_TOO_LARGE);
-        }
-        self.size += key.len() + value.len();
-        self.writes.insert(key, Some(value));
-        Ok(())
-    }
-
-    fn clear(&mut self, key: Bytes) -> Result<(), u16> {
-        self.check(&key)?;
-        self.size += 2 * key.len() + 1;
-        self.writes.insert(key, None);
-        Ok(())
-    }
-
-    fn commit(&mut self, database: &mut Database) -> Result<(), u16> {
-        if mem::replace(&mut self.is_tried, true) {
-            return Err(USED_DURING_COMMIT);
-        }
-        if self.size > SIZE_LIMIT {
-            return Err(TRANSACTION_TOO_LARGE);
-        }
-        if !self.writes.is_empty() {
-            database.commit(mem::take(&mut self.writes));
-        }
-        Ok(())
     }
 }
 
@@ -662,7 +620,7 @@ impl Machine {
             Instruction::Get => {
                 let key = self.pop_bytes()?;
                 let transaction = self.transactions.entry(self.name.clone()).or_default();
-                let reply = transaction.get(&self.database, &key);
+                let reply = transaction.get(&self.database, key);
                 self.answer(reply.map(|value| Some(value.unwrap_or_else(|| NOT_PRESENT.into()))));
             }
             Instruction::GetRange => {

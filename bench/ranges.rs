@@ -1,6 +1,6 @@
 //! Reads of a range, as an ordinary program does them: two ordered maps are walked side by side.
 
-use super::{Bytes, Database, End, Machine, Transaction, KEY_OUTSIDE_LEGAL_RANGE, TOP, USED_DURING_COMMIT};
+use super::{Bytes, Database, End, Machine, Transaction, TOP};
 use std::iter::Peekable;
 
 /// What GET_RANGE pops; the mode is one with a limit.
@@ -22,19 +22,28 @@ impl Machine {
 impl Transaction {
     /// The packed keys and values of a range in turn.
     pub fn get_range(&mut self, database: &Database, range: &Range) -> Result<Bytes, u16> {
-        if self.is_tried {
-            return Err(USED_DURING_COMMIT);
-        }
-        if *range.begin > *TOP || *range.end > *TOP {
-            return Err(KEY_OUTSIDE_LEGAL_RANGE);
-        }
+        self.check_lawful(*range.begin <= *TOP && *range.end <= *TOP)?;
         let version = *self.version.get_or_insert(database.last);
+        let pairs = read(database, version, self, range);
+        let (begin, end) = range.read_by(&pairs);
+        self.rest_on_unwritten(begin, end);
         let mut packed = Vec::new();
-        for (key, value) in read(database, version, self, range) {
+        for (key, value) in pairs {
             super::put_string(&mut packed, 0x01, &key);
             super::put_string(&mut packed, 0x01, &value);
         }
         Ok(packed.as_slice().into())
+    }
+}
+
+impl Range {
+    /// The keys that a read of it looked at which found these pairs: all, or those up to the last pair of its limit.
+    fn read_by(&self, pairs: &[(Bytes, Bytes)]) -> (Bytes, Bytes) {
+        match pairs.last() {
+            Some((last, _)) if pairs.len() == self.limit && self.reverse => (last.clone(), self.end.clone()),
+            Some((last, _)) if pairs.len() == self.limit => (self.begin.clone(), last.after()),
+            _ => (self.begin.clone(), self.end.clone()),
+        }
     }
 }
 

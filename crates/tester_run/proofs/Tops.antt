@@ -1,5 +1,5 @@
 -- What the parts of the top call say together.
-use Rattle.std.proofs.Common.{◌≡◌, ◌≢◌, ℕ, ◌<◌, Bool, true, false, cond, ⊎_elim, List, [], length, Option, Some, None, Result, Ok, Err, refl, sym, ap, subst, ◌∙◌, inl, inr, ◌⊎◌, arith}
+use Rattle.std.proofs.Common.{◌≡◌, ◌≢◌, ℕ, ◌^◌, ◌<◌, Bool, true, false, cond, ⊎_elim, List, [], length, Option, Some, None, Result, Ok, Err, refl, sym, ap, subst, ◌∙◌, inl, inr, ◌⊎◌, arith}
 use Rattle.std.specs.Prelude.{IfSome, IsErr}
 use Rattle.std.specs.Io.KnownBytes.{Appends, Consumes}
 use Rattle.std.proofs.lemmas.List.{append-nil}
@@ -8,7 +8,8 @@ use Rattle.line_rules.specs.Reading.{Entry, Fault, pairs_of, input_limit}
 use Rattle.line_rules.proofs.Limits.{too_long_is_refused}
 use Rattle.machine_rules.specs.Runs.{Run, RunsTo, dump}
 use Rattle.tester_run.specs.Inputs.{IsRefusedBy, AreRead, read_limit}
-use Rattle.tester_run.specs.Outcomes.{write_fault, IsFinal, HasRun, Finishes, BreaksOff}
+use Rattle.history_laws.specs.Whole.{AreRunsLegal}
+use Rattle.tester_run.specs.Outcomes.{write_fault, IsFinal, IsLegal, HasRun, Finishes, BreaksOff}
 use Rattle.tester_run.specs.Rendered.{Renders}
 use Rattle.tester_run.specs.declared.running.Rendered.{Rendered}
 use Rattle.tester_run.specs.declared.top.Refusal.{Refusal}
@@ -59,6 +60,7 @@ run_of_read : (left after : Option (List ℕ)) (prefix : List ℕ) (pairs : List
 run_of_read left after prefix pairs rendered order read renders is = record {
   pairs = pairs;
   input = read.input;
+  small = read.small;
   runs = subst (λ (o : List ℕ). RunsTo pairs prefix o renders.run) (sym is) renders.runs;
 }
 
@@ -93,3 +95,11 @@ broken_off words prefix left after before written pairs rendered order words_are
       has_run = run_of_read left after prefix pairs rendered order read renders order_is;
       written = subst (AppendsFront before written) (dump_moved rendered order renders.run renders.dump_is order_is) front;
     })
+
+-- each run of the order is legal
+pub kept_legal : (words : Option (List ℕ)) (prefix : List ℕ) (left : Option (List ℕ)) (after : Option (List ℕ)) (rendered : Rendered) (order : List ℕ)
+    → some_word prefix ≡ words → order ≡ rendered.order → length rendered.order < 2 ^ 62 → AreRunsLegal
+    → IfSome words (λ prefix. IsLegal left prefix order)
+kept_legal words prefix left after rendered order words_are is short law =
+    subst (λ (w : Option (List ℕ)). IfSome w (λ prefix. IsLegal left prefix order)) words_are
+    (λ run has_run. law has_run.pairs prefix order run has_run.small (subst (λ (o : List ℕ). length o < 2 ^ 62) (sym is) short) has_run.runs.runs)

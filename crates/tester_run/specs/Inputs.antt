@@ -2,6 +2,8 @@
 use Rattle.std.specs.Prelude.{◌≡◌, ◌≤◌, ◌⊎◌, ℕ, List, length, Option, IfSome, Ok, Result, IsErr, ⊤}
 use Rattle.std.specs.Io.KnownBytes.{IsAtEnd, Consumes}
 use Rattle.outside.specs.Counts.{Rose}
+use Rattle.std.specs.List.{AllByRecursion}
+use Rattle.line_rules.specs.Inputs.{IsSmall}
 use Rattle.line_rules.specs.Reading.{Entry, Fault, pairs_of}
 use Rattle.tester_run.specs.declared.top.Refusal.{Refusal}
 use Rattle.tester_run.specs.declared.top.Refusal.TheVariants as refusal
@@ -35,9 +37,10 @@ IsJudged refusal.Source read = ⊥
 IsJudged (refusal.Line fault) read = IsErr read
 IsJudged refusal.Memory read = ⊤
 
--- the pairs are those of the bytes that the source had, where they are told, and none is left
+-- the pairs are those of the bytes that the source had, where they are told, and none is left; an input may have them
 pub record AreRead (left after : Option (List ℕ)) (pairs : List (List ℕ × List ℕ)) : Type 0 where
   pub input : IfSome left (λ bytes. pairs_of bytes ≡ Ok pairs)
+  pub small : AllByRecursion IsSmall pairs
   pub end : IsAtEnd after
 
 abbrev pub status_for : Refusal → ℕ

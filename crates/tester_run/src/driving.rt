@@ -145,8 +145,8 @@ fn is_no_memory(reply: &Reply) -> bool
     matches!(reply, Reply::NoMemory)
 }
 
-// For proofs: no memory holds an order of 2^62 places. It does nothing when it runs.
-fn shows_short(order: &Order)
+/// For proofs: no memory holds an order of 2^62 places. It does nothing when it runs.
+pub fn shows_short(order: &Order)
     ensures { length order.now < 2 ^ 62 }
 {
     let _places = order.as_slice();

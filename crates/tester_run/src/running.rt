@@ -1,12 +1,12 @@
 //! The run of machine 0, from the pairs of an input to the dump.
 
-ghost use Rattle.std.specs.Prelude.{◌≡◌, pos, [], ◌∷◌, ◌++◌, false, if◌then◌else◌, IfOk};
+ghost use Rattle.std.specs.Prelude.{◌≡◌, pos, [], ◌∷◌, ◌++◌, ◌<◌, ◌^◌, length, false, if◌then◌else◌, IfOk};
 ghost use Rattle.machine_rules.specs.declared.State.TheVariants.{Running};
 ghost use Rattle.machine_rules.specs.Runs.{has_ended, instructions_in, packed_prefix};
 ghost use Rattle.version_store.specs.Versions.{at, last_of};
 ghost use Rattle.tester_run.specs.Rendered.{Renders};
 
-use crate::driving::drive;
+use crate::driving::{drive, shows_short};
 use crate::dumping::render;
 use client_core::Core;
 use dump_text::Order;
@@ -33,7 +33,8 @@ pub struct Rendered {
 
 /// Runs machine 0 under a prefix over these pairs, until it has ended, and renders the dump.
 pub fn run(alloc: Global, prefix: &[u8], pairs: Pairs) -> Result<Rendered, AllocError>
-    ensures { IfOk result (Renders pairs prefix.now) }
+    ensures renders { IfOk result (Renders pairs prefix.now) }
+    ensures short { IfOk result (λ rendered. length rendered.order < 2 ^ 62) }
 {
     let mut core = Core::load(alloc, pairs)?;
     let mut machine = start(alloc, &core, prefix)?;
@@ -42,6 +43,7 @@ pub fn run(alloc: Global, prefix: &[u8], pairs: Pairs) -> Result<Rendered, Alloc
     drive(&mut core, &mut words, &mut machine, &mut order)?;
     let dump = render(alloc, &machine, &order, &core)?;
     let status = status_of(&machine);
+    shows_short(&order);
     Ok(Rendered {
         dump,
         order,

@@ -4,14 +4,17 @@ ghost use Rattle.std.specs.Prelude.{◌≡◌, ◌≢◌, ◌<◌, ◌≤◌, �
 ghost use Rattle.std.specs.Io.KnownBytes.{Appends, IsAtEnd};
 ghost use Rattle.outside.specs.Counts.{Rose};
 ghost use Rattle.outside.specs.Streams.{AppendsFront};
+ghost use Rattle.std.specs.List.{AllByRecursion};
+ghost use Rattle.line_rules.specs.Inputs.{IsSmall};
 ghost use Rattle.line_rules.specs.Reading.{pairs_of, input_limit};
 ghost use Rattle.tester_run.specs.Arguments.{prefix_in};
-ghost use Rattle.tester_run.specs.Outcomes.{usage, bad_input, read_fault, write_fault, out_of_memory, IsFinal, IsSilent, Finishes, BreaksOff};
+ghost use Rattle.tester_run.specs.Outcomes.{usage, bad_input, read_fault, write_fault, out_of_memory, IsFinal, IsLegal, IsSilent, Finishes, BreaksOff};
 ghost use Rattle.tester_run.specs.Inputs.{IsRefusedBy, IsJudged, AreRead, IsReadOut, ReadsWithin, status_for};
 
 use crate::args::ArgWords;
 use crate::running::{Rendered, run};
 use dump_text::{LineFault, Order, read_lines};
+use history_laws::runs_are_legal;
 use key_bytes::Pairs;
 use outside::{Gate, Input, Sink, Source, read_all, write_all};
 use std::alloc::Global;
@@ -76,6 +79,10 @@ pub fn tester<R: Threads + Wait + Sync, S: Source, K: Sink, N: Sink, G: Gate>(
         Finishes (S.left source.old) prefix result.order result.status (K.written out.old) (K.written out.new)) }
     ensures end { IsFinal result.status → IsAtEnd (S.left source.new) }
 
+    // In that run each transaction committed with a version would get the same ordinary reads run whole at its commit, unless
+    // a write with its conflict range switched off fell between.
+    ensures legal { IsFinal result.status → IfSome (prefix_in args.now) (λ prefix. IsLegal (S.left source.old) prefix result.order) }
+
     // 4 and 5: the source, or out, has counted a fault in this call.
     ensures read { result.status ≡ read_fault → Rose (S.faults source.old) (S.faults source.new) }
     ensures write { result.status ≡ write_fault → Rose (K.faults out.old) (K.faults out.new) }
@@ -98,7 +105,10 @@ pub fn tester<R: Threads + Wait + Sync, S: Source, K: Sink, N: Sink, G: Gate>(
         Err(refusal) => without_order(alloc, status_of(&refusal)),
         Ok(pairs) => match run(alloc, prefix, pairs) {
             Err(_) => without_order(alloc, OUT_OF_MEMORY),
-            Ok(rendered) => deliver(out, rendered),
+            Ok(rendered) => {
+                runs_are_legal();
+                deliver(out, rendered)
+            }
         },
     }
 }
@@ -129,6 +139,7 @@ fn read_pairs<S: Source>(alloc: Global, source: &mut S) -> Result<Pairs, Refusal
 // The pairs that these bytes spell, or their first fault.
 fn judge(alloc: Global, bytes: &[u8]) -> Result<Pairs, Refusal>
     ensures found { IfOk result (λ pairs. pairs_of bytes.now ≡ Ok pairs) }
+    ensures small { IfOk result (AllByRecursion IsSmall) }
     ensures refused { IfErr result (λ refusal. IsJudged refusal (pairs_of bytes.now)) }
 {
     match read_lines(alloc, bytes) {

@@ -1,0 +1,12 @@
+pub mod Rising
+pub mod Maps
+pub mod Slices
+pub mod Selectors
+pub mod Reading
+pub mod Views
+pub mod Smallness
+pub mod Unmet
+pub mod Legal
+pub mod Holding
+pub mod Stepping
+pub mod Reaching

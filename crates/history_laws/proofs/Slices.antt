@@ -1,0 +1,142 @@
+-- A slice of a range rests on its interval alone.
+use Rattle.std.proofs.Common.{◌≡◌, ℕ, zero, suc, ◌<◌, Bool, true, false, cond, not, List, [], ◌∷◌, length, take, refl, sym, ap, subst, ◌∙◌, arith}
+use Rattle.std.specs.Prelude.{nat_le}
+use Rattle.std.specs.FinMap as finite
+use Rattle.std.proofs.lemmas.Bool.{and_from, and_parts, leb-true, not-true}
+use Rattle.std.proofs.lemmas.List.{length-take}
+use Rattle.key_bytes.specs.Keys.{key_lt, key_le, after, within}
+use Rattle.key_bytes.specs.Ranges.{has}
+use Rattle.key_bytes.proofs.Orders.{irreflexive, above_not_below, lt_trans, lt_after}
+use Rattle.database_rules.specs.Databases.{Database}
+use Rattle.database_rules.specs.Intervals.{last_key, slice_interval}
+use Rattle.database_rules.specs.Slices.{Entries, turned, cut, span, slice}
+use Rattle.database_rules.specs.States.{range_from}
+use Rattle.database_rules.proofs.Ranges.{covers_single}
+use Rattle.range_read.proofs.Lists.{filter-reverse}
+use Rattle.range_read.proofs.Rising.{Rises}
+use Rattle.range_read.proofs.Walks.{turned_rises}
+use Rattle.history_laws.specs.Held.{AgreeOn}
+use Rattle.history_laws.proofs.Rising.{IsStrict, by_key, upto, front_local}
+use Rattle.history_laws.proofs.Maps.{chosen, get-retained, entries-retain, same_cond, same_retained, same_chosen}
+
+-- ---- the order of keys, or the other order
+
+-- b stands behind a
+abbrev pub ahead : Bool → List ℕ → List ℕ → Bool
+ahead true a b = key_lt b a
+ahead false a b = key_lt a b
+
+-- no key stands behind itself, either way
+ahead_strict : (down : Bool) → IsStrict (ahead down)
+ahead_strict true = record {
+  irreflexive = irreflexive;
+  apart = λ a b h. above_not_below b a h;
+  trans = λ a b c p q. lt_trans c b a q p;
+}
+ahead_strict false = record { irreflexive = irreflexive; apart = above_not_below; trans = lt_trans }
+
+-- the entries of a database rise, either way
+rises_ahead : (m : Database) (down : Bool) → Rises (by_key (ahead down)) (turned down (finite.entries m))
+rises_ahead m true = turned_rises m true
+rises_ahead m false = turned_rises m false
+
+-- what a test takes of a list that is turned is what it takes of the list, turned
+pub chosen-turned : (p : List ℕ → Bool) (down : Bool) (es : Entries) → chosen p (turned down es) ≡ turned down (chosen p es)
+chosen-turned p true es = filter-reverse (λ e. p e.0) es
+chosen-turned p false es = refl
+
+-- ---- a range, as what its database retains
+
+-- the pairs of a range, of a database that retains the range alone
+span_of : Database → (b e : List ℕ) → Bool → Entries
+span_of m b e down = turned down (finite.entries (finite.retain_keys m (within b e)))
+
+-- they are the pairs of the range
+span_is : (m : Database) (b e : List ℕ) (down : Bool) → span m b e down ≡ span_of m b e down
+unfolding span_of
+span_is m b e down = ap (turned down) (sym (entries-retain m (within b e)))
+
+-- two databases that have the same of each key of a range up to the last of a front have the same front
+front_same : (m n : Database) (b e d : List ℕ) (i : ℕ) (down : Bool) → i < length (span_of m b e down)
+    → ((k : List ℕ) → within b e k ≡ true → ahead down (last_key d (take (suc i) (span_of m b e down))) k ≡ false
+    → finite.get m k ≡ finite.get n k)
+    → take (suc i) (span_of m b e down) ≡ take (suc i) (span_of n b e down)
+unfolding span_of
+front_same m n b e d i down inside same =
+    front_local (ahead down) (ahead_strict down) d i (span_of m b e down) (span_of n b e down) (rises_ahead kept down) (rises_ahead other down)
+    inside (
+    chosen-turned test down (finite.entries kept)
+    ∙ ap (turned down) (same_chosen kept other test same_kept)
+    ∙ sym (chosen-turned test down (finite.entries other)))
+  where
+    kept : Database
+    kept = finite.retain_keys m (within b e)
+
+    other : Database
+    other = finite.retain_keys n (within b e)
+
+    test : List ℕ → Bool
+    test k = not (ahead down (last_key d (take (suc i) (span_of m b e down))) k)
+
+    same_kept : (k : List ℕ) → test k ≡ true → finite.get kept k ≡ finite.get other k
+    same_kept k upto =
+        get-retained m (within b e) k
+        ∙ same_cond m n (within b e) k (λ inside. same k inside (not-true _ upto))
+        ∙ sym (get-retained n (within b e) k)
+
+-- ---- the interval of a slice
+
+-- the keys of a range up to the last of a front are in the interval of the front
+in_front : (b e z k : List ℕ) (down : Bool) → within b e k ≡ true → ahead down z k ≡ false
+    → has (cond down (range_from z e) (range_from b (after z))) k ≡ true
+in_front b e z k true inside front = and_from (key_le z k) (key_lt k e) (ap not front) (and_parts (key_le b k) (key_lt k e) inside).1
+in_front b e z k false inside front =
+    and_from (key_le b k) (key_lt k (after z)) (and_parts (key_le b k) (key_lt k e) inside).0 (lt_after k z ∙ ap not front)
+
+-- a list whose front reaches the limit has so many entries, or more
+pub reached_inside : (i : ℕ) (es : Entries) → nat_le (suc i) (length (take (suc i) es)) ≡ true → i < length es
+reached_inside i es reached = omega (arith, leb-true (suc i) (length (take (suc i) es)) reached, length-take (suc i) es)
+
+module _ (m n : Database) (b e : List ℕ) where
+  -- two databases that agree on a whole range have the same slice of it
+  whole_local : (limit : ℕ) (down : Bool) → AgreeOn (range_from b e ∷ []) m n
+      → cut limit (span_of m b e down) ≡ cut limit (span_of n b e down)
+  unfolding span_of
+  whole_local limit down agree =
+      ap (λ kept. cut limit (turned down (finite.entries kept)))
+      (same_retained m n (within b e) (λ k inside. agree k (covers_single (range_from b e) k ∙ inside)))
+
+  -- so they have where the limit is reached and they agree up to the last key
+  reached_local : (i : ℕ) (down : Bool) → i < length (span_of m b e down)
+      → AgreeOn (cond down (range_from (last_key e (take (suc i) (span_of m b e down))) e)
+      (range_from b (after (last_key b (take (suc i) (span_of m b e down))))) ∷ []) m n
+      → take (suc i) (span_of m b e down) ≡ take (suc i) (span_of n b e down)
+  reached_local i true inside agree =
+      let z = last_key e (take (suc i) (span_of m b e true)) in
+      front_same m n b e e i true inside (λ k within front. agree k (covers_single (range_from z e) k ∙ in_front b e z k true within front))
+  reached_local i false inside agree =
+      let z = last_key b (take (suc i) (span_of m b e false)) in
+      front_same m n b e b i false inside
+      (λ k within front. agree k (covers_single (range_from b (after z)) k ∙ in_front b e z k false within front))
+
+  -- so they have where they agree on the interval of the slice, whether the limit is reached or not
+  cut_local : (limit : ℕ) (down : Bool) → AgreeOn (slice_interval b e limit down (cut limit (span_of m b e down)) ∷ []) m n
+      → cut limit (span_of m b e down) ≡ cut limit (span_of n b e down)
+  cut_local zero down agree = whole_local zero down agree
+  cut_local (suc i) down agree =
+      elim (nat_le (suc i) (length (take (suc i) (span_of m b e down))))
+      as (λ t. nat_le (suc i) (length (take (suc i) (span_of m b e down))) ≡ t
+      → AgreeOn (cond t (cond down (range_from (last_key e (take (suc i) (span_of m b e down))) e)
+      (range_from b (after (last_key b (take (suc i) (span_of m b e down)))))) (range_from b e) ∷ []) m n
+      → take (suc i) (span_of m b e down) ≡ take (suc i) (span_of n b e down)) [
+        | true ↦ λ reached agree. reached_local i down (reached_inside i (span_of m b e down) reached) agree
+        | false ↦ λ all agree. whole_local (suc i) down agree
+      ] refl agree
+
+  -- two databases that have the same of each key of a slice's interval have the same slice
+  pub slice_local : (limit : ℕ) (down : Bool) → AgreeOn (slice_interval b e limit down (slice m b e limit down) ∷ []) m n
+      → slice m b e limit down ≡ slice n b e limit down
+  slice_local limit down agree =
+      ap (cut limit) (span_is m b e down)
+      ∙ cut_local limit down (subst (λ es. AgreeOn (slice_interval b e limit down (cut limit es) ∷ []) m n) (span_is m b e down) agree)
+      ∙ ap (cut limit) (sym (span_is n b e down))

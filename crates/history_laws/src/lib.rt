@@ -1,0 +1,15 @@
+//! What holds of every history that a run leaves, whatever its order of requests: it is one legal history.
+//!
+//! A transaction whose commit made a version would get the same ordinary reads run whole at its commit, over the database just
+//! before it, unless a write that doesn't declare its keys fell between (`specs/Whole.antt`). It is a law of the definitions
+//! (`machine_rules`, `specs/Runs.antt`), proved once here, for each run, complete or not. What it rests on is in
+//! `specs/Held.antt`: what holds of each transaction while it is open, and of each commit among those before it.
+#![tactic(auto)]
+
+ghost use Rattle.history_laws.specs.Whole.{AreRunsLegal};
+
+/// For proofs: every run of an order of fewer than 2^62 places, over pairs that an input may have, leaves one legal history. It
+/// does nothing when it runs.
+pub fn runs_are_legal()
+    ensures { AreRunsLegal }
+{}
