@@ -97,9 +97,9 @@ broken_off words prefix left after before written pairs rendered order words_are
     })
 
 -- each run of the order is legal
-pub kept_legal : (words : Option (List ℕ)) (prefix : List ℕ) (left : Option (List ℕ)) (after : Option (List ℕ)) (rendered : Rendered) (order : List ℕ)
+pub kept_legal : (words : Option (List ℕ)) (prefix : List ℕ) (left : Option (List ℕ)) (rendered : Rendered) (order : List ℕ)
     → some_word prefix ≡ words → order ≡ rendered.order → length rendered.order < 2 ^ 62 → AreRunsLegal
     → IfSome words (λ prefix. IsLegal left prefix order)
-kept_legal words prefix left after rendered order words_are is short law =
+kept_legal words prefix left rendered order words_are is short law =
     subst (λ (w : Option (List ℕ)). IfSome w (λ prefix. IsLegal left prefix order)) words_are
     (λ run has_run. law has_run.pairs prefix order run has_run.small (subst (λ (o : List ℕ). length o < 2 ^ 62) (sym is) short) has_run.runs.runs)

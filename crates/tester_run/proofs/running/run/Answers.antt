@@ -6,8 +6,8 @@ use Rattle.tester_run.specs.Driving.{Leads}
 use Rattle.tester_run.proofs.Finished.{begins, finishes}
 use Rattle.tester_run.proofs.running.run.Goals as goal
 
-pub returns : goal.returns
-returns c =
+pub returns-clause-renders : goal.returns-clause-renders
+returns-clause-renders c =
     let words : ℕ → ℕ = λ place. slice_index c.in_ok-words.words place in
     let machine = c.in_ok-machine.machine.machine in
     let first = begins c.args.pairs c.args.prefix.now c.in_ok-core.core words machine (c.in_ok-core.ensures.begun words_of_run)

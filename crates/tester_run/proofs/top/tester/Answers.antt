@@ -11,5 +11,5 @@ returns-in-Ok-run-clause-front g c =
 
 pub returns-in-Ok-run-clause-legal : goal.returns-in-Ok-run-clause-legal
 returns-in-Ok-run-clause-legal g c =
-    λ final. kept_legal _ c.in-Some.prefix.now _ _ c.in-Ok-run.rendered _ c.in-Some.ensures c.deliver.ensures.order c.in-Ok-run.ensures.short
+    λ final. kept_legal _ c.in-Some.prefix.now _ c.in-Ok-run.rendered _ c.in-Some.ensures c.deliver.ensures.order c.in-Ok-run.ensures.short
     c.runs_are_legal.ensures
