@@ -10,3 +10,4 @@ pub mod Legal
 pub mod Holding
 pub mod Stepping
 pub mod Reaching
+pub mod Rows

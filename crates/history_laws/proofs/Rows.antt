@@ -1,0 +1,66 @@
+-- The law on two worked histories, computed.
+use Rattle.std.proofs.Common.{◌≡◌, ℕ, inl, inr, true, false, List, [], ◌∷◌, Some, refl, ap, ◌∙◌}
+use Rattle.std.specs.FinMap as finite
+use Rattle.std.specs.Cmp.Lexicographic.{nat_list_cmp_total}
+use Rattle.database_rules.specs.Databases.{Set}
+use Rattle.database_rules.specs.Histories.{Commit, Wrote, HasRead, after_commits, conflicts, loaded}
+use Rattle.database_rules.specs.Intervals.{one}
+use Rattle.database_rules.specs.Reads.{Get, ValueIs, answer}
+use Rattle.database_rules.specs.States.{seen}
+use Rattle.history_laws.specs.Whole.{fell_between, IsOneLegalHistory}
+use Rattle.history_laws.proofs.Views.{get-seen}
+
+-- the key k, and a value of one digit
+abbrev k : List ℕ
+k = 107 ∷ []
+
+abbrev digit : ℕ → List ℕ
+digit n = n ∷ []
+
+-- the loaded database has 0 under k
+abbrev first : Commit
+first = loaded ((k, digit 48) ∷ [])
+
+-- a transaction read 0 and set 1, at the first version
+abbrev reader : Commit
+reader = record {
+  version = 1;
+  script = HasRead (Get k) (ValueIs (Some (digit 48))) ∷ Wrote (Set k (digit 49)) true ∷ [];
+  mutations = Set k (digit 49) ∷ [];
+  read_ranges = one k ∷ [];
+  declared = one k ∷ [];
+  silent = [];
+}
+
+-- another set 2 without declaring it
+abbrev silent_writer : Commit
+silent_writer = record {
+  version = 1;
+  script = Wrote (Set k (digit 50)) false ∷ [];
+  mutations = Set k (digit 50) ∷ [];
+  read_ranges = [];
+  declared = [];
+  silent = one k ∷ [];
+}
+
+-- where the reader's like came first, a second one of the same version conflicts
+second_conflicts : conflicts (first ∷ reader ∷ []) 1 (one k ∷ []) ≡ true
+second_conflicts = refl
+
+-- where the silent one came first, the reader doesn't conflict
+silent_conflicts_not : conflicts (first ∷ silent_writer ∷ []) 1 (one k ∷ []) ≡ false
+silent_conflicts_not = refl
+
+-- but it fell between, and that history is legal by the exception
+silent_fell : fell_between (first ∷ silent_writer ∷ []) reader ≡ true
+silent_fell = refl
+
+silent_legal : IsOneLegalHistory (first ∷ silent_writer ∷ reader ∷ [])
+silent_legal = record { legal = (inl tt, (inl tt, (inr refl, tt))); last_is = refl }
+
+-- its read isn't the one that it has run whole: there k has 2
+silent_not_whole : answer (Get k) (seen [] (after_commits (first ∷ silent_writer ∷ []) finite.empty)) ≡ ValueIs (Some (digit 50))
+unfolding answer
+silent_not_whole =
+    ap ValueIs (get-seen [] (after_commits (first ∷ silent_writer ∷ []) finite.empty) k
+    ∙ finite.get-insert nat_list_cmp_total (after_commits (first ∷ []) finite.empty) k (digit 50) k)
