@@ -12,6 +12,7 @@ use Rattle.database_rules.specs.States.{seen}
 use Rattle.line_rules.specs.Inputs.{IsSmall}
 use Rattle.history_laws.specs.Small.{IsBelowTop, are_small}
 use Rattle.history_laws.specs.Held.{AgreeOn, IsAnswered, IsSound, AreSound}
+use Rattle.history_laws.specs.Steps.{AreReachedLegal}
 use Rattle.history_laws.specs.Whole.{EachRead, RunsWhole, fell_between, AreLegal, IsOneLegalHistory, AreRunsLegal}
 use Rattle.history_laws.proofs.Reaching.{runs_reached}
 use Rattle.history_laws.proofs.Reading.{read_local}
@@ -154,11 +155,15 @@ sound_is_legal first later none small sound = record {
   last_is = ap (λ commits. after_commits commits finite.empty) (sym (take_length (first ∷ later)));
 }
 
+-- so does a world that is reached
+pub reached_legal : AreReachedLegal
+reached_legal world reached =
+    let grown = reached.grown in
+    subst IsOneLegalHistory (sym grown.is) (sound_is_legal grown.first grown.later grown.bare grown.small grown.sound)
+
 -- so does every run
 pub runs_legal : AreRunsLegal
-runs_legal pairs prefix order run small few is =
-    let grown = (runs_reached order pairs prefix run (keys_small pairs small) few is).grown in
-    subst IsOneLegalHistory (sym grown.is) (sound_is_legal grown.first grown.later grown.bare grown.small grown.sound)
+runs_legal pairs prefix order run small few is = reached_legal run.world (runs_reached order pairs prefix run (keys_small pairs small) few is)
   where
     keys_small : (pairs : List (List ℕ × List ℕ)) → AllByRecursion IsSmall pairs → AllByRecursion (λ pair. key_lt pair.0 top ≡ true) pairs
     keys_small [] small = tt

@@ -1,3 +1,4 @@
 pub mod Whole
 pub mod Small
 pub mod Held
+pub mod Steps

@@ -2,14 +2,24 @@
 //!
 //! A transaction whose commit made a version would get the same ordinary reads run whole at its commit, over the database just
 //! before it, unless a write that doesn't declare its keys fell between (`specs/Whole.antt`). It is a law of the definitions
-//! (`machine_rules`, `specs/Runs.antt`), proved once here, for each run, complete or not. What it rests on is in
-//! `specs/Held.antt`: what holds of each transaction while it is open, and of each commit among those before it.
+//! (`machine_rules`, `specs/Runs.antt`), proved once here, for each run, complete or not, and from step to step
+//! (`specs/Steps.antt`). What it rests on is in `specs/Held.antt`: what holds of each transaction while it is open, and of each
+//! commit among those before it.
 #![tactic(auto)]
 
+ghost use Rattle.history_laws.specs.Steps.{AreBegunReached, AreReachedLegal, AreStepsReached};
 ghost use Rattle.history_laws.specs.Whole.{AreRunsLegal};
 
 /// For proofs: every run of an order of fewer than 2^62 places, over pairs that an input may have, leaves one legal history. It
 /// does nothing when it runs.
 pub fn runs_are_legal()
     ensures { AreRunsLegal }
+{}
+
+/// For proofs: the same from step to step. What a world begins with, each request keeps, while versions are left; and a world
+/// that has it has one legal history. It does nothing when it runs.
+pub fn steps_are_legal()
+    ensures begins { AreBegunReached }
+    ensures keeps { AreStepsReached }
+    ensures legal { AreReachedLegal }
 {}

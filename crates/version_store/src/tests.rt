@@ -9,6 +9,8 @@ use key_bytes::{Bytes, Key, Pair, Pairs};
 use std::alloc::{AllocError, Global};
 use std::test::Fail;
 
+mod large;
+
 // A caller, whose proof uses the contracts alone: reserve, then install, as a commit does.
 fn commit(store: &mut Store, changes: Changes) -> Result<(), AllocError>
     requires { last_of store.old + 1 < 2 ^ 64 }
@@ -537,68 +539,5 @@ fn first_apart(alloc: Global) -> Result<Option<u64>, Fail> {
 #[test]
 fn is_a_plain_list(rt: HostRuntime) -> Result<(), Fail> {
     assert_eq!(rt; first_apart(rt.alloc())?, None);
-    Ok(())
-}
-
-// ---- many keys
-
-const MANY: u32 = 20_000;
-
-// Commits a change of each key whose number can be divided by `apart`: its own bytes, or a removal.
-fn commit_each(alloc: Global, store: &mut Store, apart: u32, keep: bool) -> Result<(), AllocError>
-    requires { 0 < apart }
-{
-    let mut changes = Changes::new(alloc);
-    for number in 0..MANY {
-        if number % apart == 0 {
-            let bytes = number.to_be_bytes();
-            let value: Option<&[u8]> = if keep { Some(&bytes) } else { None };
-            add(alloc, &mut changes, &bytes, value)?;
-        }
-    }
-    commit_next(store, changes)
-}
-
-// How many keys the steps of `next_at` find.
-fn count_at(alloc: Global, store: &Store, version: u64) -> Result<u32, Fail> {
-    let mut from = key_of(alloc, b"")?;
-    for count in 0..=MANY {
-        let Some((key, _value)) = store.next_at(&from, version)? else {
-            return Ok(count);
-        };
-        from = key.after()?;
-    }
-    Ok(0)
-}
-
-// How many keys have their own bytes.
-fn count_own(alloc: Global, store: &Store, version: u64) -> Result<u32, Fail> {
-    let mut count = 0u32;
-    for number in 0..MANY {
-        let bytes = number.to_be_bytes();
-        let key = key_of(alloc, &bytes)?;
-        if store.get_at(&key, version)? == Some(bytes.as_slice()) {
-            count = count.wrapping_add(1);
-        }
-    }
-    Ok(count)
-}
-
-// How many keys a store has at versions 1 and 2, how many have their own bytes at 1, and how many pairs there are.
-fn many(alloc: Global) -> Result<(u32, u32, u32, usize), Fail> {
-    let mut store = Store::new(alloc);
-    commit_each(alloc, &mut store, 1, true)?;
-    commit_each(alloc, &mut store, 2, false)?;
-    Ok((
-        count_at(alloc, &store, 1)?,
-        count_at(alloc, &store, 2)?,
-        count_own(alloc, &store, 1)?,
-        store.pairs()?.len(),
-    ))
-}
-
-#[test]
-fn holds_many_keys(rt: HostRuntime) -> Result<(), Fail> {
-    assert_eq!(rt; many(rt.alloc())?, (20_000, 10_000, 20_000, 10_000));
     Ok(())
 }

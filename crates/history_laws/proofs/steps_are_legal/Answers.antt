@@ -1,0 +1,12 @@
+use Rattle.history_laws.proofs.Legal.{reached_legal}
+use Rattle.history_laws.proofs.Reaching.{begun_reached, step_reached}
+use Rattle.history_laws.proofs.steps_are_legal.Goals as goal
+
+pub returns-clause-begins : goal.returns-clause-begins
+returns-clause-begins c = begun_reached
+
+pub returns-clause-keeps : goal.returns-clause-keeps
+returns-clause-keeps c = step_reached
+
+pub returns-clause-legal : goal.returns-clause-legal
+returns-clause-legal c = reached_legal
