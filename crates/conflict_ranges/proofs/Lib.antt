@@ -2,6 +2,7 @@ pub mod Between
 pub mod Changed
 pub mod Meeting
 pub mod Nexts
+pub mod Only
 pub mod Segments
 pub mod Sound
 pub mod Splits

@@ -1,6 +1,6 @@
 -- Ranges meet exactly where some key is in both.
-use Rattle.std.proofs.Common.{◌≡◌, Bool, true, false, cond, ◌||◌, List, [], ◌∷◌, ℕ, refl, sym}
-use Rattle.std.proofs.lemmas.Bool.{false≢true, or_left, or_right}
+use Rattle.std.proofs.Common.{◌≡◌, Bool, true, false, cond, ◌&&◌, ◌||◌, IsTrue, ◌↔◌, List, [], ◌∷◌, ℕ, refl, sym, ◌∙◌}
+use Rattle.std.proofs.lemmas.Bool.{and_from, and_parts, false≢true, or_left, or_right}
 use Rattle.std.specs.List.{list_any}
 use Rattle.key_bytes.specs.declared.range.KeyRange.{KeyRange}
 use Rattle.key_bytes.specs.Keys.{key_lt, lesser, greater}
@@ -88,3 +88,15 @@ common-list_any (own ∷ ranges) range key covered is_in =
     by_first true here _ rest =
         or_left (meets own range) (list_any (λ own. meets own range) ranges) (common-meets own range (key, here, is_in))
     by_first false _ later rest = or_right (meets own range) (list_any (λ own. meets own range) ranges) (rest later)
+
+-- where it is whether some of a list meet a range, it is whether some key is in both
+pub common-found : (ranges : List KeyRange) (range : KeyRange) (found : Bool) → found ≡ list_any (λ own. meets own range) ranges
+    → IsTrue found ↔ ((key : List ℕ) × IsTrue (covers ranges key && has range key))
+common-found ranges range found is = (
+  λ some.
+      let (key, covered, is_in) = list_any-common ranges range (sym is ∙ some) in
+      (key, and_from (covers ranges key) (has range key) covered is_in),
+  λ (key, both).
+      let parts = and_parts (covers ranges key) (has range key) both in
+      is ∙ common-list_any ranges range key parts.0 parts.1,
+)

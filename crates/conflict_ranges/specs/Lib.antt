@@ -1,3 +1,4 @@
 pub mod Ends
+pub mod Only
 pub mod Segments
 pub mod Writes

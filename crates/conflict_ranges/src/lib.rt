@@ -10,6 +10,8 @@
 //! Both lie in a map of edges: each edge has what all keys from it up to the next edge have.
 #![tactic(auto)]
 
+mod edge_ranges;
+mod edge_ranges_left;
 mod members;
 mod membership;
 mod range_set;

@@ -1,15 +1,13 @@
 //! A set of keys.
 
-ghost use Rattle.std.specs.Prelude.{◌≡◌, ◌==◌, ◌+◌, ◌*◌, ◌^◌, ◌<◌, ◌↔◌, ◌&&◌, ◌||◌, ℕ, List, [], false, not, length, slice_get, Some, IsTrue, IfOk, OnOk, OnErr};
+ghost use Rattle.std.specs.Prelude.{◌≡◌, ◌==◌, ◌<◌, ◌↔◌, ◌&&◌, ◌||◌, ℕ, List, [], true, false, not, length, slice_get, Some, IsTrue, IfOk, OnOk, OnErr};
 ghost use Rattle.std.specs.List.{list_any};
 ghost use Rattle.key_bytes.specs.Ranges.{has, meets};
 ghost use Rattle.database_rules.specs.States.{covers};
 
-use crate::members::{any_in, put, put_all, split_all};
-use crate::membership::Membership;
+use crate::edge_ranges::EdgeRanges;
 use crate::ranges_left::RangesLeft;
-use edge_map::EdgeMap;
-use key_bytes::{Bytes, Key, KeyRange};
+use key_bytes::{Key, KeyRange};
 use std::alloc::{AllocError, Global};
 use std::marker::Model;
 
@@ -17,30 +15,31 @@ use std::marker::Model;
 /// set, so they are not empty and lie apart. Which keys the set has is `covers` of them.
 #[derive(Drop)]
 pub struct RangeSet {
-    lowest: Key,
-    members: EdgeMap<Membership>,
-    // There are no more edges than this, so that the number of ranges fits.
-    most_edges: usize,
+    // The only range that was added, which needs no edge and no search. While there is one, the edges say nothing.
+    only: Option<KeyRange>,
+    laid: EdgeRanges,
 }
 
 impl Model for RangeSet {
     ghost use Rattle.std.specs.Prelude.{List};
     ghost use Rattle.key_bytes.specs.declared.range.KeyRange.{KeyRange};
-    ghost use Rattle.conflict_ranges.specs.Segments.{ranges_of, IsWhole};
+    ghost use Rattle.conflict_ranges.specs.Only.{only_or, IsFilled};
 
     ghost Value = { List KeyRange };
 
-    ghost view = { λ set. ranges_of set.members };
+    ghost view = { λ set. only_or set.only set.laid };
 
-    ghost invariant = { λ set. IsWhole set.lowest set.most_edges set.members };
+    ghost invariant = { λ set. IsFilled set.only };
 }
 
-// How many edges there are at most, after the ends of so many ranges came in. More than can be counted are refused.
-fn more_edges(edges: usize, ranges: usize) -> Result<usize, AllocError>
-    ensures { IfOk result (λ more. more ≡ edges + 2 * ranges) }
+// A copy of a range. Ends of up to 22 bytes take no memory.
+fn copy_of(range: &KeyRange) -> Result<KeyRange, AllocError>
+    ensures { IfOk result (λ copy. copy ≡ range.now) }
 {
-    let half = edges.checked_add(ranges).ok_or(AllocError)?;
-    half.checked_add(ranges).ok_or(AllocError)
+    Ok(KeyRange {
+        begin: range.begin.copy()?,
+        end: range.end.copy()?,
+    })
 }
 
 impl RangeSet {
@@ -51,9 +50,8 @@ impl RangeSet {
         ensures { result ≡ [] }
     {
         RangeSet {
-            lowest: Bytes::new(alloc),
-            members: EdgeMap::new(alloc, Membership(false)),
-            most_edges: 0,
+            only: None,
+            laid: EdgeRanges::new(alloc),
         }
     }
 
@@ -62,19 +60,49 @@ impl RangeSet {
         ensures value { result ≡ (length self.now == 0) }
         ensures none { IsTrue result ↔ ((key : List ℕ) → covers self.now key ≡ false) }
     {
-        self.shows_apart();
-        self.ranges().next().is_none()
+        match &self.only {
+            Some(_) => false,
+            None => self.laid.is_empty(),
+        }
     }
 
-    /// Adds the keys of a range. It searches the edges once for each end, and writes once for each edge in the range. After
-    /// a refusal the set is as it was (API reference, "Transaction": conflict ranges).
+    // Whether no key came into the set, so that a range may be its only one.
+    fn is_unused(&self) -> bool
+        ensures { IsTrue result → self.now ≡ [] }
+    {
+        self.only.is_none() && self.laid.is_unused()
+    }
+
+    // Adds the keys of a range to the set without a key.
+    fn start(&mut self, range: &KeyRange) -> Result<(), AllocError>
+        requires { self.old ≡ [] }
+        ensures ok { OnOk result ((key : List ℕ) → covers self.new key ≡ has range.now key) }
+        ensures err { OnErr result (self.new ≡ self.old) }
+    {
+        if !range.is_empty() {
+            self.only = Some(copy_of(range)?);
+        }
+        Ok(())
+    }
+
+    /// Adds the keys of a range. The first one is kept as it is, with no search; with others it searches the edges once for
+    /// each end, and writes once for each edge in the range. After a refusal the set is as it was (API reference,
+    /// "Transaction": conflict ranges).
     pub fn add(&mut self, range: &KeyRange) -> Result<(), AllocError>
         ensures ok { OnOk result ((key : List ℕ)
             → covers self.new key ≡ (covers self.old key || has range.now key)) }
         ensures err { OnErr result (self.new ≡ self.old) }
     {
-        self.most_edges = more_edges(self.most_edges, 1)?;
-        put(&mut self.members, range, Membership(true))
+        if self.is_unused() {
+            return self.start(range);
+        }
+        let Some(only) = &self.only else {
+            return self.laid.add(range);
+        };
+        let mut laid = self.laid.with_only(only)?;
+        laid.add(range)?;
+        *self = RangeSet { only: None, laid };
+        Ok(())
     }
 
     /// Takes the keys of a range away. It searches the edges once for each end, and writes once for each edge in the range.
@@ -84,8 +112,13 @@ impl RangeSet {
             → covers self.new key ≡ (covers self.old key && not (has range.now key))) }
         ensures err { OnErr result (self.new ≡ self.old) }
     {
-        self.most_edges = more_edges(self.most_edges, 1)?;
-        put(&mut self.members, range, Membership(false))
+        let Some(only) = &self.only else {
+            return self.laid.subtract(range);
+        };
+        let mut laid = self.laid.with_only(only)?;
+        laid.subtract(range)?;
+        *self = RangeSet { only: None, laid };
+        Ok(())
     }
 
     /// Adds the keys of all these ranges, or, after a refusal, of none of them (API reference, "Transaction": conflict
@@ -95,35 +128,49 @@ impl RangeSet {
             → covers self.new key ≡ (covers self.old key || covers ranges.now key)) }
         ensures err { OnErr result ((key : List ℕ) → covers self.new key ≡ covers self.old key) }
     {
-        self.most_edges = more_edges(self.most_edges, ranges.len())?;
-        split_all(&mut self.members, ranges)?;
-        put_all(&mut self.members, ranges, Membership(true));
+        if ranges.len() == 1 {
+            return self.add(&ranges[0]);
+        }
+        let Some(only) = &self.only else {
+            return self.laid.add_all(ranges);
+        };
+        let mut laid = self.laid.with_only(only)?;
+        laid.add_all(ranges)?;
+        *self = RangeSet { only: None, laid };
         Ok(())
     }
 
     /// Whether some key is in the set and in the range. It takes no memory, and at most two searches for each edge in the
-    /// range.
+    /// range; none where one range alone was added.
     pub fn meets(&self, range: &KeyRange) -> bool
         ensures value { result ≡ list_any (λ own. meets own range.now) self.now }
         ensures common { IsTrue result
             ↔ ((key : List ℕ) × IsTrue (covers self.now key && has range.now key)) }
     {
-        any_in(&self.members, range)
+        match &self.only {
+            Some(only) => only.meets(range),
+            None => self.laid.meets(range),
+        }
     }
 
     /// The ranges of the set, in rising order, for a loop over them. It takes no memory.
     pub fn ranges(&self) -> RangesLeft<'_>
         ensures { result ≡ self.now }
     {
-        RangesLeft::new(&self.members, &self.lowest)
+        match &self.only {
+            Some(only) => RangesLeft::one(only, self.laid.no_ranges()),
+            None => RangesLeft::of_edges(self.laid.ranges()),
+        }
     }
 
     /// How many ranges there are. It takes no memory, and walks over them.
     pub fn len(&self) -> usize
         ensures { result ≡ length self.now }
     {
-        self.shows_few();
-        self.ranges().count()
+        match &self.only {
+            Some(_) => 1,
+            None => self.laid.len(),
+        }
     }
 
     /// The range at a place, counted from 0 in rising order: its begin and its end. It takes no memory, and walks over the
@@ -132,24 +179,16 @@ impl RangeSet {
         requires { index < length self.now }
         ensures { slice_get self.now index ≡ Some (range_between result) }
     {
-        let mut left = self.ranges();
-        for _ in 0..index {
-            let _passed = left.next();
+        match &self.only {
+            Some(only) => (&only.begin, &only.end),
+            None => self.laid.get(index),
         }
-        left.next().unwrap()
-    }
-
-    // For proofs: that the number of ranges fits. It does nothing when it runs.
-    fn shows_few(&self)
-        ensures { length self.now < 2 ^ 64 }
-    {
-        let _most = self.most_edges;
     }
 
     /// For proofs: that the ranges are not empty, lie apart and rise. It does nothing when it runs.
     pub fn shows_apart(&self)
         ensures { AreApart self.now }
     {
-        self.members.shows_rising();
+        self.laid.shows_apart();
     }
 }

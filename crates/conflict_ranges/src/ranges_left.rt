@@ -1,44 +1,51 @@
 //! The ranges of a set that a loop has not come to yet.
 
-ghost use Rattle.std.specs.Prelude.{◌≡◌, length};
+ghost use Rattle.std.specs.Prelude.{◌≡◌, [], ◌∷◌, length};
 ghost use Rattle.std.specs.Iterator.{at_most};
 ghost use Rattle.std.specs.Map.Iter.{TakesFirst};
-ghost use Rattle.conflict_ranges.specs.Segments.{range_between, left_from};
+ghost use Rattle.conflict_ranges.specs.Segments.{range_between};
 
-use crate::membership::Membership;
-use edge_map::EdgeMap;
-use key_bytes::Key;
+use crate::edge_ranges_left::EdgeRangesLeft;
+use key_bytes::{Key, KeyRange};
 use std::iter::FusedIterator;
 use std::marker::Model;
 
 /// The ranges that are left, in rising order, each as its begin and its end, for a loop over them. None is copied, and
-/// there are two searches for each edge that is passed. Contracts see the list of these ranges.
+/// there are two searches for each edge that is passed; none where the set has one range, which never had another. Contracts
+/// see the list of these ranges.
 #[derive(Drop)]
 pub struct RangesLeft<'a> {
-    members: &'a EdgeMap<Membership>,
-    begin: Option<&'a Key>,
+    only: Option<&'a KeyRange>,
+    laid: EdgeRangesLeft<'a>,
 }
 
 impl<'a> Model for RangesLeft<'a> {
     ghost use Rattle.std.specs.Prelude.{List};
     ghost use Rattle.std.specs.Option.{option_map};
     ghost use Rattle.key_bytes.specs.declared.range.KeyRange.{KeyRange};
-    ghost use Rattle.conflict_ranges.specs.Segments.{left_at};
+    ghost use Rattle.conflict_ranges.specs.Only.{only_and};
 
     ghost Value = { List KeyRange };
 
-    ghost view = { λ left. left_at left.members.now (option_map (λ key. key.now) left.begin) };
+    ghost view = { λ left. only_and (option_map (λ range. range.now) left.only) left.laid };
 }
 
 impl<'a> RangesLeft<'a> {
-    // The ranges of a set that begin at a key or above it.
-    pub(crate) fn new(members: &'a EdgeMap<Membership>, begin: &'a Key) -> RangesLeft<'a>
-        ensures { result ≡ left_from members.now begin.now }
+    // One range.
+    pub(crate) fn one(only: &'a KeyRange, laid: EdgeRangesLeft<'a>) -> RangesLeft<'a>
+        ensures { result ≡ only.now ∷ laid.entry }
     {
         RangesLeft {
-            members,
-            begin: Some(begin),
+            only: Some(only),
+            laid,
         }
+    }
+
+    // The ranges between edges.
+    pub(crate) fn of_edges(laid: EdgeRangesLeft<'a>) -> RangesLeft<'a>
+        ensures { result ≡ laid.entry }
+    {
+        RangesLeft { only: None, laid }
     }
 }
 
@@ -51,15 +58,10 @@ impl<'a> Iterator for RangesLeft<'a> {
 
     /// The first range that is left, which it takes. It takes no memory.
     fn next(&mut self) -> Option<(&'a Key, &'a Key)> {
-        self.members.shows_rising();
-        while let Some(begin) = self.begin {
-            self.begin = self.members.next(begin);
-            let end = self.begin?;
-            if self.members.at(begin).0 {
-                return Some((begin, end));
-            }
+        match self.only.take() {
+            Some(only) => Some((&only.begin, &only.end)),
+            None => self.laid.next(),
         }
-        None
     }
 }
 

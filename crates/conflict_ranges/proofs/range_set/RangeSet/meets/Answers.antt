@@ -1,27 +1,14 @@
-use Rattle.std.proofs.Common.{sym, ◌∙◌}
-use Rattle.std.proofs.lemmas.Bool.{and_from, and_parts}
-use Rattle.key_bytes.specs.Ranges.{has}
-use Rattle.database_rules.specs.States.{covers}
-use Rattle.conflict_ranges.proofs.Changed.{covers_held}
-use Rattle.conflict_ranges.proofs.Meeting.{same_test, list_any-common, common-list_any}
+use Rattle.std.proofs.Common.{sym, ap, ◌∙◌}
+use Rattle.std.specs.List.{list_any}
+use Rattle.key_bytes.specs.Ranges.{meets}
+use Rattle.conflict_ranges.proofs.Meeting.{common-found}
+use Rattle.conflict_ranges.proofs.Only.{is_only, or_none}
 use Rattle.conflict_ranges.proofs.range_set.RangeSet.meets.Goals as goal
 
-pub returns-clause-value : goal.returns-clause-value
-returns-clause-value c =
-    let own = c.args.self.now in let range = c.args.range.now in
-    let is_held = covers_held c.self.inside.members own c.self.view_is c.self.invariant.sound in
-    same_test c.any_in.result _
-    (λ found. let (key, is_in, member) = c.any_in.ensures.0 found in common-list_any own range key (is_held key ∙ member) is_in)
-    (λ meet. let (key, covered, is_in) = list_any-common own range meet in c.any_in.ensures.1 (key, is_in, sym (is_held key) ∙ covered))
-
-pub returns-clause-common : goal.returns-clause-common
-returns-clause-common c =
-    let own = c.args.self.now in let range = c.args.range.now in
-    let is_held = covers_held c.self.inside.members own c.self.view_is c.self.invariant.sound in (
-      λ found.
-          let (key, is_in, member) = c.any_in.ensures.0 found in
-          (key, and_from (covers own key) (has range key) (is_held key ∙ member) is_in),
-      λ (key, both).
-          let parts = and_parts (covers own key) (has range key) both in
-          c.any_in.ensures.1 (key, parts.1, sym (is_held key) ∙ parts.0),
-    )
+pub returns-in-Some-clause-common : goal.returns-in-Some-clause-common
+returns-in-Some-clause-common c =
+    let only = c.in-Some.only in let own = c.args.self.now in let range = c.args.range.now in
+    common-found own range c.meets.result
+    (c.meets.ensures.value
+    ∙ sym (or_none (meets only range))
+    ∙ ap (list_any (λ own. meets own range)) (sym (is_only c.self.inside.only c.self.inside.laid own only c.self.view_is c.in-Some.is)))

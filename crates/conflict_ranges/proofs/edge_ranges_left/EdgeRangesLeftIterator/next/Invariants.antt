@@ -3,7 +3,7 @@ use Rattle.std.specs.Option.{option_map}
 use Rattle.edge_map.proofs.Held.{IsRising}
 use Rattle.conflict_ranges.specs.Segments.{left_at}
 use Rattle.conflict_ranges.proofs.Segments.{edges_left}
-use Rattle.conflict_ranges.proofs.ranges_left.RangesLeftIterator.next.Given as goal
+use Rattle.conflict_ranges.proofs.edge_ranges_left.EdgeRangesLeftIterator.next.Given as goal
 
 -- what was passed is not in the set
 abbrev pub invariant-loop-self : goal.invariant-loop-self

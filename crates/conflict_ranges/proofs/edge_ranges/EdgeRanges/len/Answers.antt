@@ -1,6 +1,6 @@
 use Rattle.std.proofs.Common.{inl, length, ap, arith}
 use Rattle.std.proofs.lemmas.Iterator.Consumers.{YieldsList-from_rest, count_from_yields_List}
-use Rattle.conflict_ranges.proofs.range_set.RangeSet.len.Goals as goal
+use Rattle.conflict_ranges.proofs.edge_ranges.EdgeRanges.len.Goals as goal
 
 pub count-requires-clause-fits : goal.count-requires-clause-fits
 count-requires-clause-fits c =

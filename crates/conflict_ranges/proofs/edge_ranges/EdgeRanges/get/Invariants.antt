@@ -1,5 +1,5 @@
 use Rattle.std.proofs.Common.{◌≡◌, drop}
-use Rattle.conflict_ranges.proofs.range_set.RangeSet.get.Given as goal
+use Rattle.conflict_ranges.proofs.edge_ranges.EdgeRanges.get.Given as goal
 
 -- the ranges before the counter were passed
 abbrev pub invariant-loop : goal.invariant-loop

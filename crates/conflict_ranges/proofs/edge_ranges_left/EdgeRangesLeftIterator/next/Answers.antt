@@ -6,8 +6,8 @@ use Rattle.edge_map.specs.Edges.{Edges}
 use Rattle.conflict_ranges.specs.declared.membership.Membership.{Membership}
 use Rattle.conflict_ranges.specs.Segments.{left_at, range_between}
 use Rattle.conflict_ranges.proofs.Segments.{edges_left, fewer_edges, left_from-end, left_passed, left_taken}
-use Rattle.conflict_ranges.proofs.ranges_left.RangesLeftIterator.next.Goals as goal
-use Rattle.conflict_ranges.proofs.ranges_left.RangesLeftIterator.next.Goals.{Then-at}
+use Rattle.conflict_ranges.proofs.edge_ranges_left.EdgeRangesLeftIterator.next.Goals as goal
+use Rattle.conflict_ranges.proofs.edge_ranges_left.EdgeRangesLeftIterator.next.Goals.{Then-at}
 
 -- what is left from a place on
 abbrev rest : Edges Membership → Option (Bor (List ℕ)) → List KeyRange

@@ -2,7 +2,7 @@ use Rattle.std.proofs.Common.{◌≡◌, drop, ap, subst, ◌∙◌, arith}
 use Rattle.std.specs.Map.Iter.{TakesFirst}
 use Rattle.conflict_ranges.specs.Segments.{range_between}
 use Rattle.conflict_ranges.proofs.Taken.{passed_one, taken_some, taken_at}
-use Rattle.conflict_ranges.proofs.range_set.RangeSet.get.Goals as goal
+use Rattle.conflict_ranges.proofs.edge_ranges.EdgeRanges.get.Goals as goal
 
 pub loop-preserved : goal.loop-preserved
 loop-preserved c =

@@ -1,6 +1,6 @@
 use Rattle.std.proofs.Common.{length, refl, ap, arith}
 use Rattle.conflict_ranges.proofs.Changed.{sound_new}
-use Rattle.conflict_ranges.proofs.range_set.RangeSet.new.Goals as goal
+use Rattle.conflict_ranges.proofs.edge_ranges.EdgeRanges.new.Goals as goal
 
 pub invariant_of-result : goal.invariant_of-result
 invariant_of-result c = record {

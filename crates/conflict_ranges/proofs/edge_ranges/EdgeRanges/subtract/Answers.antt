@@ -3,7 +3,7 @@ use Rattle.key_bytes.specs.Ranges.{has}
 use Rattle.database_rules.specs.States.{covers}
 use Rattle.conflict_ranges.specs.Segments.{ranges_of}
 use Rattle.conflict_ranges.proofs.Changed.{on_ok_both, covers_fewer}
-use Rattle.conflict_ranges.proofs.range_set.RangeSet.subtract.Goals as goal
+use Rattle.conflict_ranges.proofs.edge_ranges.EdgeRanges.subtract.Goals as goal
 
 pub returns-clause-ok : goal.returns-clause-ok
 returns-clause-ok c =

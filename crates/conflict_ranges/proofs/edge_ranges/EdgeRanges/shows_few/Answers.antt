@@ -1,6 +1,6 @@
 use Rattle.std.proofs.Common.{length, ap, arith}
 use Rattle.conflict_ranges.proofs.Segments.{length-ranges_of}
-use Rattle.conflict_ranges.proofs.range_set.RangeSet.shows_few.Goals as goal
+use Rattle.conflict_ranges.proofs.edge_ranges.EdgeRanges.shows_few.Goals as goal
 
 pub returns : goal.returns
 returns c =

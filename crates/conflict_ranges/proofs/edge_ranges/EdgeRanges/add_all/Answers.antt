@@ -3,7 +3,7 @@ use Rattle.database_rules.specs.States.{covers}
 use Rattle.conflict_ranges.specs.Segments.{ranges_of}
 use Rattle.conflict_ranges.proofs.Changed.{covers_held, covers_more, on_err_always}
 use Rattle.conflict_ranges.proofs.Segments.{covers-ranges_of}
-use Rattle.conflict_ranges.proofs.range_set.RangeSet.add_all.Goals as goal
+use Rattle.conflict_ranges.proofs.edge_ranges.EdgeRanges.add_all.Goals as goal
 
 pub returns-in_err-split_all-clause-err : goal.returns-in_err-split_all-clause-err
 returns-in_err-split_all-clause-err c =

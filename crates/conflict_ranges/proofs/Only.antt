@@ -1,0 +1,18 @@
+-- A set of one range.
+use Rattle.std.proofs.Common.{◌≡◌, Bool, true, false, ◌||◌, ℕ, List, [], ◌∷◌, Option, Some, refl, sym, ap, ◌∙◌}
+use Rattle.key_bytes.specs.declared.range.KeyRange.{KeyRange}
+use Rattle.key_bytes.specs.Ranges.{has}
+use Rattle.database_rules.specs.States.{covers}
+use Rattle.conflict_ranges.specs.Only.{only_or}
+
+pub is_only : (only : Option KeyRange) (laid own : List KeyRange) (range : KeyRange) → only_or only laid ≡ own → only ≡ Some range
+    → own ≡ range ∷ []
+is_only only laid own range view is = sym view ∙ ap (λ only. only_or only laid) is
+
+pub or_none : (t : Bool) → (t || false) ≡ t
+or_none true = refl
+or_none false = refl
+
+-- one range has its keys
+pub covers_only : (own : List KeyRange) (range : KeyRange) → own ≡ range ∷ [] → (key : List ℕ) → covers own key ≡ has range key
+covers_only own range is key = ap (λ ranges. covers ranges key) is ∙ or_none (has range key)
