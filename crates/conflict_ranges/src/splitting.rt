@@ -11,10 +11,10 @@ use key_bytes::Key;
 use std::alloc::AllocError;
 
 // Takes an edge away again that was none before.
-fn join<T: Drop>(edges: &mut EdgeMap<T>, key: &Key, was_edge: bool)
-    ensures { edges.new ≡ (if was_edge then edges.old else without_edge key.now edges.old) }
+fn join<T: Drop>(edges: &mut EdgeMap<T>, key: &Key, is_new: bool)
+    ensures { edges.new ≡ (if is_new then without_edge key.now edges.old else edges.old) }
 {
-    if !was_edge {
+    if is_new {
         edges.remove_edge(key);
     }
 }
@@ -30,15 +30,14 @@ pub(crate) fn split_both<T: Spread + Drop>(
     ensures err { OnErr result (edges.new ≡ edges.old) }
     ensures rising { OnOk result (IsStrictlySortedBy key_cmp (edges_of edges.new)) }
 {
-    let was_edge = edges.has_edge(begin);
-    edges.split(begin)?;
+    let is_new = edges.split(begin)?;
     match edges.split(end) {
-        Ok(()) => {
+        Ok(_) => {
             edges.shows_rising();
             Ok(())
         }
         Err(error) => {
-            join(edges, begin, was_edge);
+            join(edges, begin, is_new);
             Err(error)
         }
     }

@@ -1,3 +1,4 @@
+pub mod Around
 pub mod Edged
 pub mod Held
 pub mod Neighbours

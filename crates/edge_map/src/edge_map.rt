@@ -1,6 +1,6 @@
 //! A map of edges.
 
-ghost use Rattle.std.specs.Prelude.{◌≡◌, true, false, [], IsTrue, MatchOption, OnOk, OnErr};
+ghost use Rattle.std.specs.Prelude.{◌≡◌, true, false, not, [], IsTrue, MatchOption, IfOk, OnOk, OnErr};
 ghost use Rattle.std.specs.BTreeMap.{is_at};
 ghost use Rattle.std.specs.List.{filter};
 ghost use Rattle.std.specs.List.Sorted.{IsStrictlySortedBy};
@@ -41,6 +41,16 @@ impl<T> Model for EdgeMap<T> {
     ghost view = { λ map. record { base = map.base; entries = laid_out map.base map.levels.items map.places.entries } };
 
     ghost invariant = { λ map. HasPlaces (length map.levels.items) map.places.entries };
+}
+
+// The edge of a place.
+fn edge_of<'a>(found: Option<(&'a Bytes, &'a usize)>) -> Option<&'a Key>
+    ensures { option_map (λ edge. edge.now) result ≡ option_map (λ pair. pair.0.now) found.entry }
+{
+    match found {
+        Some((edge, _)) => Some(edge),
+        None => None,
+    }
 }
 
 impl<T> EdgeMap<T> {
@@ -97,6 +107,24 @@ impl<T> EdgeMap<T> {
         }
     }
 
+    /// What a key has, and the first edge above it, if there is one: one search of the edges where the key is an edge itself,
+    /// and else one more. It takes no memory.
+    pub fn around(&self, key: &Key) -> (&T, Option<&Key>)
+        ensures at { result.0.now ≡ held self.now key.now }
+        ensures next { option_map (λ edge. edge.now) result.1
+            ≡ first (filter (key_lt key.now) (edges_of self.now)) }
+    {
+        let mut span = self.places.range(key..);
+        let Some((edge, place)) = span.next() else {
+            return (self.at(key), None);
+        };
+        if edge == key {
+            (&self.levels[*place], edge_of(span.next()))
+        } else {
+            (self.at(key), Some(edge))
+        }
+    }
+
     // What a new edge at a key gets; None where the key is an edge.
     fn new_level(&self, key: &Key) -> Option<T>
     where
@@ -112,21 +140,22 @@ impl<T> EdgeMap<T> {
         }
     }
 
-    /// Makes a key an edge, which gets what is spread of what the key had; where it is an edge already nothing changes.
-    /// After a refusal the map is as it was.
-    pub fn split(&mut self, key: &Key) -> Result<(), AllocError>
+    /// Makes a key an edge, which gets what is spread of what the key had, and answers whether it was none before; where it
+    /// is an edge already nothing changes. After a refusal the map is as it was.
+    pub fn split(&mut self, key: &Key) -> Result<bool, AllocError>
     where
         T: Spread + Drop,
         ensures ok { OnOk result (self.new ≡ with_edge key.now (T.spread (held self.old key.now)) self.old) }
         ensures err { OnErr result (self.new ≡ self.old) }
+        ensures new { IfOk result (λ is_new. is_new ≡ not (is_edge key.now self.old)) }
     {
         let Some(level) = self.new_level(key) else {
-            return Ok(());
+            return Ok(false);
         };
         self.levels.reserve(1)?;
         self.places.insert(key.copy()?, self.levels.len())?;
         self.levels.push(level).unwrap();
-        Ok(())
+        Ok(true)
     }
 
     /// Takes an edge away: keys from it on have what those before it have. It takes no memory.

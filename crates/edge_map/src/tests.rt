@@ -71,7 +71,9 @@ fn is_row(
 ) -> Result<bool, AllocError> {
     let key = key_of(alloc, row.0)?;
     let same = *map.at(&key) == row.1 && map.has_edge(&key) == row.2;
-    Ok(same && texts(map.next(&key)) == row.3 && texts(map.prev(&key)) == row.4)
+    let (number, next) = map.around(&key);
+    let around = *number == row.1 && texts(next) == row.3;
+    Ok(same && around && texts(map.next(&key)) == row.3 && texts(map.prev(&key)) == row.4)
 }
 
 fn first_other_row(alloc: Global) -> Result<Option<usize>, AllocError> {
@@ -87,6 +89,19 @@ fn first_other_row(alloc: Global) -> Result<Option<usize>, AllocError> {
 #[test]
 fn raises_ranges(rt: HostRuntime) -> Result<(), Fail> {
     assert_eq!(rt; first_other_row(rt.alloc())?, None);
+    Ok(())
+}
+
+// Whether a key was no edge before it is made one twice.
+fn split_twice(alloc: Global, text: &[u8]) -> Result<[bool; 2], AllocError> {
+    let mut map = raised(alloc)?;
+    let key = key_of(alloc, text)?;
+    Ok([map.split(&key)?, map.split(&key)?])
+}
+
+#[test]
+fn answers_whether_an_edge_is_new(rt: HostRuntime) -> Result<(), Fail> {
+    assert_eq!(rt; split_twice(rt.alloc(), b"bb")?, [true, false]);
     Ok(())
 }
 

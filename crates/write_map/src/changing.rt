@@ -40,10 +40,10 @@ impl Change<Level> for HideKeys {
 }
 
 // Takes an edge away again that was none before.
-fn join(levels: &mut EdgeMap<Level>, key: &Key, was_edge: bool)
-    ensures { levels.new ≡ (if was_edge then levels.old else without_edge key.now levels.old) }
+fn join(levels: &mut EdgeMap<Level>, key: &Key, is_new: bool)
+    ensures { levels.new ≡ (if is_new then without_edge key.now levels.old else levels.old) }
 {
-    if !was_edge {
+    if is_new {
         levels.remove_edge(key);
     }
 }
@@ -58,15 +58,14 @@ pub(crate) fn split_both(
     ensures err { OnErr result (levels.new ≡ levels.old) }
     ensures rising { OnOk result (IsStrictlySortedBy key_cmp (edges_of levels.new)) }
 {
-    let was_edge = levels.has_edge(begin);
-    levels.split(begin)?;
+    let is_new = levels.split(begin)?;
     match levels.split(end) {
-        Ok(()) => {
+        Ok(_) => {
             levels.shows_rising();
             Ok(())
         }
         Err(error) => {
-            join(levels, begin, was_edge);
+            join(levels, begin, is_new);
             Err(error)
         }
     }
