@@ -2,8 +2,11 @@
 use Rattle.std.proofs.Common.{◌≡◌, Bool, true, false, ◌||◌, ℕ, List, [], ◌∷◌, Option, Some, refl, sym, ap, ◌∙◌}
 use Rattle.key_bytes.specs.declared.range.KeyRange.{KeyRange}
 use Rattle.key_bytes.specs.Ranges.{has}
+use Rattle.key_bytes.specs.Keys.{key_lt}
+use Rattle.key_bytes.proofs.Orders.{lt_le}
 use Rattle.database_rules.specs.States.{covers}
 use Rattle.conflict_ranges.specs.Only.{only_or}
+use Rattle.conflict_ranges.proofs.Between.{from_within, is_within, le_le}
 
 pub is_only : (only : Option KeyRange) (laid own : List KeyRange) (range : KeyRange) → only_or only laid ≡ own → only ≡ Some range
     → own ≡ range ∷ []
@@ -16,3 +19,20 @@ or_none false = refl
 -- one range has its keys
 pub covers_only : (own : List KeyRange) (range : KeyRange) → own ≡ range ∷ [] → (key : List ℕ) → covers own key ≡ has range key
 covers_only own range is key = ap (λ ranges. covers ranges key) is ∙ or_none (has range key)
+
+-- where one range has all keys of another, the other adds none
+pub none_added : (own : List KeyRange) (range other : KeyRange) → own ≡ range ∷ [] → ((key : List ℕ) → has other key ≡ true → has range key ≡ true)
+    → (key : List ℕ) → covers own key ≡ (covers own key || has other key)
+none_added own range other is all key = by_other (has other key) refl
+  where
+    by_other : (t : Bool) → has other key ≡ t → covers own key ≡ (covers own key || t)
+    by_other true there =
+        let covered = covers_only own range is key ∙ all key there in
+        covered ∙ ap (λ s. s || true) (sym covered)
+    by_other false _ = sym (or_none (covers own key))
+
+pub is_within_too : (range other : KeyRange) → key_lt other.begin range.begin ≡ false → key_lt range.end other.end ≡ false
+    → (key : List ℕ) → has other key ≡ true → has range key ≡ true
+is_within_too range other begins ends key is_in =
+    let parts = from_within other.begin other.end key is_in in
+    is_within range.begin range.end key (le_le range.begin other.begin key begins parts.0) (lt_le key other.end range.end parts.1 ends)

@@ -42,6 +42,13 @@ fn copy_of(range: &KeyRange) -> Result<KeyRange, AllocError>
     })
 }
 
+// Whether a range has all keys of another.
+fn has_all(range: &KeyRange, other: &KeyRange) -> bool
+    ensures { IsTrue result → (key : List ℕ) → has other.now key ≡ true → has range.now key ≡ true }
+{
+    !other.begin.cmp(&range.begin).is_lt() && !range.end.cmp(&other.end).is_lt()
+}
+
 impl RangeSet {
     ghost use Rattle.conflict_ranges.specs.Segments.{range_between, AreApart};
 
@@ -99,6 +106,9 @@ impl RangeSet {
         let Some(only) = &self.only else {
             return self.laid.add(range);
         };
+        if has_all(only, range) {
+            return Ok(());
+        }
         let mut laid = self.laid.with_only(only)?;
         laid.add(range)?;
         *self = RangeSet { only: None, laid };
@@ -128,6 +138,9 @@ impl RangeSet {
             → covers self.new key ≡ (covers self.old key || covers ranges.now key)) }
         ensures err { OnErr result ((key : List ℕ) → covers self.new key ≡ covers self.old key) }
     {
+        if ranges.is_empty() {
+            return Ok(());
+        }
         if ranges.len() == 1 {
             return self.add(&ranges[0]);
         }
