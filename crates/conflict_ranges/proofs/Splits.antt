@@ -1,5 +1,5 @@
 -- Edges at the ends of ranges: no key has anything else. And ranges whose keys are given something.
-use Rattle.std.proofs.Common.{◌≡◌, ℕ, suc, ◌+◌, ◌<◌, ◌≤◌, arith, Bool, true, false, cond, ◌||◌, List, [], ◌∷◌, length, get_or, drop, refl, sym, ap, subst, ◌∙◌}
+use Rattle.std.proofs.Common.{◌≡◌, ℕ, suc, ◌+◌, ◌<◌, ◌≤◌, arith, Bool, true, false, cond, not, ◌||◌, List, [], ◌∷◌, length, get_or, drop, refl, sym, ap, subst, ◌∙◌}
 use Rattle.std.proofs.lemmas.List.{at_drop_more}
 use Rattle.std.specs.BTreeMap.{insert_entry}
 use Rattle.std.specs.List.Sorted.{IsStrictlySortedBy}
@@ -22,12 +22,12 @@ module _ {X : Type 0} where
   split_at spread key edges = with_edge key (spread (held edges key)) edges
 
   -- a key that was made an edge is none again
-  pub joined : (spread : X → X) (key : List ℕ) (old half new : Edges X) (was_edge : Bool) → was_edge ≡ is_edge key old
-      → half ≡ split_at spread key old → new ≡ cond was_edge half (without_edge key half) → new ≡ old
-  joined spread key old half new was_edge was split is =
-      is ∙ (λ i. cond (was i) (split i) (without_edge key (split i))) ∙ by_edge (is_edge key old) refl
+  pub joined : (spread : X → X) (key : List ℕ) (old half new : Edges X) (is_new : Bool) → is_new ≡ not (is_edge key old)
+      → half ≡ split_at spread key old → new ≡ cond is_new (without_edge key half) half → new ≡ old
+  joined spread key old half new is_new was split is =
+      is ∙ (λ i. cond (was i) (without_edge key (split i)) (split i)) ∙ by_edge (is_edge key old) refl
     where
-      by_edge : (t : Bool) → is_edge key old ≡ t → cond t (split_at spread key old) (without_edge key (split_at spread key old)) ≡ old
+      by_edge : (t : Bool) → is_edge key old ≡ t → cond (not t) (without_edge key (split_at spread key old)) (split_at spread key old) ≡ old
       by_edge true there = with_edge-there key (spread (held old key)) old there
       by_edge false new = without_new key (spread (held old key)) old new
 

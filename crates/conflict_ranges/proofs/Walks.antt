@@ -1,5 +1,5 @@
 -- A walk over the keys of a range, from edge to edge.
-use Rattle.std.proofs.Common.{◌≡◌, ℕ, max, inl, inr, arith, Bool, true, false, not, List, refl, sym, ap, subst, ◌∙◌, true≢false}
+use Rattle.std.proofs.Common.{◌≡◌, ◌⊎◌, ℕ, max, inl, inr, arith, Bool, true, false, not, List, refl, sym, ap, subst, ◌∙◌, true≢false}
 use Rattle.std.proofs.lemmas.Bool.{cases_lt}
 use Rattle.key_bytes.specs.declared.range.KeyRange.{KeyRange}
 use Rattle.key_bytes.specs.Keys.{key_lt, key_le}
@@ -65,3 +65,10 @@ reached_greater range edges a b greatest is (key, is_in, first) (other, other_in
   | inl above ↦ let same : b ≡ greatest = omega (arith, is, above) in (other, other_in, second ∙ same)
   | inr below ↦ let same : a ≡ greatest = omega (arith, is, below) in (key, is_in, first ∙ same)
 ]
+
+-- the same, where the first number is 0 if no key has it
+pub reached_or : (range : KeyRange) (edges : Edges ℕ) (a b greatest : ℕ) → greatest ≡ max a b → (a ≡ 0) ⊎ IsReached range edges a
+    → IsReached range edges b → (greatest ≡ 0) ⊎ IsReached range edges greatest
+reached_or range edges a b greatest is (inl none) (key, is_in, here) =
+    let same : b ≡ greatest = omega (arith, is, none) in inr (key, is_in, here ∙ same)
+reached_or range edges a b greatest is (inr first) second = inr (reached_greater range edges a b greatest is first second)

@@ -63,9 +63,10 @@ impl<'a> Iterator for EdgeRangesLeft<'a> {
     fn next(&mut self) -> Option<(&'a Key, &'a Key)> {
         self.members.shows_rising();
         while let Some(begin) = self.begin {
-            self.begin = self.members.next(begin);
-            let end = self.begin?;
-            if self.members.at(begin).0 {
+            let (membership, next) = self.members.around(begin);
+            self.begin = next;
+            let end = next?;
+            if membership.0 {
                 return Some((begin, end));
             }
         }

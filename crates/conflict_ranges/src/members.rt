@@ -10,7 +10,7 @@ ghost use Rattle.conflict_ranges.specs.Ends.{HasRoom};
 ghost use Rattle.conflict_ranges.specs.Segments.{IsSound};
 
 use crate::membership::Membership;
-use crate::splitting::{next_within, split_both};
+use crate::splitting::{around_within, split_both};
 use edge_map::EdgeMap;
 use key_bytes::KeyRange;
 use std::alloc::AllocError;
@@ -88,11 +88,14 @@ pub(crate) fn any_in(members: &EdgeMap<Membership>, range: &KeyRange) -> bool
     }
     members.shows_rising();
     let mut from = &range.begin;
-    while !members.at(from).0 {
-        let Some(edge) = next_within(members, from, &range.end) else {
+    loop {
+        let (membership, next) = around_within(members, from, &range.end);
+        if membership.0 {
+            return true;
+        }
+        let Some(edge) = next else {
             return false;
         };
         from = edge;
     }
-    true
 }

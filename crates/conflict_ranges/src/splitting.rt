@@ -3,7 +3,7 @@
 ghost use Rattle.std.specs.Prelude.{◌≡◌, if◌then◌else◌, OnOk, OnErr};
 ghost use Rattle.std.specs.List.Sorted.{IsStrictlySortedBy};
 ghost use Rattle.key_bytes.specs.Keys.{key_cmp};
-ghost use Rattle.edge_map.specs.Edges.{edges_of, without_edge};
+ghost use Rattle.edge_map.specs.Edges.{edges_of, held, without_edge};
 ghost use Rattle.conflict_ranges.specs.Ends.{IsNextWithin, IsSplitAt};
 
 use edge_map::{EdgeMap, Spread};
@@ -43,12 +43,18 @@ pub(crate) fn split_both<T: Spread + Drop>(
     }
 }
 
-// The first edge above a key, if it is below an end. It takes no memory.
-pub(crate) fn next_within<'a, T>(edges: &'a EdgeMap<T>, from: &Key, end: &Key) -> Option<&'a Key>
-    ensures { IsNextWithin from.now end.now edges.now result }
+// What a key has, and the first edge above it, if it is below an end. It takes no memory.
+pub(crate) fn around_within<'a, T>(
+    edges: &'a EdgeMap<T>,
+    from: &Key,
+    end: &Key,
+) -> (&'a T, Option<&'a Key>)
+    ensures at { result.0.now ≡ held edges.now from.now }
+    ensures next { IsNextWithin from.now end.now edges.now result.1 }
 {
-    match edges.next(from) {
-        Some(edge) if edge.cmp(end).is_lt() => Some(edge),
-        _ => None,
+    let (level, next) = edges.around(from);
+    match next {
+        Some(edge) if edge.cmp(end).is_lt() => (level, Some(edge)),
+        _ => (level, None),
     }
 }

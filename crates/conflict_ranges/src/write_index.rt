@@ -8,7 +8,7 @@ ghost use Rattle.conflict_ranges.specs.Ends.{HasRoom};
 ghost use Rattle.conflict_ranges.specs.Writes.{newest_at};
 
 use crate::range_set::RangeSet;
-use crate::splitting::{next_within, split_both};
+use crate::splitting::{around_within, split_both};
 use edge_map::{Change, EdgeMap};
 use key_bytes::{Key, KeyRange};
 use std::alloc::{AllocError, Global};
@@ -75,12 +75,15 @@ impl WriteIndex {
         }
         self.versions.shows_rising();
         let mut from = begin;
-        let mut newest = *self.versions.at(from);
-        while let Some(edge) = next_within(&self.versions, from, end) {
-            newest = newest.max(*self.versions.at(edge));
+        let mut newest: u64 = 0;
+        loop {
+            let (version, next) = around_within(&self.versions, from, end);
+            newest = newest.max(*version);
+            let Some(edge) = next else {
+                return newest;
+            };
             from = edge;
         }
-        newest
     }
 
     /// Makes the ends of the ranges edges, so that `install` needs no memory. Each key keeps its version, after a refusal

@@ -1,7 +1,8 @@
-use Rattle.std.proofs.Common.{◌≡◌, false, sym, ap, ◌∙◌, true≢false}
+use Rattle.std.proofs.Common.{◌≡◌, false, sym, ap, subst, ◌∙◌, true≢false}
 use Rattle.std.proofs.lemmas.Bool.{false≢true, not-true, not-false}
 use Rattle.key_bytes.specs.Keys.{key_lt}
 use Rattle.conflict_ranges.specs.declared.membership.Membership.{Membership}
+use Rattle.conflict_ranges.specs.Ends.{IsNextWithin}
 use Rattle.edge_map.proofs.Edged.{within_backward}
 use Rattle.conflict_ranges.proofs.Segments.{fewer_edges}
 use Rattle.conflict_ranges.proofs.Walks.{passed_none, passed_next}
@@ -19,18 +20,21 @@ returns-then-is_empty c =
           (not-true (key_lt range.begin range.end) (sym c.is_empty.ensures ∙ c.if-is_empty.true)))),
     )
 
-pub loop-from-init : goal.loop-from-init
-loop-from-init c =
+pub loop-next-init : goal.loop-next-init
+loop-next-init c =
     let range = c.args.range.now in
     passed_none IsOut range c.args.members.now
     (not-false (key_lt range.begin range.end) (sym c.is_empty.ensures ∙ c.if-is_empty.false))
 
-pub loop-from-smaller : goal.loop-from-smaller
-loop-from-smaller c =
-    fewer_edges c.args.members.now c.loop-from.from.now c.in-Some.edge.now c.shows_rising.ensures (c.in-Some.ensures {u = tt}).next
+pub loop-next-smaller : goal.loop-next-smaller
+loop-next-smaller c =
+    let members = c.args.members.now in let from = c.loop-next.from.now in
+    let next = subst (IsNextWithin from c.args.range.now.end members) c.in-Some.is c.around_within.ensures.next in
+    fewer_edges members from c.in-Some.edge.now c.shows_rising.ensures next.next
 
-pub loop-from-preserved : goal.loop-from-preserved
-loop-from-preserved c =
-    passed_next IsOut c.args.range.now c.args.members.now c.loop-from.from.now c.loop-from.invariant
-    (sym (ap (λ membership. membership.0) c.at.ensures) ∙ c.loop-from-test.true)
-    c.in-Some.edge.now (c.in-Some.ensures {u = tt})
+pub loop-next-preserved : goal.loop-next-preserved
+loop-next-preserved c =
+    let members = c.args.members.now in let from = c.loop-next.from.now in let range = c.args.range.now in
+    passed_next IsOut range members from c.loop-next.invariant
+    (sym (ap (λ membership. membership.0) c.around_within.ensures.at) ∙ c.if-membership.false)
+    c.in-Some.edge.now (subst (IsNextWithin from range.end members) c.in-Some.is c.around_within.ensures.next)

@@ -6,8 +6,8 @@ use Rattle.conflict_ranges.proofs.Walks.{HasPassed}
 use Rattle.conflict_ranges.proofs.members.any_in.Given as goal
 
 -- the keys that were passed are not in the set
-abbrev pub invariant-loop-from : goal.invariant-loop-from
-invariant-loop-from l = HasPassed (λ membership. membership.0 ≡ false) l.range l.members l.from
+abbrev pub invariant-loop-next : goal.invariant-loop-next
+invariant-loop-next l = HasPassed (λ membership. membership.0 ≡ false) l.range l.members l.from
 
-abbrev pub decreases-loop-from : goal.decreases-loop-from
-decreases-loop-from l = length (filter (key_lt l.from) (edges_of l.members))
+abbrev pub decreases-loop-next : goal.decreases-loop-next
+decreases-loop-next l = length (filter (key_lt l.from) (edges_of l.members))

@@ -1,17 +1,16 @@
-use Rattle.std.proofs.Common.{◌≤◌, length}
+use Rattle.std.proofs.Common.{◌≡◌, ◌≤◌, ◌⊎◌, length}
 use Rattle.std.specs.List.{filter}
 use Rattle.key_bytes.specs.Keys.{key_lt}
 use Rattle.database_rules.specs.States.{range_from}
-use Rattle.edge_map.specs.Edges.{held, edges_of}
+use Rattle.edge_map.specs.Edges.{edges_of}
 use Rattle.conflict_ranges.proofs.Walks.{HasPassed, IsReached}
 use Rattle.conflict_ranges.proofs.write_index.WriteIndex.newest_between.Given as goal
 
--- the newest version of the keys that were passed and of the one that the walk came to, and a key that has it
+-- the newest version of the keys that were passed, and a key that has it, unless it is 0
 abbrev pub invariant-loop-edge : goal.invariant-loop-edge
 invariant-loop-edge l = record {
   passed : HasPassed (λ version. version ≤ l.newest) (range_from l.fn.begin l.fn.end) l.self-inside.versions l.from;
-  here : held l.self-inside.versions l.from ≤ l.newest;
-  reached : IsReached (range_from l.fn.begin l.fn.end) l.self-inside.versions l.newest;
+  reached : (l.newest ≡ 0) ⊎ IsReached (range_from l.fn.begin l.fn.end) l.self-inside.versions l.newest;
 }
 
 abbrev pub decreases-loop-edge : goal.decreases-loop-edge
