@@ -117,8 +117,8 @@ impl EdgeRanges {
         Ok(())
     }
 
-    // Whether some key is in the set and in the range. It takes no memory, and at most two searches for each edge in the
-    // range.
+    // Whether some key is in the set and in the range. It takes no memory, and one search for each edge in the range that
+    // it comes to, with one more for the begin.
     pub(crate) fn meets(&self, range: &KeyRange) -> bool
         ensures value { result ≡ list_any (λ own. meets own range.now) self.now }
         ensures common { IsTrue result

@@ -12,7 +12,7 @@ use std::iter::FusedIterator;
 use std::marker::Model;
 
 // The ranges that are left, in rising order, each as its begin and its end, for a loop over them. None is copied, and
-// there are two searches for each edge that is passed. Contracts see the list of these ranges.
+// there is one search for each edge that is passed. Contracts see the list of these ranges.
 #[derive(Drop)]
 pub(crate) struct EdgeRangesLeft<'a> {
     members: &'a EdgeMap<Membership>,

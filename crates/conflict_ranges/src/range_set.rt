@@ -11,11 +11,12 @@ use key_bytes::{Key, KeyRange};
 use std::alloc::{AllocError, Global};
 use std::marker::Model;
 
-/// A set of keys. Contracts see its ranges in rising order: they are what lies between one edge and the next and is in the
-/// set, so they are not empty and lie apart. Which keys the set has is `covers` of them.
+/// A set of keys. Contracts see its ranges in rising order: its only one, or what lies between one edge and the next and is
+/// in the set, so they are not empty and lie apart. Which keys the set has is `covers` of them. Until a second range comes
+/// the set takes no memory but for copies of the two ends, and no search.
 #[derive(Drop)]
 pub struct RangeSet {
-    // The only range that was added, which needs no edge and no search. While there is one, the edges say nothing.
+    // The only range that was added. While there is one, the edges say nothing.
     only: Option<KeyRange>,
     laid: EdgeRanges,
 }
@@ -92,9 +93,9 @@ impl RangeSet {
         Ok(())
     }
 
-    /// Adds the keys of a range. The first one is kept as it is, with no search; with others it searches the edges once for
-    /// each end, and writes once for each edge in the range. After a refusal the set is as it was (API reference,
-    /// "Transaction": conflict ranges).
+    /// Adds the keys of a range. The first one is kept in place, with no search. A second one makes edges of the ends of
+    /// both, unless the first has all its keys; from then on it searches the edges once for each end, and writes once for
+    /// each edge in the range. After a refusal the set is as it was (API reference, "Transaction": conflict ranges).
     pub fn add(&mut self, range: &KeyRange) -> Result<(), AllocError>
         ensures ok { OnOk result ((key : List ℕ)
             → covers self.new key ≡ (covers self.old key || has range.now key)) }
@@ -115,8 +116,9 @@ impl RangeSet {
         Ok(())
     }
 
-    /// Takes the keys of a range away. It searches the edges once for each end, and writes once for each edge in the range.
-    /// After a refusal the set is as it was (API reference, "Transaction": conflict ranges).
+    /// Takes the keys of a range away. It makes edges of the ends of a range in place, searches the edges once for each end,
+    /// and writes once for each edge in the range. After a refusal the set is as it was (API reference, "Transaction":
+    /// conflict ranges).
     pub fn subtract(&mut self, range: &KeyRange) -> Result<(), AllocError>
         ensures ok { OnOk result ((key : List ℕ)
             → covers self.new key ≡ (covers self.old key && not (has range.now key))) }
@@ -153,8 +155,8 @@ impl RangeSet {
         Ok(())
     }
 
-    /// Whether some key is in the set and in the range. It takes no memory, and at most two searches for each edge in the
-    /// range; none where one range alone was added.
+    /// Whether some key is in the set and in the range. It takes no memory, and one search for each edge in the range that
+    /// it comes to, with one more for the begin; none where the set keeps its range in place.
     pub fn meets(&self, range: &KeyRange) -> bool
         ensures value { result ≡ list_any (λ own. meets own range.now) self.now }
         ensures common { IsTrue result

@@ -11,10 +11,11 @@ use std::iter::FusedIterator;
 use std::marker::Model;
 
 /// The ranges that are left, in rising order, each as its begin and its end, for a loop over them. None is copied, and
-/// there are two searches for each edge that is passed; none where the set has one range, which never had another. Contracts
-/// see the list of these ranges.
+/// there is one search for each edge that is passed; none where the set keeps its range in place. Contracts see the list of
+/// these ranges.
 #[derive(Drop)]
 pub struct RangesLeft<'a> {
+    // The range in place of its set, until it is taken; then, or where there is none, those between the edges are left.
     only: Option<&'a KeyRange>,
     laid: EdgeRangesLeft<'a>,
 }
@@ -31,7 +32,7 @@ impl<'a> Model for RangesLeft<'a> {
 }
 
 impl<'a> RangesLeft<'a> {
-    // One range.
+    // The range in place of its set, and then what is left between the edges.
     pub(crate) fn one(only: &'a KeyRange, laid: EdgeRangesLeft<'a>) -> RangesLeft<'a>
         ensures { result ≡ only.now ∷ laid.entry }
     {
@@ -41,7 +42,7 @@ impl<'a> RangesLeft<'a> {
         }
     }
 
-    // The ranges between edges.
+    // What is left between the edges.
     pub(crate) fn of_edges(laid: EdgeRangesLeft<'a>) -> RangesLeft<'a>
         ensures { result ≡ laid.entry }
     {

@@ -96,6 +96,42 @@ fn lists_its_ranges(rt: HostRuntime) -> Result<(), Fail> {
     Ok(())
 }
 
+// Two ranges that are added one after the other, and the ranges of the set then.
+const PAIRS: &[(&[u8], &[u8], &[u8], &[u8], &[u8])] = &[
+    (b"c", b"e", b"b", b"b", b"c-e "),
+    (b"c", b"e", b"c", b"d", b"c-e "),
+    (b"b", b"b", b"c", b"e", b"c-e "),
+    (b"e", b"c", b"d", b"b", b""),
+    (b"c", b"e", b"e", b"f", b"c-e e-f "),
+    (b"c", b"e", b"b", b"c", b"b-c c-e "),
+    (b"c", b"e", b"f", b"g", b"c-e f-g "),
+    (b"c", b"e", b"", b"a", b"-a c-e "),
+    (b"c", b"e", b"d", b"f", b"c-d d-e e-f "),
+    (b"c", b"e", b"b", b"f", b"b-c c-e e-f "),
+];
+
+// The first pair after which the set has other ranges, walked over or by their places.
+fn first_other_pair(alloc: Global) -> Result<Option<usize>, AllocError> {
+    for (place, (begin, end, then_begin, then_end, ranges)) in PAIRS.iter().enumerate() {
+        let mut set = RangeSet::new(alloc);
+        set.add(&range_of(alloc, *begin, *end)?)?;
+        set.add_all(&[range_of(alloc, *then_begin, *then_end)?])?;
+        if shown(alloc, &set)?.as_slice() != *ranges {
+            return Ok(Some(place));
+        }
+        if shown_by_place(alloc, &set)?.as_slice() != *ranges {
+            return Ok(Some(place));
+        }
+    }
+    Ok(None)
+}
+
+#[test]
+fn adds_a_second_range(rt: HostRuntime) -> Result<(), Fail> {
+    assert_eq!(rt; first_other_pair(rt.alloc())?, None);
+    Ok(())
+}
+
 // ---- which version last declared each key
 
 // Gives the keys of a range a version.
@@ -258,12 +294,17 @@ fn is_set_alike(
     Ok(set.is_empty() == (greatest_plain(plain, 0, KEYS) == 0))
 }
 
-// The first of 400 changes after which a set and the plain list differ.
+// The first of 400 changes after which a set and the plain list differ. Each eighth begins with new ones, so that changes
+// of a set with one range come often.
 fn first_set_apart(alloc: Global) -> Result<Option<u64>, AllocError> {
     let mut dice = Dice { state: 7 };
     let mut set = RangeSet::new(alloc);
     let mut plain = new_plain(alloc)?;
     for step in 0..400 {
+        if step % 8 == 0 {
+            set = RangeSet::new(alloc);
+            plain = new_plain(alloc)?;
+        }
         change_set(alloc, &mut set, &mut plain, &mut dice)?;
         if !is_set_alike(alloc, &set, &plain, &mut dice)? {
             return Ok(Some(step));

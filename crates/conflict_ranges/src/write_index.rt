@@ -54,8 +54,8 @@ impl WriteIndex {
         }
     }
 
-    /// The newest version that a key of the range has; 0 where the range is empty. It takes no memory, and two searches for
-    /// each edge in the range.
+    /// The newest version that a key of the range has; 0 where the range is empty. It takes no memory, and one search for
+    /// each edge in the range, with at most two for the begin.
     pub fn newest_in(&self, range: &KeyRange) -> u64
         ensures above { (key : List ℕ) → has range.now key ≡ true → newest_at self.now key ≤ result }
         ensures reached { (result ≡ 0)
