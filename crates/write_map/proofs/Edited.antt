@@ -1,15 +1,20 @@
--- The list of operations of one edge grows.
-use Rattle.std.proofs.Common.{◌≡◌, ℕ, Bool, true, List, refl, ap, ◌∙◌}
+-- One edge changes: its list of operations grows, or it gets another state.
+use Rattle.std.proofs.Common.{◌≡◌, ℕ, Bool, true, false, cond, List, [], ◌∷◌, Option, None, Some, is_some, refl, sym, ap, subst, ◌∙◌}
+use Rattle.std.proofs.lemmas.Bool.{false≢true}
 use Rattle.std.specs.BTreeMap.{is_at}
+use Rattle.std.specs.List.Sorted.{IsStrictlySortedBy}
+use Rattle.std.specs.Map.{keys_of, lookup}
+use Rattle.std.specs.Option.{option_map}
 use Rattle.key_bytes.specs.Keys.{key_cmp, after}
 use Rattle.database_rules.specs.declared.AtomicOp.{AtomicOp}
 use Rattle.database_rules.specs.States.{after_atomic}
-use Rattle.edge_map.specs.Edges.{Edges, held, is_edge, changed}
+use Rattle.edge_map.specs.Edges.{Edges, held, is_edge, changed, changed_entries}
 use Rattle.edge_map.proofs.Edged.{changed_back, changed_twice}
-use Rattle.edge_map.proofs.Held.{IsRising}
+use Rattle.edge_map.proofs.Held.{IsRising, held-at}
 use Rattle.write_map.specs.declared.level.Level.{Level}
+use Rattle.write_map.specs.declared.level.State.{State}
 use Rattle.write_map.specs.Pending.{is_single_state}
-use Rattle.write_map.specs.Levels.{state_of, AreSingle, IsEdited}
+use Rattle.write_map.specs.Levels.{hidden, state_of, with_state, AreSingle, IsEdited}
 use Rattle.write_map.proofs.Splits.{IsSplit}
 
 -- what was taken out of an edge is put back, after it changed
@@ -41,3 +46,49 @@ pub is_split_already : (key : List ℕ) (levels : Edges Level) → AreSingle lev
 is_split_already key levels single alone =
     let edges = single key alone in
     record { base = refl; same = λ k. refl; kept = λ q there. there; begins = edges.0; ends = edges.1 }
+
+-- ---- an edge gets another state
+
+module _ (key : List ℕ) where
+  found_given : {X : Type 0} (x : X) (es : List (List ℕ × X))
+      → lookup (is_at (key_cmp key)) (changed_entries (is_at (key_cmp key)) (λ _. x) es)
+      ≡ option_map (λ _. x) (lookup (is_at (key_cmp key)) es)
+  found_given x [] = refl
+  found_given x (e ∷ es) = elim (is_at (key_cmp key) e.0)
+      as (λ t. cond t (Some (cond t x e.1)) (lookup (is_at (key_cmp key)) (changed_entries (is_at (key_cmp key)) (λ _. x) es))
+      ≡ option_map (λ _. x) (cond t (Some e.1) (lookup (is_at (key_cmp key)) es))) [ true ↦ refl | false ↦ found_given x es ]
+
+  some_given : {X : Type 0} (x : X) (o : Option X) → is_some o ≡ true → option_map (λ _. x) o ≡ Some x
+  some_given x None there = absurd (false≢true there)
+  some_given x (Some y) there = refl
+
+  keys_given : {X : Type 0} (x : X) (es : List (List ℕ × X)) → keys_of (changed_entries (is_at (key_cmp key)) (λ _. x) es) ≡ keys_of es
+  keys_given x [] = refl
+  keys_given x (e ∷ es) = ap (λ keys. e.0 ∷ keys) (keys_given x es)
+
+  -- an edge has what it is given
+  held_given : (level : Level) (levels : Edges Level) → IsRising levels.entries → is_edge key levels ≡ true
+      → held (changed (is_at (key_cmp key)) (λ _. level) levels) key ≡ level
+  held_given level levels rising there =
+      held-at levels.base level (changed_entries (is_at (key_cmp key)) (λ _. level) levels.entries) key
+      (subst (IsStrictlySortedBy key_cmp) (sym (keys_given level levels.entries)) rising)
+      (found_given level levels.entries ∙ some_given level (lookup (is_at (key_cmp key)) levels.entries) there)
+
+  -- an unreadable edge that was given a state is made unreadable again
+  pub hidden_again : (state : State) (old given back new : Edges Level) (level before taken last : Level) → IsRising old.entries
+      → is_edge key old ≡ true → level ≡ record { state = state; is_unreadable = false }
+      → given ≡ changed (is_at (key_cmp key)) (λ _. level) old → before ≡ held old key
+      → back ≡ changed (is_at (key_cmp key)) (λ _. before) given → taken ≡ held given key
+      → new ≡ changed (is_at (key_cmp key)) (λ _. last) back → last ≡ hidden taken → before.is_unreadable ≡ true
+      → new ≡ changed (is_at (key_cmp key)) (λ _. with_state state (held old key)) old
+  hidden_again state old given back new level before taken last rising there is first was second took third made hides =
+      let now : taken ≡ level = took ∙ ap (λ levels. held levels key) first ∙ held_given level old rising there in
+      third
+      ∙ ap (changed (is_at (key_cmp key)) (λ _. last)) second
+      ∙ changed_twice (is_at (key_cmp key)) before last given
+      ∙ ap (changed (is_at (key_cmp key)) (λ _. last)) first
+      ∙ changed_twice (is_at (key_cmp key)) level last old
+      ∙ ap (λ level. changed (is_at (key_cmp key)) (λ _. level) old)
+      (made
+      ∙ ap hidden (now ∙ is)
+      ∙ ap (λ (flag : Bool). record { state = state; is_unreadable = flag }) (sym (sym (ap (λ level. level.is_unreadable) was) ∙ hides)))

@@ -1,5 +1,5 @@
 -- Two keys are made edges: no key has anything else.
-use Rattle.std.proofs.Common.{◌≡◌, ℕ, Bool, true, false, cond, List, Some, None, refl, sym, ap, ◌∙◌, true≢false}
+use Rattle.std.proofs.Common.{◌≡◌, ℕ, Bool, true, false, cond, not, List, Some, None, refl, sym, ap, ◌∙◌, true≢false}
 use Rattle.key_bytes.specs.Keys.{after}
 use Rattle.edge_map.specs.Edges.{Edges, held, is_edge, without_edge}
 use Rattle.edge_map.proofs.Edged.{edge_made, edge_kept, base-with_edge, without_new, with_edge-there}
@@ -67,9 +67,9 @@ is_split begin end old new single is =
 
 -- a key that was made an edge is none again
 pub joined : (key : List ℕ) (old : Edges Level)
-    → cond (is_edge key old) (split_at key old) (without_edge key (split_at key old)) ≡ old
+    → cond (not (is_edge key old)) (without_edge key (split_at key old)) (split_at key old) ≡ old
 joined key old = by_edge (is_edge key old) refl
   where
-    by_edge : (t : Bool) → is_edge key old ≡ t → cond t (split_at key old) (without_edge key (split_at key old)) ≡ old
+    by_edge : (t : Bool) → is_edge key old ≡ t → cond (not t) (without_edge key (split_at key old)) (split_at key old) ≡ old
     by_edge true there = with_edge-there key (spread (held old key)) old there
     by_edge false new = without_new key (spread (held old key)) old new

@@ -71,18 +71,23 @@ pub(crate) fn split_both(
     }
 }
 
-// Gives an edge another state.
+// Gives an edge another state: one search of the edges, and two more where it is unreadable, and stays so.
 pub(crate) fn set_state(levels: &mut EdgeMap<Level>, key: &Key, state: State)
     requires { IsTrue (is_edge key.now levels.old) }
     ensures { levels.new
         ≡ changed (is_at (key_cmp key.now)) (λ _. with_state state (held levels.old key.now)) levels.old }
 {
-    let is_unreadable = levels.at(key).is_unreadable;
+    levels.shows_rising();
     let level = Level {
         state,
-        is_unreadable,
+        is_unreadable: false,
     };
-    let _before = levels.replace(key, level);
+    let before = levels.replace(key, level);
+    if before.is_unreadable {
+        let mut taken = levels.replace(key, before);
+        taken.is_unreadable = true;
+        let _before = levels.replace(key, taken);
+    }
 }
 
 // Adds an operation to the list of operations that an edge has. After a refusal the levels are as they were.

@@ -14,7 +14,11 @@ fn range_of(alloc: Global, begin: &[u8], end: &[u8]) -> Result<KeyRange, AllocEr
 // What the mutations make of a key: `unmodified`, `absent`, `=` and the value, each operation as a letter and its operand,
 // or `unreadable`.
 fn shown(alloc: Global, map: &WriteMap, key: &Key) -> Result<Bytes, AllocError> {
-    match map.at(key) {
+    state_text(alloc, map.at(key))
+}
+
+fn state_text(alloc: Global, state: KeyState<'_>) -> Result<Bytes, AllocError> {
+    match state {
         KeyState::Unmodified => Bytes::from_slice(alloc, b"unmodified"),
         KeyState::Decided(None) => Bytes::from_slice(alloc, b"absent"),
         KeyState::Decided(Some(value)) => value_text(alloc, value),
@@ -133,7 +137,9 @@ fn is_row(
 ) -> Result<bool, AllocError> {
     let key = Bytes::from_slice(alloc, row.0)?;
     let same = shown(alloc, map, &key)?.as_slice() == row.1;
-    Ok(same && is_edge(map.next_edge(&key), row.2) && is_edge(map.prev_edge(&key), row.3))
+    let (state, edge) = map.around(&key);
+    let around = state_text(alloc, state)?.as_slice() == row.1 && is_edge(edge, row.2);
+    Ok(same && around && is_edge(map.next_edge(&key), row.2) && is_edge(map.prev_edge(&key), row.3))
 }
 
 // The first row that the map with one mutation of each kind differs from.

@@ -120,6 +120,23 @@ impl WriteMap {
         self.levels.next(key)
     }
 
+    /// What the mutations make of a key, as `at` gives it, and the first edge above it, as `next_edge` gives it: one search of
+    /// the edges where the key is an edge itself, and else one more. It takes no memory.
+    pub fn around(&self, key: &Key) -> (KeyState<'_>, Option<&Key>)
+        ensures state { IsStateUnder self.now.mutations key.now result.0 }
+        ensures edge { option_map (λ edge. edge.now) result.1
+            ≡ first (filter (key_lt key.now) self.now.edges) }
+        ensures alike { (asked : List ℕ) → key_le key.now asked ≡ true
+            → IsBelowEdge asked (option_map (λ edge. edge.now) result.1)
+            → AreAlike self.now.mutations key.now asked }
+        ensures single { is_single_state (state_under self.now.mutations key.now) ≡ true
+            → option_map (λ edge. edge.now) result.1 ≡ Some (after key.now) }
+    {
+        self.levels.shows_rising();
+        let (level, edge) = self.levels.around(key);
+        (level.shown(), edge)
+    }
+
     /// The last edge below a key: from it on all keys below this one are alike. None where no key below this one has a
     /// mutation. It takes no memory.
     pub fn prev_edge(&self, key: &Key) -> Option<&Key>
@@ -137,7 +154,8 @@ impl WriteMap {
         self.levels.prev(key)
     }
 
-    // Adds a mutation of one key, after which it has this state. After a refusal the map is as it was.
+    // Adds a mutation of one key, after which it has this state. It searches the edges five times at most, and twice more
+    // where the key is unreadable. After a refusal the map is as it was.
     fn put(&mut self, mutation: Mutation, key: &Key, state: State) -> Result<(), AllocError>
         requires one { IsOn key.now (mutation_of mutation) }
         requires state { state_of state ≡ state_after (mutation_of mutation) key.now (state_under self.old.mutations key.now) }
@@ -178,7 +196,7 @@ impl WriteMap {
         self.put(Mutation::Clear { key: own }, &key, State::Decided(None))
     }
 
-    /// Clears the keys of a range: one mutation more. It searches the edges once for each end, and writes once for each edge
+    /// Clears the keys of a range: one mutation more. It searches the edges five times at most, and writes once for each edge
     /// in the range. After a refusal the map is as it was (API reference, "fdb_transaction_clear_range").
     pub fn clear_range(&mut self, range: &KeyRange) -> Result<(), AllocError>
         ensures added { OnOk result (self.new.mutations

@@ -8,8 +8,8 @@ pub returns-in-Err-clause-err : goal.returns-in-Err-clause-err
 returns-in-Err-clause-err c =
     let begin = c.args.begin.now in
     c.join.ensures
-    ∙ ap (λ levels. cond c.has_edge-was_edge.result levels (without_edge begin levels))
-    ((c.in-Err.ensures {u = tt}).err ∙ c.in_ok-split.ensures.ok)
-    ∙ ap (λ t. cond t (split_at begin c.args.levels.now) (without_edge begin (split_at begin c.args.levels.now)))
-    c.has_edge-was_edge.ensures
+    ∙ ap (λ levels. cond c.in_ok-is_new.is_new (without_edge begin levels) levels)
+    ((c.in-Err.ensures {u = tt}).err ∙ c.in_ok-is_new.ensures.ok)
+    ∙ ap (λ t. cond t (without_edge begin (split_at begin c.args.levels.now)) (split_at begin c.args.levels.now))
+    c.in_ok-is_new.ensures.new
     ∙ joined begin c.args.levels.now
