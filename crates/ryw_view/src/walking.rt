@@ -46,13 +46,19 @@ impl<'a> View<'a> {
         }
     }
 
-    // The first pair from a key on, in the segment up to the edge above it.
-    fn first_in(&self, from: &Key, edge: Option<&Key>) -> Result<Option<Pair>, AllocError>
-        requires { IsSegment self.now.edits.now.mutations from.now from.now false (option_copied edge) }
+    // The first pair from a key in this state on, in the segment up to the edge above it.
+    fn first_in(
+        &self,
+        from: &Key,
+        state: KeyState<'_>,
+        edge: Option<&Key>,
+    ) -> Result<Option<Pair>, AllocError>
+        requires state { IsStateUnder self.now.edits.now.mutations from.now state }
+        requires segment { IsSegment self.now.edits.now.mutations from.now from.now false (option_copied edge) }
         ensures { IfOk result (λ pair. IsFirstMet (seen_of self.now) from.now false (option_copied edge.entry)
             (option_map entry_of pair)) }
     {
-        match self.edits.at(from) {
+        match state {
             KeyState::Unmodified => copied(self.first_stored(from, edge)),
             state => self.pair_in(from, state),
         }
@@ -76,13 +82,16 @@ impl<'a> OrderedView for View<'a> {
 
     fn next(&self, key: &Key) -> Result<Option<Pair>, AllocError> {
         let mut from = key;
-        while let Some(edge) = self.edits.next_edge(from) {
-            if let Some(pair) = self.first_in(from, Some(edge))? {
+        loop {
+            let (state, edge) = self.edits.around(from);
+            if let Some(pair) = self.first_in(from, state, edge)? {
                 return Ok(Some(pair));
             }
+            let Some(edge) = edge else {
+                return Ok(None);
+            };
             from = edge;
         }
-        self.first_in(from, None)
     }
 
     fn prev(&self, key: &Key) -> Result<Option<Pair>, AllocError> {

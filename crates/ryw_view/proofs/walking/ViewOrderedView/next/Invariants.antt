@@ -6,9 +6,9 @@ use Rattle.ryw_view.proofs.Passed.{HasPassed}
 use Rattle.ryw_view.proofs.walking.ViewOrderedView.next.Given as goal
 
 -- the view has no key that the walk passed
-abbrev pub invariant-loop-edge : goal.invariant-loop-edge
-invariant-loop-edge l = HasPassed (seen_of l.self) l.key l.from false
+abbrev pub invariant-loop-pair : goal.invariant-loop-pair
+invariant-loop-pair l = HasPassed (seen_of l.self) l.key l.from false
 
 -- the edges above
-abbrev pub decreases-loop-edge : goal.decreases-loop-edge
-decreases-loop-edge l = length (filter (key_lt l.from) l.self.edits.now.edges)
+abbrev pub decreases-loop-pair : goal.decreases-loop-pair
+decreases-loop-pair l = length (filter (key_lt l.from) l.self.edits.now.edges)
