@@ -27,10 +27,15 @@ struct Session {
 }
 
 fn new_session(alloc: Global) -> Session {
+    new_session_over(alloc, WriteIndex::new(alloc))
+}
+
+// The same over an index.
+fn new_session_over(alloc: Global, index: WriteIndex) -> Session {
     Session {
         alloc,
         store: Store::new(alloc),
-        index: WriteIndex::new(alloc),
+        index,
         txn: Txn::new(alloc, 0),
         other: Txn::new(alloc, 1),
     }
@@ -125,6 +130,15 @@ fn spelled(alloc: Global, ranges: &RangeSet) -> Result<Vec<u8>, AllocError> {
 }
 
 impl Session {
+    // The first transaction on the store.
+    fn on(&mut self) -> TxnOn<'_> {
+        TxnOn {
+            txn: &mut self.txn,
+            store: &self.store,
+            index: &self.index,
+        }
+    }
+
     // A test commits fewer than a thousand times.
     fn answer(&mut self, call: &TxnCall) -> Result<Answer, AllocError> {
         if self.store.last() >= 1_000 {
@@ -175,20 +189,29 @@ impl Session {
         spelled(self.alloc, self.txn.read_ranges())
     }
 
+    fn is_resting_on(&self, wanted: &[u8]) -> Result<bool, AllocError> {
+        Ok(self.rests()?.as_slice() == wanted)
+    }
+
     // The keys that it declares to write.
     fn declares(&mut self) -> Result<Vec<u8>, AllocError> {
-        let on = TxnOn {
-            txn: &mut self.txn,
-            store: &self.store,
-            index: &self.index,
-        };
-        let ranges = on.write_ranges(STAMP)?;
+        let ranges = self.on().write_ranges(STAMP)?;
         spelled(self.alloc, &ranges)
+    }
+
+    fn is_declaring(&mut self, wanted: &[u8]) -> Result<bool, AllocError> {
+        Ok(self.declares()?.as_slice() == wanted)
     }
 
     // A transaction of the next life, at the last version.
     fn begin_anew(&mut self) {
         self.txn = Txn::at_last(self.alloc, 1, &self.store);
+    }
+
+    // The same. Whether the last version is this one.
+    fn begins_anew(&mut self, version: u64) -> bool {
+        self.begin_anew();
+        self.store.last() == version
     }
 
     // Whether a row holds.
@@ -198,12 +221,9 @@ impl Session {
             Row::Pairs(say, wanted) => self.is_read(say, wanted),
             Row::Snapshot(say, wanted) => self.is_answered(say, true, wanted),
             Row::Other(say, wanted) => self.is_answered_beside(say, wanted),
-            Row::Rests(wanted) => Ok(self.rests()?.as_slice() == wanted),
-            Row::Declares(wanted) => Ok(self.declares()?.as_slice() == wanted),
-            Row::Next(version) => {
-                self.begin_anew();
-                Ok(self.store.last() == version)
-            }
+            Row::Rests(wanted) => self.is_resting_on(wanted),
+            Row::Declares(wanted) => self.is_declaring(wanted),
+            Row::Next(version) => Ok(self.begins_anew(version)),
         }
     }
 }

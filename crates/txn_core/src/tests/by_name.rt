@@ -11,18 +11,15 @@ fn write<T: Tr>(tr: &mut T, range: &KeyRange) -> Result<(), TrFault> {
     tr.clear_range(range)
 }
 
+fn write_and_read(on: &mut TxnOn<'_>, range: &KeyRange) -> Result<Option<Bytes>, TrFault> {
+    write(on, range)?;
+    on.get(b"k", false)
+}
+
 // What a transaction on an empty store reads after these calls.
 fn read_after_writes(alloc: Global) -> Result<Option<Bytes>, TrFault> {
     let range = range_of(alloc, b"l", b"n")?;
-    let (store, index) = (Store::new(alloc), WriteIndex::new(alloc));
-    let mut txn = Txn::new(alloc, 0);
-    let mut on = TxnOn {
-        txn: &mut txn,
-        store: &store,
-        index: &index,
-    };
-    write(&mut on, &range)?;
-    on.get(b"k", false)
+    write_and_read(&mut new_session(alloc).on(), &range)
 }
 
 #[test]
@@ -41,19 +38,17 @@ fn declare<T: Tr>(tr: &mut T) -> Result<(), TrFault> {
     tr.write_conflict_key(b"k")
 }
 
+fn declare_range(on: &mut TxnOn<'_>, range: &KeyRange) -> Result<RangeSet, TrFault> {
+    declare(on)?;
+    on.write_conflict(range)?;
+    Ok(on.write_ranges(STAMP)?)
+}
+
 // The keys that a transaction declares after these calls, and after it was told to declare a range more.
 fn declared(alloc: Global) -> Result<Vec<u8>, TrFault> {
     let range = range_of(alloc, b"m", b"p")?;
-    let (store, index) = (Store::new(alloc), WriteIndex::new(alloc));
-    let mut txn = Txn::new(alloc, 0);
-    let mut on = TxnOn {
-        txn: &mut txn,
-        store: &store,
-        index: &index,
-    };
-    declare(&mut on)?;
-    on.write_conflict(&range)?;
-    Ok(spelled(alloc, &on.write_ranges(STAMP)?)?)
+    let ranges = declare_range(&mut new_session(alloc).on(), &range)?;
+    Ok(spelled(alloc, &ranges)?)
 }
 
 #[test]
@@ -65,14 +60,7 @@ fn a_transaction_declares_what_it_wrote_and_was_told(rt: HostRuntime) -> Result<
 
 // What it is answered to declare the key FF.
 fn end_declared(alloc: Global) -> Result<(), TrFault> {
-    let (store, index) = (Store::new(alloc), WriteIndex::new(alloc));
-    let mut txn = Txn::new(alloc, 0);
-    let mut on = TxnOn {
-        txn: &mut txn,
-        store: &store,
-        index: &index,
-    };
-    on.write_conflict_key(b"\xff")
+    new_session(alloc).on().write_conflict_key(b"\xff")
 }
 
 #[test]
@@ -80,18 +68,19 @@ fn a_declared_key_lies_below_the_end(rt: HostRuntime) {
     assert_eq!(rt; end_declared(rt.alloc()), Err(TrFault::Code(Code(2004))));
 }
 
+fn rests_when_told(
+    on: &mut TxnOn<'_>,
+    alloc: Global,
+    range: &KeyRange,
+) -> Result<Vec<u8>, TrFault> {
+    on.read_conflict(range)?;
+    Ok(spelled(alloc, on.read_ranges())?)
+}
+
 // The keys that a transaction rests on which was told to.
 fn told_to_rest(alloc: Global) -> Result<Vec<u8>, TrFault> {
     let range = range_of(alloc, b"m", b"p")?;
-    let (store, index) = (Store::new(alloc), WriteIndex::new(alloc));
-    let mut txn = Txn::new(alloc, 0);
-    let mut on = TxnOn {
-        txn: &mut txn,
-        store: &store,
-        index: &index,
-    };
-    on.read_conflict(&range)?;
-    Ok(spelled(alloc, txn.read_ranges())?)
+    rests_when_told(&mut new_session(alloc).on(), alloc, &range)
 }
 
 #[test]
@@ -107,31 +96,25 @@ fn write_twice(on: &mut TxnOn<'_>) -> Result<(), TrFault> {
     on.clear(b"l")
 }
 
+fn judge_twice(on: &mut TxnOn<'_>) -> Result<(Verdict, Verdict), TrFault> {
+    let before = on.judge()?;
+    write_twice(on)?;
+    Ok((before, on.judge()?))
+}
+
 // What the checks of a commit come to before and after two writes.
 fn judged(alloc: Global) -> Result<(Verdict, Verdict), TrFault> {
-    let (store, index) = (Store::new(alloc), WriteIndex::new(alloc));
-    let mut txn = Txn::new(alloc, 0);
-    let mut on = TxnOn {
-        txn: &mut txn,
-        store: &store,
-        index: &index,
-    };
-    let before = on.judge()?;
-    write_twice(&mut on)?;
-    Ok((before, on.judge()?))
+    judge_twice(&mut new_session(alloc).on())
+}
+
+fn change(on: &mut TxnOn<'_>) -> Result<usize, TrFault> {
+    write_twice(on)?;
+    Ok(on.changes(STAMP)?.len())
 }
 
 // How many keys two writes change: the key that is cleared isn't there.
 fn changed_keys(alloc: Global) -> Result<usize, TrFault> {
-    let (store, index) = (Store::new(alloc), WriteIndex::new(alloc));
-    let mut txn = Txn::new(alloc, 0);
-    let mut on = TxnOn {
-        txn: &mut txn,
-        store: &store,
-        index: &index,
-    };
-    write_twice(&mut on)?;
-    Ok(on.changes(STAMP)?.len())
+    change(&mut new_session(alloc).on())
 }
 
 #[test]
@@ -154,18 +137,16 @@ fn written_index(alloc: Global) -> Result<WriteIndex, AllocError> {
     Ok(index)
 }
 
-// What the checks come to, over that index, of a transaction at version 0 that read this key and wrote one.
-fn judged_after_read(alloc: Global, key: &[u8]) -> Result<Verdict, TrFault> {
-    let (store, index) = (Store::new(alloc), written_index(alloc)?);
-    let mut txn = Txn::new(alloc, 0);
-    let mut on = TxnOn {
-        txn: &mut txn,
-        store: &store,
-        index: &index,
-    };
+fn judge_after_read(on: &mut TxnOn<'_>, key: &[u8]) -> Result<Verdict, TrFault> {
     on.get(key, false)?;
     on.set(b"k", b"v")?;
     on.judge()
+}
+
+// What the checks come to, over that index, of a transaction at version 0 that read this key and wrote one.
+fn judged_after_read(alloc: Global, key: &[u8]) -> Result<Verdict, TrFault> {
+    let index = written_index(alloc)?;
+    judge_after_read(&mut new_session_over(alloc, index).on(), key)
 }
 
 #[test]
@@ -175,17 +156,14 @@ fn a_commit_is_judged_by_the_index(rt: HostRuntime) {
     assert_eq!(rt; judged_after_read(rt.alloc(), b"c"), Ok(Verdict::Commits));
 }
 
-// What a write is answered after a commit that was tried.
-fn written_after_tried(alloc: Global) -> Result<(), TrFault> {
-    let (store, index) = (Store::new(alloc), WriteIndex::new(alloc));
-    let mut txn = Txn::new(alloc, 0);
-    let mut on = TxnOn {
-        txn: &mut txn,
-        store: &store,
-        index: &index,
-    };
+fn try_and_write(on: &mut TxnOn<'_>) -> Result<(), TrFault> {
     on.tried(Tried::ReadOnly);
     on.set(b"k", b"v")
+}
+
+// What a write is answered after a commit that was tried.
+fn written_after_tried(alloc: Global) -> Result<(), TrFault> {
+    try_and_write(&mut new_session(alloc).on())
 }
 
 #[test]
@@ -207,15 +185,9 @@ fn handled(alloc: Global) -> [Result<(), Code>; 3] {
 
 // What the checks of a commit come to after a cancel.
 fn judged_after_cancel(alloc: Global) -> Result<Verdict, TrFault> {
-    let (store, index) = (Store::new(alloc), WriteIndex::new(alloc));
-    let mut txn = Txn::new(alloc, 0);
-    txn.cancel();
-    let mut on = TxnOn {
-        txn: &mut txn,
-        store: &store,
-        index: &index,
-    };
-    on.judge()
+    let mut session = new_session(alloc);
+    session.txn.cancel();
+    session.on().judge()
 }
 
 #[test]
@@ -244,25 +216,33 @@ fn pair_of(alloc: Global, key: &[u8], value: &[u8]) -> Result<Pair, AllocError> 
     Ok(Pair { key, value })
 }
 
-// What the writes of entries under a prefix come to, and the value under the prefix and the first key after them.
-fn logged(alloc: Global, too_long: bool) -> Result<(Result<(), TrFault>, Option<Bytes>), TrFault> {
-    let prefix = Bytes::from_slice(alloc, b"L")?;
-    let entries = entries_of(alloc, too_long)?;
-    let (store, index) = (Store::new(alloc), WriteIndex::new(alloc));
-    let mut txn = Txn::new(alloc, 0);
-    let written = txn.log(&prefix, &entries);
-    let mut on = TxnOn {
-        txn: &mut txn,
-        store: &store,
-        index: &index,
-    };
-    Ok((written, on.get(b"L1", false)?))
+// What the writes of entries under a prefix come to, and what is read of the prefix and the first key after them.
+fn log_and_read(
+    session: &mut Session,
+    prefix: &Key,
+    entries: &Pairs,
+) -> (Result<(), TrFault>, Result<Option<Bytes>, TrFault>) {
+    let written = session.txn.log(prefix, entries);
+    (written, session.on().get(b"L1", false))
 }
 
-fn is_logged(alloc: Global, too_long: bool, wanted: Result<(), TrFault>) -> Result<bool, TrFault> {
-    let (written, value) = logged(alloc, too_long)?;
-    let value = value.as_ref().map(|value| value.as_slice());
-    Ok(written == wanted && value == Some(b"x".as_slice()))
+// Whether the writes of entries come to this, and the value under the prefix and the first key is there after them.
+fn is_logged(
+    alloc: Global,
+    too_long: bool,
+    wanted: Result<(), TrFault>,
+) -> Result<bool, AllocError> {
+    let prefix = Bytes::from_slice(alloc, b"L")?;
+    let entries = entries_of(alloc, too_long)?;
+    let (written, value) = log_and_read(&mut new_session(alloc), &prefix, &entries);
+    Ok(written == wanted && is_read_as(&value, b"x"))
+}
+
+fn is_read_as(value: &Result<Option<Bytes>, TrFault>, wanted: &[u8]) -> bool {
+    match value {
+        Ok(Some(value)) => value.as_slice() == wanted,
+        _ => false,
+    }
 }
 
 #[test]
@@ -297,20 +277,30 @@ fn counts_by(on: &mut TxnOn<'_>, places: &Places, snapshot: bool) -> Result<[usi
     Ok([key.len(), selected.len(), ranged.len(), all.len()])
 }
 
+fn counts_after_writes(
+    on: &mut TxnOn<'_>,
+    places: &Places,
+    snapshot: bool,
+) -> Result<[usize; 4], TrFault> {
+    on.set(b"k", b"v")?;
+    on.set(b"l", b"w")?;
+    counts_by(on, places, snapshot)
+}
+
+// The counts, and the keys that the transaction rests on then.
+fn counted(
+    session: &mut Session,
+    places: &Places,
+    snapshot: bool,
+) -> Result<([usize; 4], Vec<u8>), TrFault> {
+    let counts = counts_after_writes(&mut session.on(), places, snapshot)?;
+    Ok((counts, session.rests()?))
+}
+
 // What a transaction on an empty store reads of two keys that it wrote, and the keys that it rests on then.
 fn read_by_name(alloc: Global, snapshot: bool) -> Result<([usize; 4], Vec<u8>), TrFault> {
     let places = places_read(alloc)?;
-    let (store, index) = (Store::new(alloc), WriteIndex::new(alloc));
-    let mut txn = Txn::new(alloc, 0);
-    let mut on = TxnOn {
-        txn: &mut txn,
-        store: &store,
-        index: &index,
-    };
-    on.set(b"k", b"v")?;
-    on.set(b"l", b"w")?;
-    let counts = counts_by(&mut on, &places, snapshot)?;
-    Ok((counts, spelled(alloc, on.read_ranges())?))
+    counted(&mut new_session(alloc), &places, snapshot)
 }
 
 #[test]

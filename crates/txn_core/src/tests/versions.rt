@@ -2,19 +2,16 @@
 
 use super::*;
 
-// What a transaction on an empty store is answered when it sets its version to 0, to 3 and to 4, and its version then.
-fn versions_set(alloc: Global) -> ([Result<(), TrFault>; 3], Result<u64, TrFault>) {
-    let (store, index) = (Store::new(alloc), WriteIndex::new(alloc));
-    let mut txn = Txn::new(alloc, 0);
-    let mut on = TxnOn {
-        txn: &mut txn,
-        store: &store,
-        index: &index,
-    };
+fn set_versions(on: &mut TxnOn<'_>) -> ([Result<(), TrFault>; 3], Result<u64, TrFault>) {
     let zero = on.set_read_version(0);
     let three = on.set_read_version(3);
     let four = on.set_read_version(4);
     ([zero, three, four], on.read_version())
+}
+
+// What a transaction on an empty store is answered when it sets its version to 0, to 3 and to 4, and its version then.
+fn versions_set(alloc: Global) -> ([Result<(), TrFault>; 3], Result<u64, TrFault>) {
+    set_versions(&mut new_session(alloc).on())
 }
 
 #[test]
@@ -26,43 +23,37 @@ fn a_version_is_set_once_and_above_0(rt: HostRuntime) {
     assert_eq!(rt; version, Ok(3));
 }
 
-// What is promised in a life, after a reset, after a commit that was tried, and after a cancel.
-fn promised(alloc: Global) -> [Result<u64, Code>; 4] {
-    let (mut txn, mut other) = (Txn::new(alloc, 7), Txn::new(alloc, 8));
+// What is promised in a life, after a reset, and after a cancel.
+fn promised(alloc: Global) -> [Result<u64, Code>; 3] {
+    let mut txn = Txn::new(alloc, 7);
     let first = txn.promise();
     txn.reset(9);
     let next = txn.promise();
     txn.cancel();
-    let (store, index) = (Store::new(alloc), WriteIndex::new(alloc));
-    let mut on = TxnOn {
-        txn: &mut other,
-        store: &store,
-        index: &index,
-    };
+    [first, next, txn.promise()]
+}
+
+// What is promised after a commit that was tried.
+fn promised_after_tried(alloc: Global) -> Result<u64, Code> {
+    let mut session = new_session(alloc);
+    let mut on = session.on();
     on.tried(Tried::ReadOnly);
-    [first, next, on.promise(), txn.promise()]
+    on.promise()
 }
 
 #[test]
 fn a_life_promises_its_versionstamp(rt: HostRuntime) {
-    assert_eq!(rt;
-        promised(rt.alloc()),
-        [Ok(7), Ok(9), Err(Code(2017)), Err(Code(1025))]
-    );
+    let wanted = [Ok(7), Ok(9), Err(Code(1025))];
+    assert_eq!(rt; promised(rt.alloc()), wanted);
+    assert_eq!(rt; promised_after_tried(rt.alloc()), Err(Code(2017)));
 }
 
 // The version that a commit made, before it and after it.
 fn committed(alloc: Global) -> [i64; 2] {
-    let (store, index) = (Store::new(alloc), WriteIndex::new(alloc));
-    let mut txn = Txn::new(alloc, 0);
-    let before = txn.committed_version();
-    let mut on = TxnOn {
-        txn: &mut txn,
-        store: &store,
-        index: &index,
-    };
-    on.tried(Tried::Version(5));
-    [before, txn.committed_version()]
+    let mut session = new_session(alloc);
+    let before = session.txn.committed_version();
+    session.on().tried(Tried::Version(5));
+    [before, session.txn.committed_version()]
 }
 
 #[test]
@@ -172,37 +163,32 @@ fn a_life_that_ended_takes_no_call_for_versions_and_conflicts(rt: HostRuntime) -
     Ok(())
 }
 
-// What became of a life before its commit, after a read-only one, after one that made version 7, and after a cancel.
-fn outcomes(alloc: Global) -> [Option<Outcome>; 4] {
-    let (mut first, mut second) = (Txn::new(alloc, 7), Txn::new(alloc, 8));
-    let mut third = Txn::new(alloc, 9);
-    let open = first.outcome();
-    let (store, index) = (Store::new(alloc), WriteIndex::new(alloc));
-    let mut on = TxnOn {
-        txn: &mut first,
-        store: &store,
-        index: &index,
-    };
-    on.tried(Tried::ReadOnly);
-    let mut on = TxnOn {
-        txn: &mut second,
-        store: &store,
-        index: &index,
-    };
-    on.tried(Tried::Version(7));
-    third.cancel();
-    [open, first.outcome(), second.outcome(), third.outcome()]
+// What became of a life after its commit came to this.
+fn outcome_of(alloc: Global, tried: Tried) -> Option<Outcome> {
+    let mut session = new_session(alloc);
+    session.on().tried(tried);
+    session.txn.outcome()
+}
+
+// What became of a life before its commit, and after a cancel.
+fn outcomes(alloc: Global) -> [Option<Outcome>; 2] {
+    let mut txn = Txn::new(alloc, 7);
+    let open = txn.outcome();
+    txn.cancel();
+    [open, txn.outcome()]
 }
 
 #[test]
 fn an_outcome_follows_from_the_phase(rt: HostRuntime) {
-    let stamp = Outcome::HasStamp([0, 0, 0, 0, 0, 0, 0, 7, 0, 0]);
-    let wanted = [
-        None,
-        Some(Outcome::Lacks(Code(2021))),
-        Some(stamp),
-        Some(Outcome::Lacks(Code(1025))),
-    ];
+    let wanted = [None, Some(Outcome::Lacks(Code(1025)))];
     assert_eq!(rt; outcomes(rt.alloc()), wanted);
     assert_eq!(rt; Txn::new(rt.alloc(), 5).life(), 5);
+}
+
+#[test]
+fn an_outcome_follows_from_what_a_commit_came_to(rt: HostRuntime) {
+    let read_only = Some(Outcome::Lacks(Code(2021)));
+    let stamp = Outcome::HasStamp([0, 0, 0, 0, 0, 0, 0, 7, 0, 0]);
+    assert_eq!(rt; outcome_of(rt.alloc(), Tried::ReadOnly), read_only);
+    assert_eq!(rt; outcome_of(rt.alloc(), Tried::Version(7)), Some(stamp));
 }
