@@ -1,6 +1,6 @@
 -- Which keys mutations decide, and a walk over the segments of a range.
-use Rattle.std.proofs.Common.{◌≡◌, ℕ, Bool, true, false, cond, not, ◌&&◌, ◌||◌, List, [], ◌∷◌, ◌++◌, Option, Some, None, refl, sym, ap, ◌∙◌, true≢false, bytes_eq}
-use Rattle.std.proofs.Math.Bool.{and-false, and-true, or-false}
+use Rattle.std.proofs.Common.{◌≡◌, ℕ, Bool, true, false, cond, not, ◌&&◌, ◌||◌, List, [], ◌∷◌, Option, Some, None, refl, sym, ap, ◌∙◌, true≢false, bytes_eq}
+use Rattle.std.proofs.Math.Bool.{or-false}
 use Rattle.std.proofs.lemmas.Bool.{and_parts, and_right, or_right, not-true}
 use Rattle.std.proofs.lemmas.Map.Text.{is_eq-slice_cmp}
 use Rattle.std.specs.Cmp.{eq_by_cmp_equiv}
@@ -20,7 +20,7 @@ use Rattle.edge_map.proofs.Edged.{within_one}
 use Rattle.write_map.specs.Answers.{IsStateUnder}
 use Rattle.write_map.specs.declared.state.KeyState.{KeyState as Shown}
 use Rattle.write_map.specs.declared.state.KeyState.TheVariants as shown
-use Rattle.ryw_view.specs.Segments.{AreAlikeUpTo}
+use Rattle.ryw_view.specs.Segments.{is_hidden, is_open, AreAlikeUpTo}
 use Rattle.ryw_view.proofs.Meetings.{common_meets, none_meets}
 
 -- ---- decided keys
@@ -70,14 +70,13 @@ decided_from (mutation ∷ mutations) asked state =
 pub decided_is : (mutations : List Mutation) (key : List ℕ) → is_decided (state_under mutations key) ≡ covers (decided mutations) key
 decided_is mutations key = decided_from mutations key Unmodified
 
--- an answer that is no other
-pub is_undecided : (mutations : List Mutation) (key : List ℕ) (answer : Shown) → IsStateUnder mutations key answer
-    → (answer ≡ shown.Unreadable → ⊥) → ((value : _) → answer ≡ shown.Decided value → ⊥)
-    → (covers (unreadable mutations) key ≡ false) × (is_decided (state_under mutations key) ≡ false)
-is_undecided mutations key shown.Unmodified under readable open_ = (under.0, ap is_decided under.1)
-is_undecided mutations key (shown.Decided value) under readable open_ = absurd (open_ value refl)
-is_undecided mutations key (shown.Depends edits) under readable open_ = (under.0, ap is_decided under.1)
-is_undecided mutations key shown.Unreadable under readable open_ = absurd (readable refl)
+-- an answer says whether its key is unreadable
+pub hidden_is : (mutations : List Mutation) (key : List ℕ) (answer : Shown) → IsStateUnder mutations key answer
+    → is_hidden answer ≡ covers (unreadable mutations) key
+hidden_is mutations key shown.Unmodified under = sym under.0
+hidden_is mutations key (shown.Decided value) under = sym under.0
+hidden_is mutations key (shown.Depends edits) under = sym under.0
+hidden_is mutations key shown.Unreadable under = sym under
 
 -- ---- a segment
 
@@ -93,28 +92,17 @@ segment_open mutations from until b alike is key = elim (within from until key)
       | false ↦ λ _. refl
     ] refl
 
--- the keys of a segment that are added, where they are undecided
-pub segment_added : (mutations : List Mutation) (from until : List ℕ) (old new : List KeyRange) (piece : KeyRange)
-    → AreAlikeUpTo mutations from until → is_decided (state_under mutations from) ≡ false → new ≡ old ++ piece ∷ [] → piece.begin ≡ from
-    → piece.end ≡ until → (key : List ℕ)
-    → covers new key ≡ (covers old key || (within from until key && not (covers (decided mutations) key)))
-segment_added mutations from until old new piece alike is items begin end key =
-    ap (λ ranges. covers ranges key) items
-    ∙ covers-append old (piece ∷ []) key
-    ∙ ap (λ b. covers old key || b)
-    (or-false (within piece.begin piece.end key)
-    ∙ (λ i. within (begin i) (end i) key)
-    ∙ sym (and-true (within from until key))
-    ∙ sym (segment_open mutations from until false alike is key))
-
--- and none of them, where they are decided
-pub segment_left : (mutations : List Mutation) (from until : List ℕ) (old : List KeyRange) → AreAlikeUpTo mutations from until
-    → is_decided (state_under mutations from) ≡ true → (key : List ℕ)
-    → covers old key ≡ (covers old key || (within from until key && not (covers (decided mutations) key)))
-segment_left mutations from until old alike is key =
-    sym (or-false (covers old key))
-    ∙ ap (λ b. covers old key || b)
-    (sym (and-false (within from until key)) ∙ sym (segment_open mutations from until true alike is key))
+-- the answer of the first key of a segment says which of its keys are undecided
+pub segment_is : (mutations : List Mutation) (from until : List ℕ) (answer : Shown) → AreAlikeUpTo mutations from until
+    → IsStateUnder mutations from answer → is_hidden answer ≡ false → (key : List ℕ)
+    → (within from until key && is_open answer) ≡ (within from until key && not (covers (decided mutations) key))
+segment_is mutations from until shown.Unmodified alike under readable key =
+    sym (segment_open mutations from until false alike (ap is_decided under.1) key)
+segment_is mutations from until (shown.Decided value) alike under readable key =
+    sym (segment_open mutations from until true alike (ap is_decided under.1) key)
+segment_is mutations from until (shown.Depends edits) alike under readable key =
+    sym (segment_open mutations from until false alike (ap is_decided under.1) key)
+segment_is mutations from until shown.Unreadable alike under readable key = absurd (true≢false readable)
 
 -- ---- a walk over the segments of a range
 

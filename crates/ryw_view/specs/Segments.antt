@@ -1,11 +1,13 @@
 -- Keys that pending mutations treat alike, on the way of a walk.
-use Rattle.std.specs.Prelude.{◌≡◌, ℕ, Bool, true, List, Option, Some}
+use Rattle.std.specs.Prelude.{◌≡◌, ℕ, Bool, true, false, List, Option, Some}
 use Rattle.std.specs.List.{filter}
 use Rattle.key_bytes.specs.Keys.{key_le, key_lt}
 use Rattle.key_map.specs.Ends.{first}
 use Rattle.database_rules.specs.Databases.{Mutation}
 use Rattle.database_rules.specs.States.{state_under}
 use Rattle.range_read.specs.Walks.{is_onward}
+use Rattle.write_map.specs.declared.state.KeyState.{KeyState as Shown}
+use Rattle.write_map.specs.declared.state.KeyState.TheVariants as shown
 use Rattle.write_map.specs.Pending.{Pending, AreAlike, is_single_state}
 use Rattle.ryw_view.specs.Walks.{is_inside}
 
@@ -28,3 +30,17 @@ pub record IsEdgeBelow (pending : Pending) (from end edge : List ℕ) : Type 0 w
   pub is : first (filter (key_lt from) pending.edges) ≡ Some edge
   pub below : key_lt edge end ≡ true
   pub alike : AreAlikeUpTo pending.mutations from edge
+
+-- a key with this answer is unreadable
+abbrev pub is_hidden : Shown → Bool
+is_hidden shown.Unmodified = false
+is_hidden (shown.Decided value) = false
+is_hidden (shown.Depends edits) = false
+is_hidden shown.Unreadable = true
+
+-- the value of a key with this answer rests on what is stored
+abbrev pub is_open : Shown → Bool
+is_open shown.Unmodified = true
+is_open (shown.Decided value) = false
+is_open (shown.Depends edits) = true
+is_open shown.Unreadable = false

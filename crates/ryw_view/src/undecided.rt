@@ -6,43 +6,47 @@ ghost use Rattle.key_bytes.specs.Keys.{within};
 ghost use Rattle.key_bytes.specs.Ranges.{has, meets};
 ghost use Rattle.database_rules.specs.Intervals.{decided};
 ghost use Rattle.database_rules.specs.States.{covers, unreadable};
-ghost use Rattle.ryw_view.specs.Segments.{AreAlikeUpTo, IsEdgeBelow};
+ghost use Rattle.write_map.specs.Answers.{IsStateUnder};
+ghost use Rattle.ryw_view.specs.Segments.{is_hidden, is_open, AreAlikeUpTo, IsEdgeBelow};
 
 use key_bytes::{Key, KeyRange};
 use std::alloc::AllocError;
 use write_map::{KeyState, WriteMap};
 
-// The first edge above a key, where it lies below the end of a range. Up to it, or else up to the end, all keys from this one
-// on are alike.
-fn edge_below<'a>(edits: &'a WriteMap, from: &Key, end: &Key) -> Option<&'a Key>
-    ensures { MatchOption result
+// What the mutations make of a key, and the first edge above it, where it lies below the end of a range. Up to it, or else up
+// to the end, all keys from this one on are alike.
+fn around_below<'a>(edits: &'a WriteMap, from: &Key, end: &Key) -> (KeyState<'a>, Option<&'a Key>)
+    ensures state { IsStateUnder edits.now.mutations from.now result.0 }
+    ensures edge { MatchOption result.1
         (AreAlikeUpTo edits.now.mutations from.now end.now)
         (λ edge. IsEdgeBelow edits.now from.now end.now edge.now) }
 {
-    let edge = edits.next_edge(from)?;
-    if edge.cmp(end).is_lt() {
-        Some(edge)
-    } else {
-        None
+    let (state, edge) = edits.around(from);
+    match edge {
+        Some(edge) if edge.cmp(end).is_lt() => (state, Some(edge)),
+        _ => (state, None),
     }
 }
 
-// Adds the keys from one on, up to another, where the mutations leave them undecided. All of them are alike. False where they
-// can't be read.
+// Whether a key in this state is unreadable.
+fn is_hidden(state: KeyState<'_>) -> bool
+    ensures { result ≡ is_hidden state.entry }
+{
+    matches!(state, KeyState::Unreadable)
+}
+
+// Adds the keys from one on, up to another, where their state leaves them undecided. False where they can't be read.
 fn add_segment(
-    edits: &WriteMap,
+    state: KeyState<'_>,
     from: &Key,
     until: &Key,
     pieces: &mut Vec<KeyRange>,
 ) -> Result<bool, AllocError>
-    requires { AreAlikeUpTo edits.now.mutations from.now until.now }
-    ensures readable { IfOk result (λ readable. readable
-        ≡ not (covers (unreadable edits.now.mutations) from.now)) }
+    ensures readable { IfOk result (λ readable. readable ≡ not (is_hidden state.entry)) }
     ensures added { result ≡ Ok true → (key : List ℕ) → covers pieces.new.items key
-        ≡ (covers pieces.old.items key
-        || (within from.now until.now key && not (covers (decided edits.now.mutations) key))) }
+        ≡ (covers pieces.old.items key || (within from.now until.now key && is_open state.entry)) }
 {
-    match edits.at(from) {
+    match state {
         KeyState::Unreadable => Ok(false),
         KeyState::Decided(_) => Ok(true),
         _ => {
@@ -57,7 +61,7 @@ fn add_segment(
 /// alone leaves its key among them (API reference of release 6.3, "Transaction": conflict ranges; "fdb_transaction_atomic_op").
 ///
 /// False where a mutation with a versionstamp makes a key of the range unreadable, so that the range can't be read. It is one
-/// walk along the edges of the mutations that lie in the range, with two searches for each. After false, or after a refusal,
+/// walk along the edges of the mutations that lie in the range, with one search for each. After false, or after a refusal,
 /// some of the pieces may have been added.
 pub fn add_undecided(
     edits: &WriteMap,
@@ -74,25 +78,21 @@ pub fn add_undecided(
         return Ok(true);
     }
     let mut from = &range.begin;
-    while let Some(edge) = edge_below(edits, from, &range.end) {
-        if !add_segment(edits, from, edge, pieces)? {
+    loop {
+        let (state, edge) = around_below(edits, from, &range.end);
+        if !add_segment(state, from, edge.unwrap_or(&range.end), pieces)? {
             return Ok(false);
         }
+        let Some(edge) = edge else {
+            return Ok(true);
+        };
         from = edge;
     }
-    add_segment(edits, from, &range.end, pieces)
-}
-
-// Whether a mutation with a versionstamp makes a key unreadable.
-fn is_hidden(edits: &WriteMap, key: &Key) -> bool
-    ensures { result ≡ covers (unreadable edits.now.mutations) key.now }
-{
-    matches!(edits.at(key), KeyState::Unreadable)
 }
 
 /// Whether a mutation with a versionstamp makes a key of a range unreadable, so that the range can't be read (API reference of
 /// release 6.3, "fdb_transaction_atomic_op"). It takes no memory. Where no mutation has a versionstamp it searches nothing;
-/// else it is one walk along the edges of the mutations that lie in the range, with two searches for each.
+/// else it is one walk along the edges of the mutations that lie in the range, with one search for each.
 pub fn hides(edits: &WriteMap, range: &KeyRange) -> bool
     ensures { result ≡ list_any (meets range.now) (unreadable edits.now.mutations) }
 {
@@ -100,11 +100,14 @@ pub fn hides(edits: &WriteMap, range: &KeyRange) -> bool
         return false;
     }
     let mut from = &range.begin;
-    while let Some(edge) = edge_below(edits, from, &range.end) {
-        if is_hidden(edits, from) {
+    loop {
+        let (state, edge) = around_below(edits, from, &range.end);
+        if is_hidden(state) {
             return true;
         }
+        let Some(edge) = edge else {
+            return false;
+        };
         from = edge;
     }
-    is_hidden(edits, from)
 }

@@ -1,14 +1,17 @@
-use Rattle.std.proofs.Common.{◌≡◌, ℕ, Bool, true, false, not, ◌&&◌, ◌||◌, List, Ok, sym, ap, ◌∙◌}
+use Rattle.std.proofs.Common.{◌≡◌, ℕ, Bool, true, false, not, ◌&&◌, ◌||◌, List, Ok, MatchOption, sym, ap, subst, ◌∙◌}
 use Rattle.std.proofs.Math.Bool.{or-false}
 use Rattle.std.proofs.lemmas.Bool.{not-false, not-true}
-use Rattle.std.proofs.lemmas.Result.{IfOk-weaker}
 use Rattle.key_bytes.specs.Keys.{key_lt, within}
 use Rattle.key_bytes.proofs.Orders.{irreflexive}
 use Rattle.database_rules.specs.Intervals.{decided}
 use Rattle.database_rules.specs.States.{covers, unreadable}
 use Rattle.edge_map.proofs.Edged.{within_backward}
 use Rattle.range_read.proofs.Rising.{first_passes}
-use Rattle.ryw_view.proofs.Decided.{at_begin, walked_on, added_on, last_met, one_met}
+use Rattle.database_rules.specs.Databases.{Mutation}
+use Rattle.write_map.specs.Answers.{IsStateUnder}
+use Rattle.write_map.specs.declared.state.KeyState.{KeyState as Shown}
+use Rattle.ryw_view.specs.Segments.{is_hidden, is_open, AreAlikeUpTo, IsEdgeBelow}
+use Rattle.ryw_view.proofs.Decided.{hidden_is, segment_is, at_begin, walked_on, added_on, last_met, one_met}
 use Rattle.ryw_view.proofs.Meetings.{empty_meets_none}
 use Rattle.ryw_view.proofs.Passed.{fewer_above}
 use Rattle.ryw_view.proofs.undecided.add_undecided.Goals as goal
@@ -18,6 +21,16 @@ nothing_added : (begin end key : List ℕ) (old is_open : Bool) → key_lt begin
     → old ≡ (old || (within begin end key && is_open))
 nothing_added begin end key old is_open none =
     sym (or-false old) ∙ ap (λ b. old || (b && is_open)) (sym (within_backward begin end key none))
+
+-- what is added of a segment is added of its undecided keys
+added_of : (mutations : List Mutation) (from until passed : List ℕ) (answer : Shown) (new old : Bool) (key : List ℕ)
+    → AreAlikeUpTo mutations from until → IsStateUnder mutations from answer → is_hidden answer ≡ false → passed ≡ until
+    → new ≡ (old || (within from passed key && is_open answer))
+    → new ≡ (old || (within from until key && not (covers (decided mutations) key)))
+added_of mutations from until passed answer new old key alike under readable same added =
+    added
+    ∙ ap (λ until. old || (within from until key && is_open answer)) same
+    ∙ ap (λ b. old || b) (segment_is mutations from until answer alike under readable key)
 
 pub returns-then-is_empty-clause-readable : goal.returns-then-is_empty-clause-readable
 returns-then-is_empty-clause-readable c =
@@ -46,44 +59,69 @@ loop-edge-init c =
 pub returns-then-not-branch-clause-readable : goal.returns-then-not-branch-clause-readable
 returns-then-not-branch-clause-readable c =
     let mutations = c.args.edits.now.mutations in let from = c.loop-edge.from.now in
+    let answer = c.around_below.result.0 in
     let hidden : covers (unreadable mutations) from ≡ true =
-    not-false (covers (unreadable mutations) from) (sym (c.in_ok-add_segment.ensures {u = tt}).readable ∙ c.if-not-branch.true) in
+    sym (hidden_is mutations from answer c.around_below.ensures.state)
+    ∙ not-false (is_hidden answer) (sym (c.in_ok-add_segment.ensures {u = tt}).readable ∙ c.if-not-branch.true) in
     ap not (sym (one_met mutations c.args.range.now from c.loop-edge.invariant.walked hidden))
 
 pub loop-edge-smaller : goal.loop-edge-smaller
 loop-edge-smaller c =
-    fewer_above c.args.edits.now.edges c.loop-edge.from.now c.in-Some.edge.now (c.in-Some.ensures {u = tt}).is
+    let pending = c.args.edits.now in let from = c.loop-edge.from.now in
+    let next = subst (λ edge. MatchOption edge (AreAlikeUpTo pending.mutations from c.args.range.now.end)
+    (λ edge. IsEdgeBelow pending from c.args.range.now.end edge.now)) c.in-Some.is c.around_below.ensures.edge in
+    fewer_above pending.edges from c.in-Some.edge.now next.is
 
 pub loop-edge-preserved : goal.loop-edge-preserved
 loop-edge-preserved c =
     let pending = c.args.edits.now in let range = c.args.range.now in
     let from = c.loop-edge.from.now in let edge = c.in-Some.edge.now in
     let before = c.loop-edge.invariant in
-    let next = c.in-Some.ensures {u = tt} in
+    let answer = c.around_below.result.0 in let state = c.around_below.ensures.state in
+    let next = subst (λ edge. MatchOption edge (AreAlikeUpTo pending.mutations from range.end)
+    (λ edge. IsEdgeBelow pending from range.end edge.now)) c.in-Some.is c.around_below.ensures.edge in
     let here = c.in_ok-add_segment.ensures {u = tt} in
     let rises : key_lt from edge ≡ true = first_passes (key_lt from) pending.edges edge next.is in
-    let shown : covers (unreadable pending.mutations) from ≡ false =
-    not-true (covers (unreadable pending.mutations) from) (sym here.readable ∙ c.if-not-branch.false) in
+    let shown : is_hidden answer ≡ false = not-true (is_hidden answer) (sym here.readable ∙ c.if-not-branch.false) in
     record {
-      walked = walked_on pending.mutations range from edge before.walked rises next.alike shown next.below;
+      walked =
+          walked_on pending.mutations range from edge before.walked rises next.alike
+          (sym (hidden_is pending.mutations from answer state) ∙ shown) next.below;
       added = λ key.
           added_on pending.mutations range from edge before.walked rises (covers c.args.pieces.now.items key)
           (covers c.loop-edge.pieces.items key) (covers c.add_segment.new.pieces.items key) key
           (not (covers (decided pending.mutations) key)) (before.added key)
-          (here.added (λ i. Ok (c.if-not-branch.false i)) key);
+          (added_of pending.mutations from edge c.unwrap_or.result.now answer (covers c.add_segment.new.pieces.items key)
+          (covers c.loop-edge.pieces.items key) key next.alike state shown
+          (ap (λ edge. edge.now) (rw c.in-Some.is at c.unwrap_or.ensures))
+          (here.added (λ i. Ok (c.if-not-branch.false i)) key));
     }
 
-pub returns-clause-readable : goal.returns-clause-readable
-returns-clause-readable c =
-    let mutations = c.args.edits.now.mutations in let range = c.args.range.now in let from = c.loop-edge.from.now in
-    IfOk-weaker c.add_segment-2.result _ _
-    (λ readable is. is ∙ ap not (last_met mutations range from c.loop-edge.invariant.walked (c.in_default.ensures {u = tt})))
-    c.add_segment-2.ensures.readable
+pub returns-in_default-clause-readable : goal.returns-in_default-clause-readable
+returns-in_default-clause-readable c =
+    let pending = c.args.edits.now in let range = c.args.range.now in let from = c.loop-edge.from.now in
+    let answer = c.around_below.result.0 in
+    let last = subst (λ edge. MatchOption edge (AreAlikeUpTo pending.mutations from range.end)
+    (λ edge. IsEdgeBelow pending from range.end edge.now)) c.in_default.is c.around_below.ensures.edge in
+    sym c.if-not-branch.false
+    ∙ (c.in_ok-add_segment.ensures {u = tt}).readable
+    ∙ ap not
+    (hidden_is pending.mutations from answer c.around_below.ensures.state
+    ∙ last_met pending.mutations range from c.loop-edge.invariant.walked last)
 
-pub returns-clause-added : goal.returns-clause-added
-returns-clause-added c done key =
-    let mutations = c.args.edits.now.mutations in let range = c.args.range.now in let from = c.loop-edge.from.now in
+pub returns-in_default-clause-added : goal.returns-in_default-clause-added
+returns-in_default-clause-added c done key =
+    let pending = c.args.edits.now in let range = c.args.range.now in let from = c.loop-edge.from.now in
     let before = c.loop-edge.invariant in
-    added_on mutations range from range.end before.walked before.walked.below (covers c.args.pieces.now.items key)
-    (covers c.loop-edge.pieces.items key) (covers c.add_segment-2.new.pieces.items key) key
-    (not (covers (decided mutations) key)) (before.added key) (c.add_segment-2.ensures.added done key)
+    let answer = c.around_below.result.0 in
+    let last = subst (λ edge. MatchOption edge (AreAlikeUpTo pending.mutations from range.end)
+    (λ edge. IsEdgeBelow pending from range.end edge.now)) c.in_default.is c.around_below.ensures.edge in
+    let here = c.in_ok-add_segment.ensures {u = tt} in
+    let shown : is_hidden answer ≡ false = not-true (is_hidden answer) (sym here.readable ∙ c.if-not-branch.false) in
+    added_on pending.mutations range from range.end before.walked before.walked.below (covers c.args.pieces.now.items key)
+    (covers c.loop-edge.pieces.items key) (covers c.add_segment.new.pieces.items key) key
+    (not (covers (decided pending.mutations) key)) (before.added key)
+    (added_of pending.mutations from range.end c.unwrap_or.result.now answer (covers c.add_segment.new.pieces.items key)
+    (covers c.loop-edge.pieces.items key) key last c.around_below.ensures.state shown
+    (ap (λ edge. edge.now) (rw c.in_default.is at c.unwrap_or.ensures))
+    (here.added (λ i. Ok (c.if-not-branch.false i)) key))

@@ -1,12 +1,13 @@
-use Rattle.std.proofs.Common.{sym, ap, ◌∙◌}
+use Rattle.std.proofs.Common.{◌≡◌, true, false, Some, sym, ap, subst, MatchOption, ◌∙◌}
 use Rattle.std.proofs.lemmas.Bool.{not-false, not-true}
 use Rattle.std.specs.List.{list_any}
 use Rattle.key_bytes.specs.Keys.{key_lt}
 use Rattle.key_bytes.specs.Ranges.{meets}
-use Rattle.database_rules.specs.States.{unreadable}
+use Rattle.database_rules.specs.States.{covers, unreadable}
 use Rattle.range_read.proofs.Rising.{first_passes}
 use Rattle.write_map.proofs.Filled.{plain_readable}
-use Rattle.ryw_view.proofs.Decided.{at_begin, walked_on, last_met, one_met}
+use Rattle.ryw_view.specs.Segments.{AreAlikeUpTo, IsEdgeBelow}
+use Rattle.ryw_view.proofs.Decided.{hidden_is, at_begin, walked_on, last_met, one_met}
 use Rattle.ryw_view.proofs.Meetings.{empty_meets_none}
 use Rattle.ryw_view.proofs.Passed.{fewer_above}
 use Rattle.ryw_view.proofs.undecided.hides.Goals as goal
@@ -31,22 +32,32 @@ loop-edge-init c =
 
 pub returns-then-is_hidden : goal.returns-then-is_hidden
 returns-then-is_hidden c =
-    sym (one_met c.args.edits.now.mutations c.args.range.now c.loop-edge.from.now c.loop-edge.invariant
-    (sym c.is_hidden.ensures ∙ c.if-is_hidden.true))
+    let mutations = c.args.edits.now.mutations in let from = c.loop-edge.from.now in
+    sym (one_met mutations c.args.range.now from c.loop-edge.invariant
+    (sym (hidden_is mutations from c.around_below.result.0 c.around_below.ensures.state) ∙ sym c.is_hidden.ensures ∙ c.if-is_hidden.true))
 
 pub loop-edge-smaller : goal.loop-edge-smaller
 loop-edge-smaller c =
-    fewer_above c.args.edits.now.edges c.loop-edge.from.now c.in-Some.edge.now (c.in-Some.ensures {u = tt}).is
+    let pending = c.args.edits.now in let from = c.loop-edge.from.now in
+    let next = subst (λ edge. MatchOption edge (AreAlikeUpTo pending.mutations from c.args.range.now.end)
+    (λ edge. IsEdgeBelow pending from c.args.range.now.end edge.now)) c.in-Some.is c.around_below.ensures.edge in
+    fewer_above pending.edges from c.in-Some.edge.now next.is
 
 pub loop-edge-preserved : goal.loop-edge-preserved
 loop-edge-preserved c =
     let pending = c.args.edits.now in let from = c.loop-edge.from.now in let edge = c.in-Some.edge.now in
-    let next = c.in-Some.ensures {u = tt} in
+    let next = subst (λ edge. MatchOption edge (AreAlikeUpTo pending.mutations from c.args.range.now.end)
+    (λ edge. IsEdgeBelow pending from c.args.range.now.end edge.now)) c.in-Some.is c.around_below.ensures.edge in
     walked_on pending.mutations c.args.range.now from edge c.loop-edge.invariant
-    (first_passes (key_lt from) pending.edges edge next.is) next.alike (sym c.is_hidden.ensures ∙ c.if-is_hidden.false) next.below
+    (first_passes (key_lt from) pending.edges edge next.is) next.alike
+    (sym (hidden_is pending.mutations from c.around_below.result.0 c.around_below.ensures.state)
+    ∙ sym c.is_hidden.ensures ∙ c.if-is_hidden.false) next.below
 
-pub returns : goal.returns
-returns c =
-    c.is_hidden-2.ensures
-    ∙ last_met c.args.edits.now.mutations c.args.range.now c.loop-edge.from.now c.loop-edge.invariant
-    (c.in_default.ensures {u = tt})
+pub returns-in_default : goal.returns-in_default
+returns-in_default c =
+    let pending = c.args.edits.now in let from = c.loop-edge.from.now in
+    let last = subst (λ edge. MatchOption edge (AreAlikeUpTo pending.mutations from c.args.range.now.end)
+    (λ edge. IsEdgeBelow pending from c.args.range.now.end edge.now)) c.in_default.is c.around_below.ensures.edge in
+    sym c.if-is_hidden.false ∙ c.is_hidden.ensures
+    ∙ hidden_is pending.mutations from c.around_below.result.0 c.around_below.ensures.state
+    ∙ last_met pending.mutations c.args.range.now from c.loop-edge.invariant last
