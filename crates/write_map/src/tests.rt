@@ -17,6 +17,7 @@ fn shown(alloc: Global, map: &WriteMap, key: &Key) -> Result<Bytes, AllocError> 
     state_text(alloc, map.at(key))
 }
 
+// The text of a state.
 fn state_text(alloc: Global, state: KeyState<'_>) -> Result<Bytes, AllocError> {
     match state {
         KeyState::Unmodified => Bytes::from_slice(alloc, b"unmodified"),
