@@ -2,25 +2,26 @@
 //! is the program's.
 #![tactic(auto)]
 
-use outside::{OpenGate, ReadSource, WriteSink};
+use outside::{OpenGate, ReadSource, WriteSink, write_all};
+use std::alloc::AllocError;
 use std::env::Env;
 use std::process::ExitCode;
 use std::{env, io};
 use tester_run::{ArgWords, tester};
 
-/// The status where the words are not the ones that exist.
-const USAGE: u8 = 1;
-
 /// The status for want of memory.
 const OUT_OF_MEMORY: u8 = 6;
 
 fn main(rt: HostRuntime) -> ExitCode {
+    let mut err = WriteSink::new(rt.stderr());
     let status = match words(&rt) {
-        Err(status) => status,
+        Err(_) => {
+            let _told = write_all(&mut err, b"fdbtester: out of memory\n");
+            OUT_OF_MEMORY
+        }
         Ok(args) => {
             let mut source = ReadSource::new(rt.stdin());
             let mut out = WriteSink::new(rt.stdout());
-            let mut err = WriteSink::new(rt.stderr());
             tester(
                 &rt,
                 rt.alloc(),
@@ -36,21 +37,16 @@ fn main(rt: HostRuntime) -> ExitCode {
     ExitCode::from(status)
 }
 
-// The words after the program's name, or the status where there are none to judge: a word that is not UTF-8 is
-// one that does not exist.
-fn words(rt: &(impl Env + AllocGlobal)) -> Result<ArgWords, u8> {
+// The words after the program's name. Where one of them is not UTF-8 there are none to judge, and no words are a usage fault.
+fn words(rt: &(impl Env + AllocGlobal)) -> Result<ArgWords, AllocError> {
     let mut args = ArgWords::new(rt.alloc());
-    let all = env::args(rt).map_err(|e| status_of(&e))?;
+    let all = match env::args(rt) {
+        Ok(all) => all,
+        Err(error) if error.kind() == io::ErrorKind::OutOfMemory => return Err(AllocError),
+        Err(_) => return Ok(args),
+    };
     for word in all.skip(1) {
-        args.push(word.as_str()).map_err(|_| OUT_OF_MEMORY)?;
+        args.push(word.as_str())?;
     }
     Ok(args)
-}
-
-fn status_of(error: &io::Error) -> u8 {
-    if error.kind() == io::ErrorKind::OutOfMemory {
-        OUT_OF_MEMORY
-    } else {
-        USAGE
-    }
 }

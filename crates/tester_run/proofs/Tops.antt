@@ -1,5 +1,5 @@
 -- What the parts of the top call say together.
-use Rattle.std.proofs.Common.{◌≡◌, ◌≢◌, ℕ, ◌^◌, ◌<◌, Bool, true, false, cond, ⊎_elim, List, [], length, Option, Some, None, Result, Ok, Err, refl, sym, ap, subst, ◌∙◌, inl, inr, ◌⊎◌, arith}
+use Rattle.std.proofs.Common.{◌≡◌, ◌≢◌, ℕ, ◌^◌, ◌<◌, Bool, true, false, cond, ⊎_elim, List, [], ◌++◌, length, Option, Some, None, Result, Ok, Err, refl, sym, ap, subst, ◌∙◌, inl, inr, ◌⊎◌, arith}
 use Rattle.std.specs.Prelude.{IfSome, IsErr}
 use Rattle.std.specs.Io.KnownBytes.{Appends, Consumes}
 use Rattle.std.proofs.lemmas.List.{append-nil}
@@ -7,7 +7,8 @@ use Rattle.outside.specs.Streams.{AppendsFront}
 use Rattle.line_rules.specs.Reading.{Entry, Fault, pairs_of, input_limit}
 use Rattle.line_rules.proofs.Limits.{too_long_is_refused}
 use Rattle.machine_rules.specs.Runs.{Run, RunsTo, dump}
-use Rattle.tester_run.specs.Inputs.{IsRefusedBy, AreRead, read_limit}
+use Rattle.dump_text.specs.declared.fault.LineFault.{LineFault}
+use Rattle.tester_run.specs.Inputs.{IsFirst, IsJudged, IsRefusedBy, AreRead, read_limit}
 use Rattle.history_laws.specs.Whole.{AreRunsLegal}
 use Rattle.tester_run.specs.Outcomes.{write_fault, IsFinal, IsLegal, HasRun, Finishes, BreaksOff}
 use Rattle.tester_run.specs.Rendered.{Renders}
@@ -27,23 +28,24 @@ pub long_not_read : (bytes : List ℕ) (pairs : List Entry) → input_limit < le
 long_not_read bytes pairs long e =
     not_both (pairs_of bytes) pairs (subst (λ (b : List ℕ). IsErr (pairs_of b)) (append-nil bytes) (too_long_is_refused bytes [] long)) e
 
--- where so many bytes were read, what the source had has a fault
-pub full_refused : (left after : Option (List ℕ)) (items : List ℕ) → input_limit < length items → Consumes left after items
-    → IfSome left (λ bytes. IsErr (pairs_of bytes))
-full_refused None after items long consumed = tt
-full_refused (Some bytes) None items long consumed = absurd consumed
-full_refused (Some bytes) (Some rest) items long consumed =
-    subst (λ (b : List ℕ). IsErr (pairs_of b)) (sym consumed) (too_long_is_refused items rest long)
+-- where so many bytes were read, the fault that they come to is that of all that the source had
+full_first : (fault : LineFault) (left after : Option (List ℕ)) (items : List ℕ)
+    → ((rest : List ℕ) → IsFirst fault (pairs_of (items ++ rest))) → Consumes left after items
+    → IfSome left (λ bytes. IsFirst fault (pairs_of bytes))
+full_first fault None after items first consumed = tt
+full_first fault (Some bytes) None items first consumed = absurd consumed
+full_first fault (Some bytes) (Some rest) items first consumed =
+    subst (λ (b : List ℕ). IsFirst fault (pairs_of b)) (sym consumed) (first rest)
 
-pub refused_full : (given : Refusal) (left after : Option (List ℕ)) (faults faults_after : ℕ) (items : List ℕ) → given ≢ refusal.Source
-    → length items ≡ read_limit → Consumes left after items
+pub refused_full : (given : Refusal) (left after : Option (List ℕ)) (faults faults_after : ℕ) (items : List ℕ)
+    → ((rest : List ℕ) → IsJudged given (pairs_of (items ++ rest))) → length items ≡ read_limit → Consumes left after items
     → IsRefusedBy given left after faults faults_after
-refused_full refusal.Source left after faults faults_after items is exact consumed = absurd (is refl)
-refused_full (refusal.Line fault) left after faults faults_after items is exact consumed = record {
-  fault = full_refused left after items (omega arith) consumed;
+refused_full refusal.Source left after faults faults_after items judged exact consumed = absurd (judged [])
+refused_full (refusal.Line fault) left after faults faults_after items judged exact consumed = record {
+  first = full_first fault left after items judged consumed;
   out = inr (items, exact, consumed);
 }
-refused_full refusal.Memory left after faults faults_after items is exact consumed = tt
+refused_full refusal.Memory left after faults faults_after items judged exact consumed = tt
 
 -- the status of a run is final
 final_by : (b : Bool) → IsFinal (cond b 0 3)

@@ -4,3 +4,4 @@ pub mod Dumps
 pub mod Rendered
 pub mod Inputs
 pub mod Outcomes
+pub mod Tellings

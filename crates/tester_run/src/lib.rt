@@ -10,6 +10,7 @@ mod clean;
 mod driving;
 mod dumping;
 mod running;
+mod telling;
 #[cfg(test)]
 mod tests;
 #[cfg(test)]

@@ -32,13 +32,15 @@ S 0 0 0 \\x15\\x01\n\
 K \\x01p\\x00\\x14\\=\\x02PUSH\\x00\\x15\\x01\n\
 K \\x01p\\x00\\x15\\x01\\=\\x02HELLO\\x00\n";
 
+const ONE_PAIR: &[u8] = b"K a\\=b\n";
+
 const SET_ALONE: &[u8] = b"K \\x01p\\x00\\x14\\=\\x02SET\\x00\n";
 
 const UNDERFLOW: &[u8] = b"M 0 underflow 0 p\n\
 K \\x01p\\x00\\x14\\=\\x02SET\\x00\n";
 
 // A call of `tester`, and what it must do: its status, how many places its order has, the first byte that it leaves of
-// its input, and what it writes.
+// its input, and what it writes to out and to err.
 #[derive(Clone, Copy)]
 struct Row {
     words: &'static [&'static str],
@@ -47,6 +49,7 @@ struct Row {
     places: usize,
     left: Option<u8>,
     dump: &'static [u8],
+    told: &'static [u8],
 }
 
 // A call of the lawful words that reads all its input.
@@ -58,40 +61,81 @@ fn run_row(input: &'static [u8], status: u8, places: usize, dump: &'static [u8])
         places,
         left: None,
         dump,
+        told: b"",
     }
 }
 
-// A call over one line.
-fn word_row(
-    words: &'static [&'static str],
-    status: u8,
-    left: Option<u8>,
-    dump: &'static [u8],
-) -> Row {
+// A call over input that has a fault.
+fn fault_row(input: &'static [u8], told: &'static [u8]) -> Row {
+    Row {
+        told,
+        ..run_row(input, 2, 0, b"")
+    }
+}
+
+// A call of these words, of which there are no such, over one line.
+fn word_row(words: &'static [&'static str]) -> Row {
     Row {
         words,
-        input: b"K a\\=b\n",
-        status,
+        input: ONE_PAIR,
+        status: 1,
         places: 0,
-        left,
-        dump,
+        left: Some(b'K'),
+        dump: b"",
+        told: b"fdbtester: usage\n",
     }
 }
 
-fn rows() -> [Row; 11] {
+// A call over one line under the prefix `-`.
+fn dash_row() -> Row {
+    Row {
+        words: &["run", "-", "630"],
+        ..run_row(ONE_PAIR, 0, 0, b"M 0 ended 0 -\nK a\\=b\n")
+    }
+}
+
+fn rows() -> [Row; 12] {
     [
         run_row(b"", 0, 0, b"M 0 ended 0 p\n"),
         run_row(SET_ONE_KEY, 0, 2, ONE_KEY_SET),
         run_row(HELLO, 3, 0, HELLO_SAID),
         run_row(SET_ALONE, 3, 0, UNDERFLOW),
-        run_row(b"K a\n", 2, 0, b""),
-        run_row(b"K \\xff\\=b\n", 2, 0, b""),
-        word_row(&["run", "-", "630"], 0, None, b"M 0 ended 0 -\nK a\\=b\n"),
-        word_row(&["run", "p", "620"], 1, Some(b'K'), b""),
-        word_row(&["run", "p"], 1, Some(b'K'), b""),
-        word_row(&["run", "-x", "630"], 1, Some(b'K'), b""),
-        word_row(&[], 1, Some(b'K'), b""),
+        fault_row(b"K a\n", b"fdbtester: line 1: bad at 3\n"),
+        fault_row(b"K \\xff\\=b\n", b"fdbtester: line 1: bad at 2\n"),
+        fault_row(b"K a\\=b\nk\n", b"fdbtester: line 2: bad at 0\n"),
+        dash_row(),
+        word_row(&["run", "p", "620"]),
+        word_row(&["run", "p"]),
+        word_row(&["run", "-x", "630"]),
+        word_row(&[]),
     ]
+}
+
+// A line whose key is a byte longer than one may be.
+fn long_key(alloc: Global) -> Result<Vec<u8>, AllocError> {
+    let mut line = Vec::from_slice(alloc, b"K ")?;
+    for _ in 0..10_001 {
+        line.push(b'a')?;
+    }
+    line.extend_from_slice(b"\\=b\n")?;
+    Ok(line)
+}
+
+// What is told of a second line that is too long.
+fn told_of_long<R: Threads + Wait + Sync>(rt: &R, alloc: Global) -> Result<Vec<u8>, AllocError> {
+    let mut input = Vec::from_slice(alloc, ONE_PAIR)?;
+    input.extend_from_slice(&long_key(alloc)?)?;
+    Ok(ran(rt, alloc, &WORDS, &input)?.told)
+}
+
+#[test]
+fn tells_a_line_that_is_too_long(rt: HostRuntime) -> Result<(), Fail> {
+    let told = told_of_long(&rt, rt.alloc())?;
+    assert_eq!(rt;
+        told.as_slice(),
+        b"fdbtester: line 2: too long\n".as_slice()
+    );
+    Ok(())
 }
 
 fn args_of(alloc: Global, words: &[&str]) -> Result<ArgWords, AllocError> {
@@ -109,7 +153,7 @@ struct Report {
     places: usize,
     left: Option<u8>,
     written: Vec<u8>,
-    told: usize,
+    told: Vec<u8>,
 }
 
 // A call over a source and a sink.
@@ -129,7 +173,7 @@ fn ran_on<R: Threads + Wait + Sync>(
         places: outcome.order.len(),
         left: (left == Taken::Got(1)).then_some(first[0]),
         written: Vec::from_slice(alloc, out.written())?,
-        told: err.written().len(),
+        told: Vec::from_slice(alloc, err.written())?,
     })
 }
 
@@ -153,7 +197,7 @@ fn is_as_said<R: Threads + Wait + Sync>(
 ) -> Result<bool, AllocError> {
     let ran = ran(rt, alloc, row.words, row.input)?;
     let same = ran.status == row.status && ran.places == row.places && ran.left == row.left;
-    Ok(same && ran.told == 0 && ran.written.as_slice() == row.dump)
+    Ok(same && ran.told.as_slice() == row.told && ran.written.as_slice() == row.dump)
 }
 
 // The first row that isn't as it says.
@@ -195,26 +239,30 @@ fn takes_a_prefix_of_a_thousand_bytes(rt: HostRuntime) -> Result<(), Fail> {
     Ok(())
 }
 
-// The status and the written bytes of a run whose calls of the source and of the sink fail at these numbers, and whether
-// these bytes are a front of the dump.
+// What is told by a run whose calls of the source and of the sink fail at these numbers, its status, how many bytes it wrote,
+// and whether these are a front of the dump.
 fn failing<R: Threads + Wait + Sync>(
     rt: &R,
     alloc: Global,
     reads: &[u64],
     writes: &[u64],
-) -> Result<(u8, usize, bool), AllocError> {
+) -> Result<(Vec<u8>, u8, usize, bool), AllocError> {
     let args = args_of(alloc, &WORDS)?;
     let source = MemSource::new(alloc, SET_ONE_KEY, 100, reads)?;
     let out = MemSink::new(alloc, 10_000, 10, writes)?;
     let ran = ran_on(rt, alloc, &args, source, out)?;
     let is_front = ONE_KEY_SET.starts_with(&ran.written);
-    Ok((ran.status, ran.written.len(), is_front))
+    Ok((ran.told, ran.status, ran.written.len(), is_front))
 }
 
 #[test]
 fn tells_a_failing_source_and_a_failing_sink(rt: HostRuntime) -> Result<(), Fail> {
-    assert_eq!(rt; failing(&rt, rt.alloc(), &[1], &[])?, (4, 0, true));
-    assert_eq!(rt; failing(&rt, rt.alloc(), &[], &[2])?, (5, 10, true));
+    let (told, status, len, is_front) = failing(&rt, rt.alloc(), &[1], &[])?;
+    assert_eq!(rt; (status, len, is_front), (4, 0, true));
+    assert_eq!(rt; told.as_slice(), b"fdbtester: read fault\n".as_slice());
+    let (told, status, len, is_front) = failing(&rt, rt.alloc(), &[], &[2])?;
+    assert_eq!(rt; (status, len, is_front), (5, 10, true));
+    assert_eq!(rt; told.as_slice(), b"fdbtester: write fault\n".as_slice());
     Ok(())
 }
 

@@ -1,6 +1,6 @@
 //! The top call.
 
-ghost use Rattle.std.specs.Prelude.{◌≡◌, ◌≢◌, ◌<◌, ◌≤◌, ◌⊎◌, [], None, Ok, length, IfOk, IfErr, IfSome, IsErr};
+ghost use Rattle.std.specs.Prelude.{◌≡◌, ◌≢◌, ◌<◌, ◌≤◌, ◌⊎◌, ◌++◌, ℕ, List, [], None, Ok, codes, length, IfOk, IfErr, IfSome, IsErr};
 ghost use Rattle.std.specs.Io.KnownBytes.{Appends, IsAtEnd};
 ghost use Rattle.outside.specs.Counts.{Rose};
 ghost use Rattle.outside.specs.Streams.{AppendsFront};
@@ -9,10 +9,12 @@ ghost use Rattle.line_rules.specs.Inputs.{IsSmall};
 ghost use Rattle.line_rules.specs.Reading.{pairs_of, input_limit};
 ghost use Rattle.tester_run.specs.Arguments.{prefix_in};
 ghost use Rattle.tester_run.specs.Outcomes.{usage, bad_input, read_fault, write_fault, out_of_memory, IsFinal, IsLegal, IsSilent, Finishes, BreaksOff};
-ghost use Rattle.tester_run.specs.Inputs.{IsRefusedBy, IsJudged, AreRead, IsReadOut, ReadsWithin, status_for};
+ghost use Rattle.tester_run.specs.Inputs.{IsRefusedBy, IsJudged, AreRead, IsReadOut, ReadsWithin};
+ghost use Rattle.tester_run.specs.Tellings.{IsTold, IsWritten, Refuses, Tells};
 
 use crate::args::ArgWords;
 use crate::running::{Rendered, run};
+use crate::telling::{fault_line, tell};
 use dump_text::{LineFault, Order, read_lines};
 use history_laws::runs_are_legal;
 use key_bytes::Pairs;
@@ -62,7 +64,7 @@ pub fn tester<R: Threads + Wait + Sync, S: Source, K: Sink, N: Sink, G: Gate>(
     args: &ArgWords,
     source: &mut S,
     out: &mut K,
-    _err: &mut N,
+    err: &mut N,
     _gate: &G,
 ) -> Outcome
     // 1: the words are not the three that exist. Nothing was read.
@@ -94,31 +96,67 @@ pub fn tester<R: Threads + Wait + Sync, S: Source, K: Sink, N: Sink, G: Gate>(
     ensures no_order { IsSilent result.status → result.order ≡ [] }
     ensures statuses { result.status ≤ out_of_memory }
 
-    // At each status: no more was read than the limit, and nothing was written to err.
+    // At each status: no more was read than the limit.
     ensures limit { result.status ≢ usage → ReadsWithin (S.left source.old) (S.left source.new) }
-    ensures quiet { _err.new ≡ _err.old }
+
+    // 0 and 3: err is as it was. At each other status its line stands behind what err held, at 2 that of the first fault; a
+    // front of the line where err has counted a fault in this call.
+    ensures quiet { IsFinal result.status → err.new ≡ err.old }
+    ensures told { Tells result.status (S.left source.old) (N.written err.old) (N.written err.new) (N.faults err.old) (N.faults err.new) }
 {
     let Some(prefix) = args.prefix() else {
-        return without_order(alloc, USAGE);
+        return without_order(alloc, err, USAGE, b"fdbtester: usage\n");
     };
     match read_pairs(alloc, source) {
-        Err(refusal) => without_order(alloc, status_of(&refusal)),
+        Err(refusal) => refused(alloc, err, &refusal),
         Ok(pairs) => match run(alloc, prefix, pairs) {
-            Err(_) => without_order(alloc, OUT_OF_MEMORY),
+            Err(_) => out_of_memory(alloc, err),
             Ok(rendered) => {
                 runs_are_legal();
-                deliver(out, rendered)
+                deliver(out, err, rendered)
             }
         },
     }
 }
 
-fn without_order(alloc: Global, status: u8) -> Outcome
-    ensures { (result.status ≡ status) × (result.order ≡ []) }
+// Tells a line on err, and ends with this status.
+fn without_order<N: Sink>(alloc: Global, err: &mut N, status: u8, line: &[u8]) -> Outcome
+    ensures ended { (result.status ≡ status) × (result.order ≡ []) }
+    ensures told { IsWritten line.now (N.written err.old) (N.written err.new) (N.faults err.old) (N.faults err.new) }
 {
+    tell(err, line);
     Outcome {
         status,
         order: Order::new(alloc),
+    }
+}
+
+fn out_of_memory<N: Sink>(alloc: Global, err: &mut N) -> Outcome
+    ensures ended { (result.status ≡ out_of_memory) × (result.order ≡ []) }
+    ensures told { IsTold (codes "out of memory") (N.written err.old) (N.written err.new) (N.faults err.old) (N.faults err.new) }
+{
+    without_order(alloc, err, OUT_OF_MEMORY, b"fdbtester: out of memory\n")
+}
+
+fn source_failed<N: Sink>(alloc: Global, err: &mut N) -> Outcome
+    ensures ended { (result.status ≡ read_fault) × (result.order ≡ []) }
+    ensures told { IsTold (codes "read fault") (N.written err.old) (N.written err.new) (N.faults err.old) (N.faults err.new) }
+{
+    without_order(alloc, err, READ_FAULT, b"fdbtester: read fault\n")
+}
+
+// Tells why there is no run. Where there is no memory for the line of a fault, that is told.
+fn refused<N: Sink>(alloc: Global, err: &mut N, refusal: &Refusal) -> Outcome
+    ensures order { result.order ≡ [] }
+    ensures told { Refuses refusal.now result.status (N.written err.old) (N.written err.new) (N.faults err.old) (N.faults err.new) }
+{
+    match refusal {
+        Refusal::Source => source_failed(alloc, err),
+        Refusal::Memory => out_of_memory(alloc, err),
+        Refusal::Line(fault) => match fault_line(alloc, *fault) {
+            Ok(line) => without_order(alloc, err, BAD_INPUT, line.as_slice()),
+            Err(_) => out_of_memory(alloc, err),
+        },
     }
 }
 
@@ -141,6 +179,8 @@ fn judge(alloc: Global, bytes: &[u8]) -> Result<Pairs, Refusal>
     ensures found { IfOk result (λ pairs. pairs_of bytes.now ≡ Ok pairs) }
     ensures small { IfOk result (AllByRecursion IsSmall) }
     ensures refused { IfErr result (λ refusal. IsJudged refusal (pairs_of bytes.now)) }
+    ensures past { IfErr result (λ refusal. (rest : List ℕ) → input_limit < length bytes.now
+        → IsJudged refusal (pairs_of (bytes.now ++ rest))) }
 {
     match read_lines(alloc, bytes) {
         Ok(pairs) => Ok(pairs),
@@ -149,10 +189,10 @@ fn judge(alloc: Global, bytes: &[u8]) -> Result<Pairs, Refusal>
     }
 }
 
-// The first fault of bytes that are more than an input may have.
+// The first fault of bytes that are more than an input may have. It is that of all that may stand behind them.
 fn refuse(alloc: Global, bytes: &[u8]) -> Refusal
     requires { input_limit < length bytes.now }
-    ensures { result ≢ Refusal.Source }
+    ensures { (rest : List ℕ) → IsJudged result (pairs_of (bytes.now ++ rest)) }
 {
     match judge(alloc, bytes) {
         Ok(_) => unreachable!(),
@@ -160,24 +200,17 @@ fn refuse(alloc: Global, bytes: &[u8]) -> Refusal
     }
 }
 
-fn status_of(refusal: &Refusal) -> u8
-    ensures { result ≡ status_for refusal.now }
-{
-    match refusal {
-        Refusal::Source => READ_FAULT,
-        Refusal::Line(_) => BAD_INPUT,
-        Refusal::Memory => OUT_OF_MEMORY,
-    }
-}
-
-// Writes a dump. Where the sink fails, a front of it is written.
-fn deliver<K: Sink>(out: &mut K, rendered: Rendered) -> Outcome
+// Writes a dump. Where the sink fails, a front of it is written, and that is told.
+fn deliver<K: Sink, N: Sink>(out: &mut K, err: &mut N, rendered: Rendered) -> Outcome
     requires { IsFinal rendered.status }
     ensures order { result.order ≡ rendered.order }
     ensures status { (result.status ≡ rendered.status) ⊎ (result.status ≡ write_fault) }
     ensures written { result.status ≢ write_fault → Appends (K.written out.old) (K.written out.new) rendered.dump.items }
     ensures front { result.status ≡ write_fault → AppendsFront (K.written out.old) (K.written out.new) rendered.dump.items }
     ensures cause { result.status ≡ write_fault → Rose (K.faults out.old) (K.faults out.new) }
+    ensures quiet { result.status ≢ write_fault → err.new ≡ err.old }
+    ensures told { result.status ≡ write_fault
+        → IsTold (codes "write fault") (N.written err.old) (N.written err.new) (N.faults err.old) (N.faults err.new) }
 {
     if write_all(out, rendered.dump.as_slice()) {
         return Outcome {
@@ -185,6 +218,7 @@ fn deliver<K: Sink>(out: &mut K, rendered: Rendered) -> Outcome
             order: rendered.order,
         };
     }
+    tell(err, b"fdbtester: write fault\n");
     Outcome {
         status: WRITE_FAULT,
         order: rendered.order,

@@ -1,7 +1,13 @@
+use Rattle.std.proofs.Common.{List, ℕ, ◌++◌, subst}
+use Rattle.line_rules.specs.Reading.{pairs_of}
+use Rattle.tester_run.specs.Inputs.{IsJudged}
 use Rattle.tester_run.proofs.Tops.{refused_full}
 use Rattle.tester_run.proofs.top.read_pairs.Goals as goal
 
 pub returns-in-Full-clause-refused : goal.returns-in-Full-clause-refused
 returns-in-Full-clause-refused g c =
     let full = c.in-Full.ensures.input in
-    refused_full c.refuse.result _ _ _ _ c.in-Full.bytes.items c.refuse.ensures full.exact full.consumed
+    let judged : (rest : List ℕ) → IsJudged c.refuse.result (pairs_of (c.in-Full.bytes.items ++ rest)) =
+    subst (λ (bytes : List ℕ). (rest : List ℕ) → IsJudged c.refuse.result (pairs_of (bytes ++ rest))) c.deref-in-Full.ensures.value
+    c.refuse.ensures in
+    refused_full c.refuse.result _ _ _ _ c.in-Full.bytes.items judged full.exact full.consumed

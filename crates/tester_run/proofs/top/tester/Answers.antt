@@ -1,3 +1,4 @@
+use Rattle.tester_run.proofs.Tellings.{refused_by}
 use Rattle.tester_run.proofs.Tops.{delivered, broken_off, kept_legal}
 use Rattle.tester_run.proofs.top.tester.Goals as goal
 
@@ -13,3 +14,7 @@ pub returns-in-Ok-run-clause-legal : goal.returns-in-Ok-run-clause-legal
 returns-in-Ok-run-clause-legal g c =
     λ final. kept_legal _ c.in-Some.prefix.now _ c.in-Ok-run.rendered _ c.in-Some.ensures c.deliver.ensures.order c.in-Ok-run.ensures.short
     c.runs_are_legal.ensures
+
+pub returns-in-Err-clause-told : goal.returns-in-Err-clause-told
+returns-in-Err-clause-told g c =
+    (refused_by c.in-Err.refusal c.refused.result.status _ _ _ _ _ _ _ _ c.in-Err.ensures.refused c.refused.ensures.told).tells
