@@ -1,0 +1,9 @@
+pub mod Rows
+pub mod WordKinds
+pub mod Leaves
+pub mod Steps
+pub mod Readings
+pub mod Asking
+pub mod Deciding
+pub mod Numbers
+pub mod Calling

@@ -1,0 +1,41 @@
+-- What the matches of `clap` ask for: the first value of each argument, read as the grammar reads it.
+use Rattle.std.specs.Prelude.{ℕ, Bool, not, ◌&&◌, ◌||◌, ◌==◌, if◌then◌else◌, length, List, [], ◌∷◌, ◌++◌, Option, Some, None, option_map, codes, IsUtf8}
+use Rattle.std.specs.Str.{bytes_eq}
+use Rattle.clap.specs.Words.{Row, first_of}
+use Rattle.key_bytes.specs.Keys.{begins_with}
+use Rattle.command_rules.specs.declared.args.RunArgs.{RunArgs}
+use Rattle.command_rules.specs.declared.args.Args.{Args}
+use Rattle.command_rules.specs.declared.args.Args.TheVariants.{Run, Replay}
+use Rattle.command_rules.specs.Grammar.{polls_given, prefix_in, run_with, seed_given}
+
+-- a value as the list of an argument's values, which has one or none
+abbrev pub listed : Option (List ℕ) → List (List ℕ)
+listed None = []
+listed (Some value) = value ∷ []
+
+-- of `run` or `replay`, with the rows of its arguments
+abbrev pub asked_in : List Row → Option RunArgs
+asked_in rows =
+    run_with (prefix_in (listed (first_of (codes "prefix") rows) ++ listed (first_of (codes "api") rows)))
+    (seed_given (listed (first_of (codes "seed") rows))) (polls_given (listed (first_of (codes "polls") rows)))
+
+-- of the subcommand of this name
+abbrev pub asked_as : List ℕ → List Row → Option Args
+asked_as name rows =
+    if bytes_eq name (codes "run") then option_map Run (asked_in rows)
+    else (if bytes_eq name (codes "replay") then option_map Replay (asked_in rows)
+    else None)
+
+-- of the subcommand that was met, with its matches
+abbrev pub asked_by : Option (List ℕ × List Row) → Option Args
+asked_by None = None
+asked_by (Some found) = asked_as found.0 found.1
+
+-- each word is a text
+abbrev pub EachUtf8 : List (List ℕ) → Type 0
+EachUtf8 [] = Unit {0}
+EachUtf8 (word ∷ words) = IsUtf8 word × EachUtf8 words
+
+-- a sign that std's `parse` takes, or a leading zero
+abbrev pub is_marked : List ℕ → Bool
+is_marked word = begins_with word (codes "+") || (begins_with word (codes "0") && not (length word == 1))

@@ -1,0 +1,150 @@
+-- The words of the command line: which of them are a command, and what it asks for.
+use Rattle.std.specs.Prelude.{ℕ, ◌+◌, Bool, not, ◌&&◌, ◌||◌, ◌==◌, nat_le, if◌then◌else◌, List, [], ◌∷◌, ◌++◌, map, length, drop, Option, Some, None, option_map, option_and_then, codes}
+use Rattle.std.specs.Str.{bytes_eq, all_ascii_digits}
+use Rattle.std.specs.Str.Parse.{digits_value}
+use Rattle.key_bytes.specs.Keys.{begins_with}
+use Rattle.command_rules.specs.declared.args.RunArgs.{RunArgs}
+use Rattle.command_rules.specs.declared.args.Args.{Args}
+use Rattle.command_rules.specs.declared.args.Args.TheVariants.{Run, Replay}
+
+-- ---- one word
+
+-- the options
+pub data OptionName : Type 0 where
+  seed : OptionName
+  polls : OptionName
+
+abbrev pub option_names : List OptionName
+option_names = seed ∷ polls ∷ []
+
+abbrev pub name_text : OptionName → List ℕ
+name_text seed = codes "seed"
+name_text polls = codes "polls"
+
+abbrev pub same_option : OptionName → OptionName → Bool
+same_option a b = bytes_eq (name_text a) (name_text b)
+
+-- an option as it is written: `--` and its name
+abbrev pub option_text : OptionName → List ℕ
+option_text name = codes "--" ++ name_text name
+
+-- what a word is, where no `--` stands before it and no option waits for its value
+pub data WordKind : Type 0 where
+  -- `--`, behind which each word is positional
+  separator : WordKind
+  -- an option and its value, as `--seed=1`
+  joined : OptionName → List ℕ → WordKind
+  -- an option whose value is the next word
+  apart : OptionName → WordKind
+  -- any other word that begins with `-` and is longer
+  unknown : WordKind
+  -- any other word
+  positional : WordKind
+
+abbrev pub option_in : List OptionName → List ℕ → WordKind
+option_in [] word = unknown
+option_in (name ∷ names) word =
+    if bytes_eq word (option_text name) then apart name
+    else (if begins_with word (option_text name ++ codes "=") then joined name (drop (length (option_text name) + 1) word)
+    else option_in names word)
+
+abbrev pub kind_in : List ℕ → WordKind
+kind_in word =
+    if bytes_eq word (codes "--") then separator
+    else (if begins_with word (codes "-") && not (bytes_eq word (codes "-")) then option_in option_names word
+    else positional)
+
+-- ---- the arguments of a command
+
+pub data Argument : Type 0 where
+  -- an option with its value
+  given : OptionName → List ℕ → Argument
+  -- a positional argument
+  placed : List ℕ → Argument
+
+abbrev pub with_argument : Argument → Option (List Argument) → Option (List Argument)
+with_argument argument = option_map (λ rest. argument ∷ rest)
+
+-- a word of this kind, and behind it `words`, which `after` reads where this option waits for its value, or none
+abbrev pub argument_by : WordKind → List ℕ → List (List ℕ) → (Option OptionName → Option (List Argument)) → Option (List Argument)
+argument_by separator word words after = Some (map placed words)
+argument_by (joined name value) word words after = with_argument (given name value) (after None)
+argument_by (apart name) word words after = after (Some name)
+argument_by unknown word words after = None
+argument_by positional word words after = with_argument (placed word) (after None)
+
+-- the arguments that the words are, where `waits` is the option whose value is the next word: that word must be there, and
+-- must not begin with `-`
+abbrev pub arguments_in : Option OptionName → List (List ℕ) → Option (List Argument)
+arguments_in None [] = Some []
+arguments_in (Some name) [] = None
+arguments_in None (word ∷ words) = argument_by (kind_in word) word words (λ waits. arguments_in waits words)
+arguments_in (Some name) (word ∷ words) =
+    if begins_with word (codes "-") then None else with_argument (given name word) (arguments_in None words)
+
+-- the values that an option is given, and the positional arguments, each in their order
+abbrev pub values_of : OptionName → List Argument → List (List ℕ)
+values_of name [] = []
+values_of name (given other value ∷ rest) =
+    if same_option other name then value ∷ values_of name rest else values_of name rest
+values_of name (placed word ∷ rest) = values_of name rest
+
+abbrev pub positionals_of : List Argument → List (List ℕ)
+positionals_of [] = []
+positionals_of (given name value ∷ rest) = positionals_of rest
+positionals_of (placed word ∷ rest) = word ∷ positionals_of rest
+
+-- ---- numbers
+
+-- decimal digits, without a sign and without a leading zero
+abbrev pub is_numeral : List ℕ → Bool
+is_numeral word = not (length word == 0) && (all_ascii_digits word && (not (begins_with word (codes "0")) || length word == 1))
+
+abbrev pub number_in : ℕ → ℕ → List ℕ → Option ℕ
+number_in least most word =
+    if is_numeral word && (nat_le least (digits_value 10 word) && nat_le (digits_value 10 word) most)
+    then Some (digits_value 10 word) else None
+
+-- the number of an option that comes at most once
+abbrev pub number_given : ℕ → ℕ → ℕ → List (List ℕ) → Option ℕ
+number_given default least most [] = Some default
+number_given default least most (value ∷ []) = number_in least most value
+number_given default least most (value ∷ other ∷ more) = None
+
+abbrev pub seed_given : List (List ℕ) → Option ℕ
+seed_given = number_given 0 0 18446744073709551615
+
+abbrev pub polls_given : List (List ℕ) → Option ℕ
+polls_given = number_given 10000 1 100000
+
+-- ---- commands
+
+-- the two positional arguments of a run: a prefix of at most 1,000 bytes, and the API version 630
+abbrev pub prefix_in : List (List ℕ) → Option (List ℕ)
+prefix_in [] = None
+prefix_in (prefix ∷ []) = None
+prefix_in (prefix ∷ api ∷ []) =
+    if nat_le (length prefix) 1000 && bytes_eq api (codes "630") then Some prefix else None
+prefix_in (prefix ∷ api ∷ other ∷ more) = None
+
+abbrev pub run_with : Option (List ℕ) → Option ℕ → Option ℕ → Option RunArgs
+run_with (Some prefix) (Some first) (Some most) = Some (record { prefix = prefix; seed = first; polls = most })
+run_with (Some prefix) (Some first) None = None
+run_with (Some prefix) None most = None
+run_with None first most = None
+
+abbrev pub run_of : List Argument → Option RunArgs
+run_of arguments =
+    run_with (prefix_in (positionals_of arguments)) (seed_given (values_of seed arguments)) (polls_given (values_of polls arguments))
+
+-- what the words after `run` or `replay` ask for
+abbrev pub run_in : List (List ℕ) → Option RunArgs
+run_in words = option_and_then run_of (arguments_in None words)
+
+-- what the words after the program's name ask for
+abbrev pub args_of : List (List ℕ) → Option Args
+args_of [] = None
+args_of (command ∷ words) =
+    if bytes_eq command (codes "run") then option_map Run (run_in words)
+    else (if bytes_eq command (codes "replay") then option_map Replay (run_in words)
+    else None)

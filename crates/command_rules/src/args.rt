@@ -1,0 +1,23 @@
+//! What a command line asks for.
+
+use key_bytes::Bytes;
+
+/// What a run is asked to do.
+#[derive(Debug, Drop)]
+pub struct RunArgs {
+    /// The prefix of the instructions of machine 0.
+    pub prefix: Bytes,
+    /// The seed of the random words.
+    pub seed: u64,
+    /// How often the polls of one wait may be answered that it isn't decided yet.
+    pub polls: u32,
+}
+
+/// A command of the program. `gen` is none in this release.
+#[derive(Debug, Drop)]
+pub enum Args {
+    /// Runs the instructions of an input.
+    Run(RunArgs),
+    /// Runs them by the order that the input names.
+    Replay(RunArgs),
+}
