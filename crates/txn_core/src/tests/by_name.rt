@@ -156,14 +156,17 @@ fn a_commit_is_judged_by_the_index(rt: HostRuntime) {
     assert_eq!(rt; judged_after_read(rt.alloc(), b"c"), Ok(Verdict::Commits));
 }
 
-fn try_and_write(on: &mut TxnOn<'_>) -> Result<(), TrFault> {
-    on.tried(Tried::ReadOnly);
-    on.set(b"k", b"v")
-}
-
 // What a write is answered after a commit that was tried.
 fn written_after_tried(alloc: Global) -> Result<(), TrFault> {
-    try_and_write(&mut new_session(alloc).on())
+    let (store, index) = (Store::new(alloc), WriteIndex::new(alloc));
+    let mut txn = Txn::new(alloc, 0);
+    let mut on = TxnOn {
+        txn: &mut txn,
+        store: &store,
+        index: &index,
+    };
+    on.tried(Tried::ReadOnly);
+    on.set(b"k", b"v")
 }
 
 #[test]

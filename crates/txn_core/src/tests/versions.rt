@@ -35,8 +35,13 @@ fn promised(alloc: Global) -> [Result<u64, Code>; 3] {
 
 // What is promised after a commit that was tried.
 fn promised_after_tried(alloc: Global) -> Result<u64, Code> {
-    let mut session = new_session(alloc);
-    let mut on = session.on();
+    let (store, index) = (Store::new(alloc), WriteIndex::new(alloc));
+    let mut txn = Txn::new(alloc, 0);
+    let mut on = TxnOn {
+        txn: &mut txn,
+        store: &store,
+        index: &index,
+    };
     on.tried(Tried::ReadOnly);
     on.promise()
 }
@@ -50,10 +55,16 @@ fn a_life_promises_its_versionstamp(rt: HostRuntime) {
 
 // The version that a commit made, before it and after it.
 fn committed(alloc: Global) -> [i64; 2] {
-    let mut session = new_session(alloc);
-    let before = session.txn.committed_version();
-    session.on().tried(Tried::Version(5));
-    [before, session.txn.committed_version()]
+    let (store, index) = (Store::new(alloc), WriteIndex::new(alloc));
+    let mut txn = Txn::new(alloc, 0);
+    let before = txn.committed_version();
+    let mut on = TxnOn {
+        txn: &mut txn,
+        store: &store,
+        index: &index,
+    };
+    on.tried(Tried::Version(5));
+    [before, txn.committed_version()]
 }
 
 #[test]
@@ -163,11 +174,30 @@ fn a_life_that_ended_takes_no_call_for_versions_and_conflicts(rt: HostRuntime) -
     Ok(())
 }
 
-// What became of a life after its commit came to this.
-fn outcome_of(alloc: Global, tried: Tried) -> Option<Outcome> {
-    let mut session = new_session(alloc);
-    session.on().tried(tried);
-    session.txn.outcome()
+// What became of a life after a read-only commit.
+fn outcome_of_read_only(alloc: Global) -> Option<Outcome> {
+    let (store, index) = (Store::new(alloc), WriteIndex::new(alloc));
+    let mut txn = Txn::new(alloc, 0);
+    let mut on = TxnOn {
+        txn: &mut txn,
+        store: &store,
+        index: &index,
+    };
+    on.tried(Tried::ReadOnly);
+    txn.outcome()
+}
+
+// What became of a life after a commit that made version 7.
+fn outcome_of_version(alloc: Global) -> Option<Outcome> {
+    let (store, index) = (Store::new(alloc), WriteIndex::new(alloc));
+    let mut txn = Txn::new(alloc, 0);
+    let mut on = TxnOn {
+        txn: &mut txn,
+        store: &store,
+        index: &index,
+    };
+    on.tried(Tried::Version(7));
+    txn.outcome()
 }
 
 // What became of a life before its commit, and after a cancel.
@@ -189,6 +219,6 @@ fn an_outcome_follows_from_the_phase(rt: HostRuntime) {
 fn an_outcome_follows_from_what_a_commit_came_to(rt: HostRuntime) {
     let read_only = Some(Outcome::Lacks(Code(2021)));
     let stamp = Outcome::HasStamp([0, 0, 0, 0, 0, 0, 0, 7, 0, 0]);
-    assert_eq!(rt; outcome_of(rt.alloc(), Tried::ReadOnly), read_only);
-    assert_eq!(rt; outcome_of(rt.alloc(), Tried::Version(7)), Some(stamp));
+    assert_eq!(rt; outcome_of_read_only(rt.alloc()), read_only);
+    assert_eq!(rt; outcome_of_version(rt.alloc()), Some(stamp));
 }
