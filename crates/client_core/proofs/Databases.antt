@@ -15,17 +15,17 @@ use Rattle.version_store.specs.Versions.{Versions, last_of}
 use Rattle.txn_core.specs.Stands as txn
 use Rattle.txn_core.specs.declared.answer.Answer.{Answer}
 use Rattle.client_core.specs.Lives.{drawn_in, outcome_by}
-use Rattle.client_core.specs.Stands.{CoreModel, KeptTransactions, StandsFor}
+use Rattle.client_core.specs.Stands.{ContentsModel, KeptTransactions, KeepsWorld}
 use Rattle.client_core.specs.Sound.{Took, TookApart, IsSound}
 use Rattle.client_core.proofs.Calls.{few_commits}
 use Rattle.client_core.proofs.Outcomes.{lives_agree}
 use Rattle.client_core.proofs.Named.{AllAlike}
 
 -- a fresh transaction at the last version stands under no name
-pub drawn_apart : (core after : CoreModel) (world : World) (next : ℕ) (begun : txn.Kept) → next ≡ length core.lives
+pub drawn_apart : (core after : ContentsModel) (world : World) (next : ℕ) (begun : txn.Kept) → next ≡ length core.lives
     → ((setting : Setting) → txn.Keeps core.store core.index setting → txn.StandsFor begun (with_version setting (fresh next)))
     → after.store ≡ core.store → after.index ≡ core.index → after.transactions ≡ core.transactions → after.lives ≡ with_lives core.lives 1
-    → StandsFor core world → txn.StandsFor begun (fresh_at_last world) × StandsFor after (drawn_in world)
+    → KeepsWorld core world → txn.StandsFor begun (fresh_at_last world) × KeepsWorld after (drawn_in world)
 drawn_apart core after world next begun counted fresh_one store index transactions lives stands = (
   subst (λ n. txn.StandsFor begun (with_version world.setting (fresh n))) (counted ∙ ap length stands.lives) (fresh_one world.setting stands.keeps),
   record {
@@ -36,11 +36,11 @@ drawn_apart core after world next begun counted fresh_one store index transactio
 )
 
 -- a core that keeps what a call on such a transaction leaves
-pub apart_stands : (core after : CoreModel) (world : World) (life drew : ℕ) (outcome : Option Outcome) (left : txn.Kept)
+pub apart_stands : (core after : ContentsModel) (world : World) (life drew : ℕ) (outcome : Option Outcome) (left : txn.Kept)
     (before : Transaction) (made : Called)
-    → StandsFor core world → txn.Keeps after.store after.index (grown_by world.setting made.commits) → after.transactions ≡ core.transactions
+    → KeepsWorld core world → txn.Keeps after.store after.index (grown_by world.setting made.commits) → after.transactions ≡ core.transactions
     → after.lives ≡ decide life outcome (with_lives core.lives drew) → outcome ≡ outcome_by life left.life left.phase
-    → life ≡ before.life → drew ≡ made.lives → txn.StandsFor left made.transaction → StandsFor after (called_apart world before made)
+    → life ≡ before.life → drew ≡ made.lives → txn.StandsFor left made.transaction → KeepsWorld after (called_apart world before made)
 apart_stands core after world life drew outcome left before made stands keeps transactions lives becomes is counted left_stands = record {
   keeps = keeps;
   transactions = subst (λ (m : KeptTransactions). AllAlike m world.transactions) (sym transactions) stands.transactions;
@@ -48,7 +48,7 @@ apart_stands core after world life drew outcome left before made stands keeps tr
 }
 
 -- a call on it
-pub apart_took : (core after : CoreModel) (world : World) (its_call : TxnCall) (next life : ℕ) (outcome : Option Outcome)
+pub apart_took : (core after : ContentsModel) (world : World) (its_call : TxnCall) (next life : ℕ) (outcome : Option Outcome)
     (before left : txn.Kept) (answer : Answer) (t : Transaction)
     → next ≡ length core.lives
     → ((setting : Setting) → txn.Keeps core.store core.index setting
@@ -56,7 +56,7 @@ pub apart_took : (core after : CoreModel) (world : World) (its_call : TxnCall) (
     → after.transactions ≡ core.transactions
     → life ≡ before.life → outcome ≡ outcome_by life left.life left.phase
     → after.lives ≡ decide life outcome (with_lives core.lives (cond answer.drew_life 1 0))
-    → txn.StandsFor before t → StandsFor core world
+    → txn.StandsFor before t → KeepsWorld core world
     → TookApart answer.reply left after world t (called world.setting (next_life world) t its_call)
 apart_took core after world its_call next life outcome before left answer t counted answers transactions is becomes lives stood stands =
     let made = called world.setting (next_life world) t its_call in
@@ -71,12 +71,12 @@ apart_took core after world its_call next life outcome before left answer t coun
     }
 
 -- writes of entries on it change nothing of the core
-pub logged_apart : (core after : CoreModel) (world : World) (life : ℕ) (outcome : Option Outcome) (left : txn.Kept)
+pub logged_apart : (core after : ContentsModel) (world : World) (life : ℕ) (outcome : Option Outcome) (left : txn.Kept)
     (before : Transaction) (made : Called)
-    → StandsFor core world → made.commits ≡ [] → made.lives ≡ 0 → after.store ≡ core.store → after.index ≡ core.index
+    → KeepsWorld core world → made.commits ≡ [] → made.lives ≡ 0 → after.store ≡ core.store → after.index ≡ core.index
     → after.transactions ≡ core.transactions
     → after.lives ≡ decide life outcome (with_lives core.lives 0) → outcome ≡ outcome_by life left.life left.phase
-    → life ≡ before.life → txn.StandsFor left made.transaction → StandsFor after (called_apart world before made)
+    → life ≡ before.life → txn.StandsFor left made.transaction → KeepsWorld after (called_apart world before made)
 logged_apart core after world life outcome left before made stands none no_life store index transactions lives becomes is left_stands =
     apart_stands core after world life 0 outcome left before made stands
     (subst (λ (h : History). txn.Keeps after.store after.index (record world.setting { history = h }))
@@ -85,21 +85,21 @@ logged_apart core after world life outcome left before made stands none no_life 
     transactions lives becomes is (sym no_life) left_stands
 
 -- a core that is sound has a version to spare
-pub few_at : (core : CoreModel) (last_version : ℕ) → IsSound core (2 ^ 62) → last_version ≡ last_of core.store → last_version + 1 < 2 ^ 63
+pub few_at : (core : ContentsModel) (last_version : ℕ) → IsSound core (2 ^ 62) → last_version ≡ last_of core.store → last_version + 1 < 2 ^ 63
 few_at core last_version sound same = bounded _ _ _ same sound.stands.keeps.last_is sound.few_commits
   where
     bounded : (a b c : ℕ) → a ≡ b → b ≡ c → c ≤ 2 ^ 62 → a + 1 < 2 ^ 63
     bounded a b c one other h = omega arith
 
 -- where the calls were refused, nothing is committed
-pub refused_took : (core : CoreModel) (world : World) (made : Called) (reply : Reply) → reply ≡ made.reply → StandsFor core world
+pub refused_took : (core : ContentsModel) (world : World) (made : Called) (reply : Reply) → reply ≡ made.reply → KeepsWorld core world
     → is_fault reply ≡ true → Took reply core (commit_made world made)
 refused_took core world made reply same stands fault =
     subst (λ b. Took reply core (database_by b world made (called world.setting (next_life world) made.transaction call.Commit)))
     (sym (ap is_fault (sym same) ∙ fault)) (record { reply_is = same; stands = stands })
 
 -- otherwise the commit follows
-pub committed_took : (after : CoreModel) (world : World) (made : Called) (left : txn.Kept) (reply committed : Reply)
+pub committed_took : (after : ContentsModel) (world : World) (made : Called) (left : txn.Kept) (reply committed : Reply)
     → reply ≡ made.reply → is_fault reply ≡ false
     → TookApart committed left after world made.transaction (called world.setting (next_life world) made.transaction call.Commit)
     → Took (cond (is_fault committed) committed reply) after (commit_made world made)
@@ -111,9 +111,9 @@ committed_took after world made left reply committed same fine told =
     (record { reply_is = λ i. cond (is_fault (told.reply_is i)) (told.reply_is i) (same i); stands = told.world_stands })
 
 -- after a first call the store has a version to spare
-pub few_between : (core after : CoreModel) (left : txn.Kept) (reply : Reply) (its_call : TxnCall) (before : World → Transaction)
+pub few_between : (core after : ContentsModel) (left : txn.Kept) (reply : Reply) (its_call : TxnCall) (before : World → Transaction)
     (between : World → World)
-    → ((world : World) → StandsFor core world → TookApart reply left after (between world) (before world)
+    → ((world : World) → KeepsWorld core world → TookApart reply left after (between world) (before world)
     (called (between world).setting (next_life (between world)) (before world) its_call))
     → ((world : World) → last (between world).setting.history ≡ last world.setting.history)
     → IsSound core (2 ^ 62) → last_of after.store + 1 < 2 ^ 63

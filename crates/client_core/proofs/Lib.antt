@@ -4,3 +4,4 @@ pub mod Databases
 pub mod Steps
 pub mod Loads
 pub mod Outcomes
+pub mod Prefixes

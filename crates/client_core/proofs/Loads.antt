@@ -9,9 +9,10 @@ use Rattle.conflict_ranges.specs.Writes.{newest_at}
 use Rattle.version_store.specs.Versions as versions
 use Rattle.version_store.specs.Versions.{Versions, last_of}
 use Rattle.database_rules.specs.Transactions.{Transaction}
+use Rattle.command_rules.specs.declared.args.RunArgs.{RunArgs}
 use Rattle.machine_rules.specs.Worlds.{begun}
 use Rattle.txn_core.specs.Stands.{Kept, Keeps}
-use Rattle.client_core.specs.Stands.{CoreModel, KeptTransactions, StandsFor, AreAlike}
+use Rattle.client_core.specs.Stands.{ContentsModel, KeptTransactions, KeepsWorld, AreAlike}
 
 -- the store keeps the history of the first commit
 pub first_kept : (store : Versions) (index : Edges ℕ) (pairs : List (List ℕ × List ℕ)) → last_of store ≡ 1 → versions.at store 0 ≡ finite.empty
@@ -25,16 +26,16 @@ first_kept store index pairs last empty first unwritten = record { last_is = las
     by_version (suc (suc n)) within = absurd (omega arith)
 
 -- a store of the first version, and no transaction, stand for the beginning
-pub begun_stands : (core : CoreModel) (pairs : List (List ℕ × List ℕ)) (words : ℕ → ℕ) → Keeps core.store core.index (record { history = loaded pairs ∷ [] })
+pub begun_stands : (core : ContentsModel) (pairs : List (List ℕ × List ℕ)) (arguments : RunArgs) → Keeps core.store core.index (record { history = loaded pairs ∷ [] })
     → core.transactions ≡ finite.empty → core.lives ≡ []
-    → StandsFor core (begun pairs words)
-begun_stands core pairs words keeps none lives = record {
+    → KeepsWorld core (begun pairs arguments)
+begun_stands core pairs arguments keeps none lives = record {
   keeps = keeps;
   transactions = λ name.
       let nothing = finite.get-empty key_cmp name in
       let other = finite.get-empty key_cmp name in
-      subst (λ (m : KeptTransactions). AreAlike (finite.get m name) (finite.get (begun pairs words).transactions name)) (sym none)
-      (subst (λ (o : Option Kept). AreAlike o (finite.get (begun pairs words).transactions name)) (sym nothing)
+      subst (λ (m : KeptTransactions). AreAlike (finite.get m name) (finite.get (begun pairs arguments).transactions name)) (sym none)
+      (subst (λ (o : Option Kept). AreAlike o (finite.get (begun pairs arguments).transactions name)) (sym nothing)
       (subst (λ (o : Option Transaction). AreAlike None o) (sym other) tt));
   lives = lives;
 }

@@ -16,7 +16,7 @@ use Rattle.edge_map.specs.Edges.{Edges}
 use Rattle.version_store.specs.Versions.{Versions}
 use Rattle.txn_core.specs.Stands as txn
 use Rattle.txn_core.specs.declared.answer.Answer.{Answer}
-use Rattle.client_core.specs.Stands.{CoreModel, KeptTransactions, StandsFor, AreAlike}
+use Rattle.client_core.specs.Stands.{ContentsModel, KeptTransactions, KeepsWorld, AreAlike}
 use Rattle.client_core.specs.Lives.{life_of, outcome_by}
 use Rattle.client_core.specs.Sound.{Took}
 use Rattle.client_core.proofs.Outcomes.{life_found, lives_agree}
@@ -48,12 +48,12 @@ alike_inserted m w name kept transaction stands alike = λ q.
     (sym (finite.get-insert nat_list_cmp_total w name transaction q)) both)
 
 -- a transaction of a new life under a name
-pub new_stands : (core after : CoreModel) (world : World) (name : List ℕ) (next life : ℕ) (outcome : Option Outcome) (kept : txn.Kept)
-    → StandsFor core world → next ≡ length core.lives → txn.StandsFor kept (fresh next)
+pub new_stands : (core after : ContentsModel) (world : World) (name : List ℕ) (next life : ℕ) (outcome : Option Outcome) (kept : txn.Kept)
+    → KeepsWorld core world → next ≡ length core.lives → txn.StandsFor kept (fresh next)
     → after.store ≡ core.store → after.index ≡ core.index → after.transactions ≡ finite.insert core.transactions name kept
     → life ≡ life_of core.transactions name (length core.lives) → outcome ≡ outcome_by life kept.life kept.phase
     → after.lives ≡ decide life outcome (with_lives core.lives 1)
-    → StandsFor after (with_new world name)
+    → KeepsWorld after (with_new world name)
 new_stands core after world name next life outcome kept stands counted fresh_one store index transactions is becomes lives =
     let fresh_there : txn.StandsFor kept (fresh (next_life world)) =
     subst (λ n. txn.StandsFor kept (fresh n)) (counted ∙ ap length stands.lives) fresh_one in
@@ -76,13 +76,13 @@ alike_there (Some x) None alike = absurd alike
 alike_there (Some x) (Some y) alike = refl
 
 -- a name that has a transaction needs none
-pub named_had : (core : CoreModel) (world : World) (name : List ℕ) → StandsFor core world
+pub named_had : (core : ContentsModel) (world : World) (name : List ℕ) → KeepsWorld core world
     → is_some (finite.get core.transactions name) ≡ true → with_named world name ≡ world
 named_had core world name stands there =
     ap (λ b. cond b world (with_new world name))
     (sym (alike_there (finite.get core.transactions name) (finite.get world.transactions name) (stands.transactions name)) ∙ there)
 
-pub named_none : (core : CoreModel) (world : World) (name : List ℕ) → StandsFor core world
+pub named_none : (core : ContentsModel) (world : World) (name : List ℕ) → KeepsWorld core world
     → is_some (finite.get core.transactions name) ≡ false → with_named world name ≡ with_new world name
 named_none core world name stands there =
     ap (λ b. cond b world (with_new world name))
@@ -96,7 +96,7 @@ found_stands kept fresh_one (Some x) None e alike = absurd alike
 found_stands kept fresh_one (Some x) (Some y) e alike = subst (λ k. txn.StandsFor k y) (let same : x ≡ kept = cc in same) alike
 
 -- a call on the transaction of a name, which is there, is the call of the step
-pub named_took : (core after : CoreModel) (world : World) (name : List ℕ) (call : TxnCall) (next life : ℕ) (outcome : Option Outcome)
+pub named_took : (core after : ContentsModel) (world : World) (name : List ℕ) (call : TxnCall) (next life : ℕ) (outcome : Option Outcome)
     (before left : txn.Kept) (answer : Answer)
     → finite.get core.transactions name ≡ Some before → next ≡ length core.lives
     → ((transaction : Transaction) (setting : Setting) → txn.StandsFor before transaction → txn.Keeps core.store core.index setting
@@ -104,7 +104,7 @@ pub named_took : (core after : CoreModel) (world : World) (name : List ℕ) (cal
     → after.transactions ≡ finite.insert core.transactions name left
     → life ≡ before.life → outcome ≡ outcome_by life left.life left.phase
     → after.lives ≡ decide life outcome (with_lives core.lives (cond answer.drew_life 1 0))
-    → StandsFor core world → Took answer.reply after (call_named world name call)
+    → KeepsWorld core world → Took answer.reply after (call_named world name call)
 named_took core after world name call next life outcome before left answer found counted answers transactions is becomes lives stands =
     let its = transaction_of world name in
     let stood = found_stands before (fresh (next_life world)) (finite.get core.transactions name) (finite.get world.transactions name) found (stands.transactions name) in

@@ -1,7 +1,7 @@
 -- What a step leaves: few commits, and what the core answers by it.
 use Rattle.std.proofs.Common.{◌≡◌, ℕ, ◌+◌, ◌^◌, ◌<◌, ◌≤◌, Bool, true, false, cond, List, [], ◌++◌, length, refl, sym, ap, subst, ◌∙◌, length-append, arith}
 use Rattle.std.proofs.lemmas.List.{append-nil}
-use Rattle.std.specs.Prelude.{is_some}
+use Rattle.std.specs.Prelude.{is_some, nat_lt}
 use Rattle.std.specs.FinMap as finite
 use Rattle.fdb_calls.specs.declared.Reply.{Reply}
 use Rattle.fdb_calls.specs.declared.Reply.TheVariants as reply
@@ -11,10 +11,15 @@ use Rattle.fdb_calls.specs.declared.TxnCall.TheVariants as call
 use Rattle.database_rules.specs.Histories.{Commit, last}
 use Rattle.database_rules.specs.Transactions.{Transaction}
 use Rattle.fdb_calls.specs.Calling.{Called, called, is_fault, in_turn, logs}
-use Rattle.machine_rules.specs.Worlds.{World, HasWords, Stepped, next_life, with_new, transaction_of, call_named, fresh_at_last, called_apart, database_by, and_commit, step}
-use Rattle.client_core.specs.Stands.{CoreModel, StandsFor, Answers}
+use Rattle.version_store.specs.Versions as versions
+use Rattle.version_store.specs.Versions.{last_of}
+use Rattle.machine_rules.specs.Worlds.{World, HasWords, newest, Stepped, next_life, with_new, transaction_of, call_named, fresh_at_last, called_apart, database_by, and_commit, start_by, step}
+use Rattle.client_core.specs.Stands.{ContentsModel, CoreModel, HasStarted, KeepsWorld, StandsFor, Answers, contents_in}
 use Rattle.client_core.specs.Sound.{IsSound, Took}
 use Rattle.client_core.specs.Lives.{drawn_in}
+use Rattle.client_core.specs.Contents.{IsOnDatabase, TookStart}
+use Rattle.machine_rules.specs.Runs.{start_prefix}
+use Rattle.machine_rules.specs.declared.TheConstants.{MACHINES}
 use Rattle.client_core.proofs.Calls.{few_commits, first_commits, commit_commits, logs_in_place}
 
 appended_counts : (first second : List Commit) → length second ≤ 1 → length (first ++ second) ≤ length first + 1
@@ -35,6 +40,11 @@ and_commit_few world made none =
     commit_few (is_fault first.reply) between first (called between.setting (next_life between) first.transaction call.Commit)
     (last world.setting.history) (ap (λ commits. length (world.setting.history ++ commits)) none ∙ ap length (append-nil world.setting.history))
     (commit_commits between.setting (next_life between) first.transaction)
+
+start_few : (there_is_room : Bool) (world : World) (prefix : List ℕ)
+    → last (start_by there_is_room world prefix).world.setting.history ≤ last world.setting.history + 1
+start_few true world prefix = omega arith
+start_few false world prefix = omega arith
 
 -- a step makes one commit at most
 pub step_few : (world : World) (given : Request) → last (step world given).world.setting.history ≤ last world.setting.history + 1
@@ -60,6 +70,8 @@ step_few world (request.Log prefix entries) =
     and_commit_few world (λ drawn transaction. in_turn (logs prefix entries) transaction)
     (logs_in_place prefix entries (fresh_at_last world)).commits
 step_few world (request.PollStamp life) = omega arith
+step_few world (request.PollEmpty prefix) = omega arith
+step_few world (request.Start prefix) = start_few (nat_lt (length world.started) MACHINES) world prefix
 
 database_words : (fault : Bool) (world : World) (made committed : Called) → (database_by fault world made committed).world.words ≡ world.words
 database_words true world made committed = refl
@@ -71,6 +83,10 @@ and_commit_words world made =
     let between = called_apart (drawn_in world) (fresh_at_last world) first in
     database_words (is_fault first.reply) between first (called between.setting (next_life between) first.transaction call.Commit)
 
+start_words : (there_is_room : Bool) (world : World) (prefix : List ℕ) → (start_by there_is_room world prefix).world.words ≡ world.words
+start_words true world prefix = refl
+start_words false world prefix = refl
+
 -- no step uses a random word yet
 step_words : (world : World) (given : Request) → (step world given).world.words ≡ world.words
 unfolding step
@@ -80,32 +96,90 @@ step_words world (request.On name its_call) =
 step_words world (request.Database its_call) = and_commit_words world (λ drawn transaction. called drawn.setting (next_life drawn) transaction its_call)
 step_words world (request.Log prefix entries) = and_commit_words world (λ drawn transaction. in_turn (logs prefix entries) transaction)
 step_words world (request.PollStamp life) = refl
+step_words world (request.PollEmpty prefix) = refl
+step_words world (request.Start prefix) = start_words (nat_lt (length world.started) MACHINES) world prefix
 
 pub words_kept : (world : World) (given : Request) (words : ℕ → ℕ) → HasWords world words → HasWords (step world given).world words
 words_kept world given words has place = has place ∙ (λ i. sym (step_words world given) i place)
 
+database_started : (fault : Bool) (world : World) (made committed : Called)
+    → (database_by fault world made committed).world.started ≡ world.started
+database_started true world made committed = refl
+database_started false world made committed = refl
+
+and_commit_started : (world : World) (made : World → Transaction → Called) → (and_commit world made).world.started ≡ world.started
+and_commit_started world made =
+    let first = made (drawn_in world) (fresh_at_last world) in
+    let between = called_apart (drawn_in world) (fresh_at_last world) first in
+    database_started (is_fault first.reply) between first (called between.setting (next_life between) first.transaction call.Commit)
+
+-- no request of the database starts a machine
+pub step_started : (world : World) (given : Request) → IsOnDatabase given → (step world given).world.started ≡ world.started
+unfolding step
+step_started world (request.New name) on = refl
+step_started world (request.On name its_call) on =
+    elim (is_some (finite.get world.transactions name)) as (λ b. (cond b world (with_new world name)).started ≡ world.started)
+    [ true ↦ refl | false ↦ refl ]
+step_started world (request.Database its_call) on =
+    and_commit_started world (λ drawn transaction. called drawn.setting (next_life drawn) transaction its_call)
+step_started world (request.Log prefix entries) on =
+    and_commit_started world (λ drawn transaction. in_turn (logs prefix entries) transaction)
+step_started world (request.PollStamp life) on = refl
+step_started world (request.PollEmpty prefix) on = refl
+step_started world (request.Start prefix) on = absurd on
+
+-- a core that took a request of the database
+pub database_stands : (contents : ContentsModel) (core : CoreModel) (its_reply : Reply) (world : World) (given : Request)
+    → contents_in core ≡ contents → core.started ≡ world.started → IsOnDatabase given
+    → Took its_reply contents (step world given) → StandsFor core (step world given).world
+database_stands contents core its_reply world given same started on took = record {
+  contents = subst (λ (kept : ContentsModel). KeepsWorld kept (step world given).world) (sym same) took.stands;
+  started = started ∙ sym (step_started world given on);
+}
+
+-- one that took the start of a machine
+started_keeps : (there_is_room : Bool) (contents : ContentsModel) (world : World) (prefix : List ℕ) → KeepsWorld contents world
+    → KeepsWorld contents (start_by there_is_room world prefix).world
+started_keeps true contents world prefix keeps = record { keeps = keeps.keeps; transactions = keeps.transactions; lives = keeps.lives }
+started_keeps false contents world prefix keeps = keeps
+
+pub start_stands : (contents : ContentsModel) (core : CoreModel) (world : World) (prefix : List ℕ)
+    → contents_in core ≡ contents → KeepsWorld contents world
+    → core.started ≡ (start_by (nat_lt (length world.started) MACHINES) world prefix).world.started
+    → StandsFor core (start_by (nat_lt (length world.started) MACHINES) world prefix).world
+start_stands contents core world prefix same keeps started =
+    let there_is_room = nat_lt (length world.started) MACHINES in
+    record {
+      contents = subst (λ (kept : ContentsModel). KeepsWorld kept (start_by there_is_room world prefix).world) (sym same)
+          (started_keeps there_is_room contents world prefix keeps);
+      started = started;
+    }
+
 -- the reply and what a core stands for, as the contract says it
-pub took_answers : (its_reply : Reply) (core : CoreModel) (words : ℕ → ℕ) (stepped : Stepped) → Took its_reply core stepped
-    → HasWords stepped.world words → Answers its_reply core words stepped
-took_answers reply.Done core words stepped took has = (sym took.reply_is, took.stands, has)
-took_answers (reply.Value value) core words stepped took has = (sym took.reply_is, took.stands, has)
-took_answers (reply.KeyIs key) core words stepped took has = (sym took.reply_is, took.stands, has)
-took_answers (reply.PairsAre pairs) core words stepped took has = (sym took.reply_is, took.stands, has)
-took_answers (reply.Version version) core words stepped took has = (sym took.reply_is, took.stands, has)
-took_answers (reply.Life life) core words stepped took has = (sym took.reply_is, took.stands, has)
-took_answers (reply.Stamp stamp) core words stepped took has = (sym took.reply_is, took.stands, has)
-took_answers reply.NotYet core words stepped took has = (sym took.reply_is, took.stands, has)
-took_answers (reply.Fault code) core words stepped took has = (sym took.reply_is, took.stands, has)
-took_answers reply.NoMemory core words stepped took has = tt
+pub took_answers : (its_reply : Reply) (core : CoreModel) (words : ℕ → ℕ) (stepped : Stepped) → its_reply ≡ stepped.reply
+    → StandsFor core stepped.world → HasWords stepped.world words → Answers its_reply core words stepped
+took_answers reply.Done core words stepped same stands has = (sym same, stands, has)
+took_answers (reply.Value value) core words stepped same stands has = (sym same, stands, has)
+took_answers (reply.KeyIs key) core words stepped same stands has = (sym same, stands, has)
+took_answers (reply.PairsAre pairs) core words stepped same stands has = (sym same, stands, has)
+took_answers (reply.Version version) core words stepped same stands has = (sym same, stands, has)
+took_answers (reply.Life life) core words stepped same stands has = (sym same, stands, has)
+took_answers (reply.Stamp stamp) core words stepped same stands has = (sym same, stands, has)
+took_answers reply.NotYet core words stepped same stands has = (sym same, stands, has)
+took_answers (reply.Fault code) core words stepped same stands has = (sym same, stands, has)
+took_answers reply.Empty core words stepped same stands has = (sym same, stands, has)
+took_answers (reply.Started machine instructions) core words stepped same stands has = (sym same, stands, has)
+took_answers reply.NoMachine core words stepped same stands has = (sym same, stands, has)
+took_answers reply.NoMemory core words stepped same stands has = tt
 
 -- how many requests were taken does not matter for what a core stands for
-pub stands_counted : (core : CoreModel) (applied : ℕ) (world : World) → StandsFor core world
-    → StandsFor (record core { applied = applied }) world
+pub stands_counted : (core : ContentsModel) (applied : ℕ) (world : World) → KeepsWorld core world
+    → KeepsWorld (record core { applied = applied }) world
 stands_counted core applied world stands = record { keeps = stands.keeps; transactions = stands.transactions; lives = stands.lives }
 
 -- a core that is sound takes a request, and is sound after it
-pub sound_taken : (core after : CoreModel) (given : Request) (its_reply : Reply) (applied : ℕ)
-    → ((world : World) → StandsFor core world → Took its_reply after (step world given))
+pub sound_taken : (core after : ContentsModel) (given : Request) (its_reply : Reply) (applied : ℕ)
+    → ((world : World) → KeepsWorld core world → Took its_reply after (step world given))
     → IsSound core (applied + 1) → IsSound after (applied + 1 + 1)
 sound_taken core after given its_reply applied took sound =
     let few = step_few sound.world given in
@@ -116,10 +190,57 @@ sound_taken core after given its_reply applied took sound =
     }
 
 -- a core that is sound has versions to spare
-pub sound_enough : (core : CoreModel) (applied counted : ℕ) → applied < 2 ^ 62 → IsSound core (applied + 1)
+pub sound_enough : (core : ContentsModel) (applied counted : ℕ) → applied < 2 ^ 62 → IsSound core (applied + 1)
     → IsSound (record core { applied = counted }) (2 ^ 62)
 sound_enough core applied counted few sound = record {
   world = sound.world;
   stands = stands_counted core counted sound.world sound.stands;
   few_commits = omega (arith, sound.few_commits);
+}
+
+-- the map at the last version that is kept
+pub kept_newest : (contents : ContentsModel) (world : World) → KeepsWorld contents world
+    → versions.at contents.store (last_of contents.store) ≡ newest world
+kept_newest contents world keeps =
+    ap (versions.at contents.store) keeps.keeps.last_is ∙ keeps.keeps.at_is (last world.setting.history) (omega arith)
+
+-- a request that isn't the start of a machine is one of the database
+pub on_database : (given : Request) → ((prefix : List ℕ) → given ≡ request.Start prefix → ⊥) → IsOnDatabase given
+on_database (request.New name) other = tt
+on_database (request.On name its_call) other = tt
+on_database (request.Database its_call) other = tt
+on_database (request.Log prefix entries) other = tt
+on_database (request.PollStamp life) other = tt
+on_database (request.PollEmpty prefix) other = tt
+on_database (request.Start prefix) other = other prefix refl
+
+-- it starts none
+pub none_started : (given : Request) (its_reply : Reply) (old new : List (List ℕ)) → IsOnDatabase given → new ≡ old
+    → HasStarted (start_prefix given) its_reply old new
+none_started (request.New name) its_reply old new on same = ap length same
+none_started (request.On name its_call) its_reply old new on same = ap length same
+none_started (request.Database its_call) its_reply old new on same = ap length same
+none_started (request.Log prefix entries) its_reply old new on same = ap length same
+none_started (request.PollStamp life) its_reply old new on same = ap length same
+none_started (request.PollEmpty prefix) its_reply old new on same = ap length same
+none_started (request.Start prefix) its_reply old new on same = absurd on
+
+-- the start of a machine is answered by its step
+pub start_answers : (contents : ContentsModel) (core : CoreModel) (words : ℕ → ℕ) (world : World) (given : Request) (prefix : List ℕ)
+    (its_reply : Reply) → given ≡ request.Start prefix → contents_in core ≡ contents → KeepsWorld contents world
+    → TookStart its_reply core.started (start_by (nat_lt (length world.started) MACHINES) world prefix) → HasWords world words
+    → Answers its_reply core words (step world given)
+unfolding step
+start_answers contents core words world given prefix its_reply is same keeps took has =
+    let stepped = start_by (nat_lt (length world.started) MACHINES) world prefix in
+    subst (λ (asked : Request). Answers its_reply core words (step world asked)) (sym is)
+    (took_answers its_reply core words stepped took.reply_is (start_stands contents core world prefix same keeps took.started_is)
+    (words_kept world (request.Start prefix) words has))
+
+-- more commits may be than there are
+pub sound_later : (core : ContentsModel) (counted few more : ℕ) → few ≤ more → IsSound core few → IsSound (record core { applied = counted }) more
+sound_later core counted few more is sound = record {
+  world = sound.world;
+  stands = stands_counted core counted sound.world sound.stands;
+  few_commits = omega (arith, sound.few_commits, is);
 }

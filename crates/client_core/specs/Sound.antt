@@ -9,24 +9,24 @@ use Rattle.database_rules.specs.Transactions.{Transaction}
 use Rattle.fdb_calls.specs.Calling.{Called}
 use Rattle.machine_rules.specs.Worlds.{World, Stepped, called_apart}
 use Rattle.txn_core.specs.Stands as txn
-use Rattle.client_core.specs.Stands.{CoreModel, StandsFor}
+use Rattle.client_core.specs.Stands.{ContentsModel, KeepsWorld}
 
 -- A core stands for some world, whose history has at most this many commits.
-pub record IsSound (core : CoreModel) (commits : ℕ) : Type 0 where
+pub record IsSound (core : ContentsModel) (commits : ℕ) : Type 0 where
   pub world : World
-  pub stands : StandsFor core world
+  pub stands : KeepsWorld core world
   pub few_commits : last world.setting.history ≤ commits
 
 -- the reply is that of a step, and the core stands for its world
-pub record Took (reply : Reply) (core : CoreModel) (stepped : Stepped) : Type 0 where
+pub record Took (reply : Reply) (core : ContentsModel) (stepped : Stepped) : Type 0 where
   pub reply_is : reply ≡ stepped.reply
-  pub stands : StandsFor core stepped.world
+  pub stands : KeepsWorld core stepped.world
 
 -- the same of a call on a transaction that stands under no name, which was this one before
-pub record TookApart (reply : Reply) (kept : txn.Kept) (core : CoreModel) (world : World) (before : Transaction) (called : Called) : Type 0 where
+pub record TookApart (reply : Reply) (kept : txn.Kept) (core : ContentsModel) (world : World) (before : Transaction) (called : Called) : Type 0 where
   pub reply_is : reply ≡ called.reply
   pub stands : txn.StandsFor kept called.transaction
-  pub world_stands : StandsFor core (called_apart world before called)
+  pub world_stands : KeepsWorld core (called_apart world before called)
 
 -- writes are replied to as they were answered
 abbrev pub Replies : {A : Type 0} → Result A TrFault → Reply → Type 0

@@ -1,5 +1,5 @@
 -- What a core stands for.
-use Rattle.std.specs.Prelude.{◌≡◌, ℕ, ⊤, List, Option, Some, None}
+use Rattle.std.specs.Prelude.{◌≡◌, ℕ, ◌+◌, ◌≤◌, ⊤, List, length, Option, Some, None}
 use Rattle.std.specs.FinMap as finite
 use Rattle.fdb_calls.specs.declared.Outcome.{Outcome}
 use Rattle.fdb_calls.specs.declared.Reply.{Reply}
@@ -7,6 +7,7 @@ use Rattle.fdb_calls.specs.declared.Reply.TheVariants as reply
 use Rattle.key_bytes.specs.Keys.{key_cmp}
 use Rattle.database_rules.specs.Transactions.{Transaction}
 use Rattle.machine_rules.specs.Worlds.{World, Stepped, HasWords}
+use Rattle.machine_rules.specs.declared.TheConstants.{MACHINES}
 use Rattle.edge_map.specs.Edges.{Edges}
 use Rattle.version_store.specs.Versions.{Versions}
 use Rattle.txn_core.specs.Stands as txn
@@ -15,14 +16,27 @@ use Rattle.txn_core.specs.Stands as txn
 abbrev pub KeptTransactions : Type 0
 KeptTransactions = finite.FinMap key_cmp txn.Kept
 
--- what a core keeps: the store of its versions, the index of what commits declared to write, the transactions by name,
--- what became of each life that was drawn, and how many requests it took
+-- what a core keeps of the database: the store of its versions, the index of what commits declared to write, the transactions
+-- by name, what became of each life that was drawn, and how many requests it took
+pub record ContentsModel : Type 0 where
+  pub store : Versions
+  pub index : Edges ℕ
+  pub transactions : KeptTransactions
+  pub lives : List (Option Outcome)
+  pub applied : ℕ
+
+-- the same, and the prefixes of the machines that were started, by their numbers
 pub record CoreModel : Type 0 where
   pub store : Versions
   pub index : Edges ℕ
   pub transactions : KeptTransactions
   pub lives : List (Option Outcome)
   pub applied : ℕ
+  pub started : List (List ℕ)
+
+abbrev pub contents_in : CoreModel → ContentsModel
+contents_in core =
+    record { store = core.store; index = core.index; transactions = core.transactions; lives = core.lives; applied = core.applied }
 
 -- both are none, or the first stands for the second
 abbrev pub AreAlike : Option txn.Kept → Option Transaction → Type 0
@@ -31,12 +45,17 @@ AreAlike None (Some transaction) = ⊥
 AreAlike (Some kept) None = ⊥
 AreAlike (Some kept) (Some transaction) = txn.StandsFor kept transaction
 
--- A core stands for each world whose history its store and its index keep, in which the same became of each life, and in
--- which each name has a transaction that the core's stands for, or none where the core has none.
+-- The store and the index keep the history of a world in which the same became of each life, and in which each name has a
+-- transaction that the kept one stands for, or none where none is kept.
+pub record KeepsWorld (contents : ContentsModel) (world : World) : Type 0 where
+  pub keeps : txn.Keeps contents.store contents.index world.setting
+  pub transactions : (name : List ℕ) → AreAlike (finite.get contents.transactions name) (finite.get world.transactions name)
+  pub lives : contents.lives ≡ world.lives
+
+-- A core stands for each world that it keeps so, and in which the same machines were started.
 pub record StandsFor (core : CoreModel) (world : World) : Type 0 where
-  pub keeps : txn.Keeps core.store core.index world.setting
-  pub transactions : (name : List ℕ) → AreAlike (finite.get core.transactions name) (finite.get world.transactions name)
-  pub lives : core.lives ≡ world.lives
+  pub contents : KeepsWorld (contents_in core) world
+  pub started : core.started ≡ world.started
 
 -- the reply is that of a step, the core stands for its world, and the words still to come are that world's; or memory ran
 -- out, and nothing is said of the core and of the words
@@ -57,4 +76,15 @@ Answers (reply.Stamp stamp) core words stepped =
 Answers reply.NotYet core words stepped = (stepped.reply ≡ reply.NotYet) × StandsFor core stepped.world × HasWords stepped.world words
 Answers (reply.Fault code) core words stepped =
     (stepped.reply ≡ reply.Fault code) × StandsFor core stepped.world × HasWords stepped.world words
+Answers reply.Empty core words stepped = (stepped.reply ≡ reply.Empty) × StandsFor core stepped.world × HasWords stepped.world words
+Answers (reply.Started machine instructions) core words stepped =
+    (stepped.reply ≡ reply.Started machine instructions) × StandsFor core stepped.world × HasWords stepped.world words
+Answers reply.NoMachine core words stepped = (stepped.reply ≡ reply.NoMachine) × StandsFor core stepped.world × HasWords stepped.world words
 Answers reply.NoMemory core words stepped = ⊤
+
+-- how many machines were started before and after a request that starts one under this prefix, or starts none
+abbrev pub HasStarted : (prefix : Option (List ℕ)) → Reply → (old new : List (List ℕ)) → Type 0
+HasStarted None given old new = length new ≡ length old
+HasStarted (Some prefix) (reply.Started machine instructions) old new = (length new ≡ length old + 1) × (length new ≤ MACHINES)
+HasStarted (Some prefix) reply.NoMemory old new = ⊤
+HasStarted (Some prefix) given old new = length new ≡ length old

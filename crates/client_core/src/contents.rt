@@ -2,22 +2,23 @@
 
 ghost use Rattle.std.specs.Prelude.{◌≡◌, ◌+◌, ◌<◌, ◌^◌, ◌∷◌, [], None, unwrap_or, option_map, if◌then◌else◌, length, slice_index_or, IsSome, IfOk, OnOk};
 ghost use Rattle.std.specs.FinMap as finite;
+ghost use Rattle.std.specs.Map.Iter.{deref_pair};
 ghost use Rattle.database_rules.specs.Transactions.{Transaction};
 ghost use Rattle.fdb_calls.specs.declared.Request.TheVariants.{Database, Log};
-ghost use Rattle.fdb_calls.specs.declared.Reply.TheVariants.{Done};
+ghost use Rattle.fdb_calls.specs.declared.Reply.TheVariants.{Done, Empty, NotYet};
 ghost use Rattle.fdb_calls.specs.Calling.{Called, called, is_fault};
-ghost use Rattle.machine_rules.specs.Worlds.{World, with_new, with_named, call_named, commit_made, fresh_at_last, next_life, promised, step};
+ghost use Rattle.machine_rules.specs.Worlds.{World, with_new, with_named, call_named, commit_made, fresh_at_last, has_key_with, next_life, promised, step};
 ghost use Rattle.client_core.specs.Lives.{drawn_in, life_of};
-ghost use Rattle.version_store.specs.Versions.{last_of};
-ghost use Rattle.client_core.specs.Stands.{StandsFor};
+ghost use Rattle.version_store.specs.Versions.{at, last_of};
+ghost use Rattle.client_core.specs.Stands.{KeepsWorld};
 ghost use Rattle.txn_core.specs.Stands as txn;
 ghost use Rattle.client_core.specs.Sound.{IsSound, Took, TookApart, Replies};
-ghost use Rattle.client_core.specs.Contents.{model_of};
+ghost use Rattle.client_core.specs.Contents.{first_begins, model_of, IsOnDatabase};
 
 use crate::lives::{Lives, outcome_after};
 use conflict_ranges::WriteIndex;
 use fdb_calls::{Outcome, Reply, Request, TrFault, TxnCall};
-use key_bytes::{Bytes, Pairs};
+use key_bytes::{Bytes, Key, Pairs};
 use key_map::KeyMap;
 use std::alloc::{AllocError, Global};
 use txn_core::Txn;
@@ -35,11 +36,12 @@ pub struct Contents {
 }
 
 impl Contents {
-    /// A request: its step in the world. It is refused for want of memory alone, and nothing is said then but how many
+    /// A request of the database: its step in the world. It is refused for want of memory alone, and nothing is said then but how many
     /// requests were taken.
     pub fn take(&mut self, request: &Request) -> Result<Reply, AllocError>
-        requires { IsSound (model_of self.old) (2 ^ 62) }
-        ensures step { IfOk result (λ reply. (world : World) → StandsFor (model_of self.old) world
+        requires sound { IsSound (model_of self.old) (2 ^ 62) }
+        requires database { IsOnDatabase request.now }
+        ensures step { IfOk result (λ reply. (world : World) → KeepsWorld (model_of self.old) world
             → Took reply (model_of self.new) (step world request.now)) }
         ensures applied { self.new.applied ≡ self.old.applied }
     {
@@ -49,12 +51,14 @@ impl Contents {
             Request::Database { call } => self.call_database(call),
             Request::Log { prefix, entries } => self.log(prefix, entries),
             Request::PollStamp { life } => Ok(self.poll(*life)),
+            Request::PollEmpty { prefix } => Ok(self.poll_empty(prefix)),
+            Request::Start { .. } => unreachable!(),
         }
     }
 
     // A transaction of a new life stands under a name, in place of the one that is there.
     fn make_new(&mut self, name: &Bytes) -> Result<Reply, AllocError>
-        ensures stands { IfOk result (λ reply. (world : World) → StandsFor (model_of self.old) world
+        ensures stands { IfOk result (λ reply. (world : World) → KeepsWorld (model_of self.old) world
             → Took reply (model_of self.new) (record { world = with_new world name.now; reply = Done })) }
         ensures there { OnOk result (IsSome (finite.get self.new.transactions name.now)) }
         ensures store { self.new.store ≡ self.old.store }
@@ -81,8 +85,8 @@ impl Contents {
 
     // A name that has no transaction gets one.
     fn make(&mut self, name: &Bytes) -> Result<(), AllocError>
-        ensures stands { OnOk result ((world : World) → StandsFor (model_of self.old) world
-            → StandsFor (model_of self.new) (with_named world name.now)) }
+        ensures stands { OnOk result ((world : World) → KeepsWorld (model_of self.old) world
+            → KeepsWorld (model_of self.new) (with_named world name.now)) }
         ensures there { OnOk result (IsSome (finite.get self.new.transactions name.now)) }
         ensures store { self.new.store ≡ self.old.store }
         ensures index { self.new.index ≡ self.old.index }
@@ -97,7 +101,7 @@ impl Contents {
     // A call on the transaction of a name, which is made where the name has none.
     fn call_made(&mut self, name: &Bytes, call: &TxnCall) -> Result<Reply, AllocError>
         requires { IsSound (model_of self.old) (2 ^ 62) }
-        ensures step { IfOk result (λ reply. (world : World) → StandsFor (model_of self.old) world
+        ensures step { IfOk result (λ reply. (world : World) → KeepsWorld (model_of self.old) world
             → Took reply (model_of self.new) (call_named (with_named world name.now) name.now call.now)) }
         ensures applied { self.new.applied ≡ self.old.applied }
     {
@@ -109,7 +113,7 @@ impl Contents {
     fn call_named(&mut self, name: &Bytes, call: &TxnCall) -> Result<Reply, AllocError>
         requires there { IsSome (finite.get self.old.transactions name.now) }
         requires few_commits { last_of self.old.store + 1 < 2 ^ 63 }
-        ensures step { IfOk result (λ reply. (world : World) → StandsFor (model_of self.old) world
+        ensures step { IfOk result (λ reply. (world : World) → KeepsWorld (model_of self.old) world
             → Took reply (model_of self.new) (call_named world name.now call.now)) }
         ensures applied { self.new.applied ≡ self.old.applied }
     {
@@ -124,7 +128,7 @@ impl Contents {
     // A call on a transaction of its own at the last version, which is then committed.
     fn call_database(&mut self, call: &TxnCall) -> Result<Reply, AllocError>
         requires { IsSound (model_of self.old) (2 ^ 62) }
-        ensures step { IfOk result (λ reply. (world : World) → StandsFor (model_of self.old) world
+        ensures step { IfOk result (λ reply. (world : World) → KeepsWorld (model_of self.old) world
             → Took reply (model_of self.new) (step world (Database call.now))) }
         ensures applied { self.new.applied ≡ self.old.applied }
     {
@@ -136,7 +140,7 @@ impl Contents {
     // Writes entries under a prefix on a transaction of its own at the last version, which is then committed.
     fn log(&mut self, prefix: &Bytes, entries: &Pairs) -> Result<Reply, AllocError>
         requires { IsSound (model_of self.old) (2 ^ 62) }
-        ensures step { IfOk result (λ reply. (world : World) → StandsFor (model_of self.old) world
+        ensures step { IfOk result (λ reply. (world : World) → KeepsWorld (model_of self.old) world
             → Took reply (model_of self.new) (step world (Log prefix.now entries.now))) }
         ensures applied { self.new.applied ≡ self.old.applied }
     {
@@ -150,8 +154,8 @@ impl Contents {
 
     // A transaction of a new life at the last version, which stands under no name.
     fn draw_apart(&mut self) -> Result<Txn, AllocError>
-        ensures drawn { IfOk result (λ transaction. (world : World) → StandsFor (model_of self.old) world
-            → txn.StandsFor transaction (fresh_at_last world) × StandsFor (model_of self.new) (drawn_in world)) }
+        ensures drawn { IfOk result (λ transaction. (world : World) → KeepsWorld (model_of self.old) world
+            → txn.StandsFor transaction (fresh_at_last world) × KeepsWorld (model_of self.new) (drawn_in world)) }
         ensures store { OnOk result (self.new.store ≡ self.old.store) }
         ensures applied { self.new.applied ≡ self.old.applied }
     {
@@ -164,7 +168,7 @@ impl Contents {
     fn commit_apart(&mut self, mut transaction: Txn, reply: Reply) -> Result<Reply, AllocError>
         requires few_commits { last_of self.old.store + 1 < 2 ^ 63 }
         ensures step { IfOk result (λ answered. (world : World) (made : Called) → reply ≡ made.reply → txn.StandsFor transaction made.transaction
-            → StandsFor (model_of self.old) world → Took answered (model_of self.new) (commit_made world made)) }
+            → KeepsWorld (model_of self.old) world → Took answered (model_of self.new) (commit_made world made)) }
         ensures applied { self.new.applied ≡ self.old.applied }
     {
         if is_fault(&reply) {
@@ -178,7 +182,7 @@ impl Contents {
     fn call_apart(&mut self, transaction: &mut Txn, call: &TxnCall) -> Result<Reply, AllocError>
         requires few_commits { last_of self.old.store + 1 < 2 ^ 63 }
         ensures step { IfOk result (λ reply. (t : Transaction) (world : World) → txn.StandsFor transaction.old t
-            → StandsFor (model_of self.old) world
+            → KeepsWorld (model_of self.old) world
             → TookApart reply transaction.new (model_of self.new) world t (called world.setting (next_life world) t call.now)) }
         ensures applied { self.new.applied ≡ self.old.applied }
     {
@@ -198,6 +202,37 @@ impl Contents {
             Some(Outcome::Lacks(code)) => Reply::Fault(code),
             None => Reply::NotYet,
         }
+    }
+
+    // Whether no key begins with a prefix at the last version.
+    fn poll_empty(&self, prefix: &Key) -> Reply
+        ensures { result ≡ (if has_key_with prefix.now (at self.now.store (last_of self.now.store)) then NotYet else Empty) }
+    {
+        if self.has_key_with(prefix) {
+            Reply::NotYet
+        } else {
+            Reply::Empty
+        }
+    }
+
+    // Whether a key begins with a prefix at the last version. It takes no memory, and one search.
+    fn has_key_with(&self, prefix: &Key) -> bool
+        ensures { result ≡ has_key_with prefix.now (at self.now.store (last_of self.now.store)) }
+    {
+        match self.store.next_at(prefix, self.store.last()) {
+            Ok(first) => begins(first, prefix),
+            Err(_) => unreachable!(),
+        }
+    }
+}
+
+// Whether a pair is there, and its key begins with a prefix.
+fn begins(pair: Option<(&Key, &Bytes)>, prefix: &Key) -> bool
+    ensures { result ≡ first_begins prefix.now (option_map deref_pair pair.entry) }
+{
+    match pair {
+        Some((key, _)) => key.starts_with(prefix.as_slice()),
+        None => false,
     }
 }
 

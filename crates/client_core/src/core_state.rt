@@ -4,11 +4,14 @@ ghost use Rattle.std.specs.Prelude.{◌≡◌, ℕ, ◌+◌, ◌<◌, ◌^◌, I
 ghost use Rattle.std.specs.FinMap as finite;
 ghost use Rattle.std.specs.List.{filter};
 ghost use Rattle.key_bytes.specs.Keys.{within};
-ghost use Rattle.machine_rules.specs.Worlds.{World, HasWords, begun, step};
+ghost use Rattle.machine_rules.specs.Runs.{start_prefix};
+ghost use Rattle.machine_rules.specs.Worlds.{World, HasWords, begun, instruction_pairs, step};
 ghost use Rattle.version_store.specs.Versions.{at, last_of};
 
 use crate::contents::Contents;
 use crate::lives::Lives;
+use crate::machines::{Machines, instructions_under, start};
+use command_rules::RunArgs;
 use conflict_ranges::WriteIndex;
 use fdb_calls::{Reply, Request};
 use key_bytes::{Key, Pairs};
@@ -22,6 +25,7 @@ use version_store::{PairsLeft, Store};
 #[derive(Drop)]
 pub struct Core {
     contents: Contents,
+    machines: Machines,
     is_out_of_memory: bool,
 }
 
@@ -29,7 +33,7 @@ impl Model for Core {
     ghost use Rattle.std.specs.Prelude.{◌≡◌, false, ◌+◌};
     ghost use Rattle.client_core.specs.Stands.{CoreModel};
     ghost use Rattle.client_core.specs.Sound.{IsSound};
-    ghost use Rattle.client_core.specs.Contents.{model_of};
+    ghost use Rattle.client_core.specs.Contents.{core_of, model_of};
     ghost use Rattle.std.specs.FinMap as finite;
     ghost use Rattle.key_bytes.specs.Keys.{key_cmp};
     ghost use Rattle.std.specs.Coded.{codes, coded_ℕ, coded_list};
@@ -41,21 +45,23 @@ impl Model for Core {
 
     ghost coded = { Prim.hlevel (codes, store.the_row.coded, index.the_row.coded, finite.code {R = key_cmp} (coded_list coded_ℕ) txn.the_row.coded) };
 
-    ghost view = { λ core. model_of core.contents };
+    ghost view = { λ core. core_of core.contents core.machines };
 
     ghost invariant = { λ core. core.is_out_of_memory ≡ false
         → IsSound (model_of core.contents) (core.contents.applied + 1) };
 }
 
 impl Core {
-    ghost use Rattle.client_core.specs.Stands.{StandsFor, Answers};
+    ghost use Rattle.client_core.specs.Stands.{StandsFor, Answers, HasStarted};
 
-    /// The core with these pairs as its first commit; of two values of one key the later stays.
-    pub fn load(alloc: Global, pairs: Pairs) -> Result<Core, AllocError>
-        ensures begun { IfOk result (λ core. (words : ℕ → ℕ) → StandsFor core (begun pairs words)) }
+    /// The core with these pairs as its first commit, and machine 0 started by these arguments; of two values of one key the
+    /// later stays.
+    pub fn load(alloc: Global, arguments: &RunArgs, pairs: Pairs) -> Result<Core, AllocError>
+        ensures begun { IfOk result (λ core. StandsFor core (begun pairs arguments.now)) }
         ensures applied { IfOk result (λ core. core.applied ≡ 0) }
     {
         let store = Store::load(alloc, pairs)?;
+        let machines = Machines::new(alloc, arguments.prefix.copy()?)?;
         Ok(Core {
             contents: Contents {
                 alloc,
@@ -65,6 +71,7 @@ impl Core {
                 lives: Lives::new(alloc),
                 applied: 0,
             },
+            machines,
             is_out_of_memory: false,
         })
     }
@@ -107,6 +114,14 @@ impl Core {
         self.contents.store.pairs_between(begin, end)
     }
 
+    /// The pairs of the instructions of a prefix at the last version, in the order of their keys: those in the range of the
+    /// tuples that begin with it.
+    pub fn instructions(&self, prefix: &[u8]) -> Result<Pairs, AllocError>
+        ensures { IfOk result (λ pairs. pairs ≡ instruction_pairs prefix.now (at self.now.store (last_of self.now.store))) }
+    {
+        instructions_under(self.contents.alloc, &self.contents.store, prefix)
+    }
+
     /// Takes a request of a machine: its step in the world, and the reply that is fixed there. The random words are those
     /// of the world; no request uses one yet. NoMemory comes for want of memory alone, nothing is said of the core then,
     /// and each further request is answered so too.
@@ -115,18 +130,29 @@ impl Core {
         ensures step { (world : World) → StandsFor self.old world → HasWords world (W.words _words.old)
             → Answers result self.new (W.words _words.new) (step world request.now) }
         ensures applied { self.new.applied ≡ self.old.applied + 1 }
+        // A machine more was started exactly where the reply to a start says so, and never more than may be.
+        ensures started { HasStarted (start_prefix request.now) result self.old.started self.new.started }
     {
         self.contents.applied += 1;
         if self.is_out_of_memory {
             return Reply::NoMemory;
         }
         self.is_out_of_memory = true;
-        match self.contents.take(request) {
-            Ok(reply) => {
-                self.is_out_of_memory = false;
-                reply
-            }
-            Err(_) => Reply::NoMemory,
+        match request {
+            Request::Start { prefix } => match start(&mut self.machines, &self.contents, prefix) {
+                Ok(reply) => {
+                    self.is_out_of_memory = false;
+                    reply
+                }
+                Err(_) => Reply::NoMemory,
+            },
+            _ => match self.contents.take(request) {
+                Ok(reply) => {
+                    self.is_out_of_memory = false;
+                    reply
+                }
+                Err(_) => Reply::NoMemory,
+            },
         }
     }
 }

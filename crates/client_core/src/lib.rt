@@ -3,7 +3,8 @@
 //!
 //! A `Core` stands for a world of the definitions (`machine_rules`, `specs/Worlds.antt`): its store has the map of the
 //! world's history at each version, its index has for each key the newest commit that declared it, the same became
-//! of each life, and each name has a transaction that stands for the world's (`specs/Stands.antt`). `load` stands for the
+//! of each life, each name has a transaction that stands for the world's, and the same machines were started
+//! (`specs/Stands.antt`). `load` stands for the
 //! beginning, and for every world for which a core stands before `apply`, the reply is that of the step, and the core stands
 //! for the world of the step.
 #![tactic(auto)]
@@ -11,6 +12,7 @@
 mod contents;
 mod core_state;
 mod lives;
+mod machines;
 
 pub use core_state::Core;
 

@@ -1,5 +1,6 @@
 use super::*;
 use asks::{Ask, Say, bytes_of, range_of, request_of};
+use command_rules::RunArgs;
 use database_rules::{Code, Mode, Selector};
 use fdb_calls::{Reply, Request, TxnCall};
 use key_bytes::{Bytes, KeyRange, Pair, Pairs};
@@ -12,18 +13,20 @@ mod beside;
 mod conflicts;
 mod draws;
 mod limits;
+mod machines;
 mod plain;
 mod plain_atoms;
 mod plain_fates;
 mod plain_keys;
 mod plain_lives;
+mod plain_machines;
 mod plain_reads;
 mod plain_rests;
 mod plain_writes;
 mod promises;
 mod reads;
 
-// What a request is answered, as a test writes it. Pairs are spelled.
+// What a request is answered, as a test writes it. Pairs, and instructions, are spelled.
 #[derive(Clone, Copy, PartialEq, Eq)]
 enum Told<'a> {
     Done,
@@ -35,22 +38,27 @@ enum Told<'a> {
     Life(u64),
     Stamp([u8; 10]),
     NotYet,
+    Empty,
+    Started(u16, &'a [u8]),
+    NoMachine,
     Fault(u16),
     NoMemory,
 }
 
-// None where it is pairs.
+// None where it has pairs.
 fn tell(reply: &Reply) -> Option<Told<'_>> {
     match reply {
         Reply::Done => Some(Told::Done),
         Reply::Value(None) => Some(Told::Nothing),
         Reply::Value(Some(value)) => Some(Told::Value(value.as_slice())),
         Reply::KeyIs(key) => Some(Told::Key(key.as_slice())),
-        Reply::PairsAre(_) => None,
+        Reply::PairsAre(_) | Reply::Started { .. } => None,
         Reply::Version(version) => Some(Told::Version(*version)),
         Reply::Life(life) => Some(Told::Life(*life)),
         Reply::Stamp(stamp) => Some(Told::Stamp(*stamp)),
         Reply::NotYet => Some(Told::NotYet),
+        Reply::Empty => Some(Told::Empty),
+        Reply::NoMachine => Some(Told::NoMachine),
         Reply::Fault(code) => Some(Told::Fault(code.0)),
         Reply::NoMemory => Some(Told::NoMemory),
     }
@@ -62,6 +70,13 @@ fn is_told(alloc: Global, reply: &Reply, wanted: Told<'_>) -> Result<bool, Alloc
         (Reply::PairsAre(pairs), Told::Pairs(text)) => {
             Ok(spelled(alloc, pairs)?.as_slice() == text)
         }
+        (
+            Reply::Started {
+                machine,
+                instructions,
+            },
+            Told::Started(number, text),
+        ) => Ok(*machine == number && spelled(alloc, instructions)?.as_slice() == text),
         _ => Ok(tell(reply) == Some(wanted)),
     }
 }
@@ -129,7 +144,12 @@ fn pairs_of(alloc: Global, loaded: &[Loaded]) -> Result<Pairs, AllocError> {
 }
 
 fn core_of(alloc: Global, loaded: &[Loaded]) -> Result<Core, AllocError> {
-    Core::load(alloc, pairs_of(alloc, loaded)?)
+    let arguments = RunArgs {
+        prefix: bytes_of(alloc, b"p")?,
+        seed: 0,
+        polls: 10,
+    };
+    Core::load(alloc, &arguments, pairs_of(alloc, loaded)?)
 }
 
 const TWO: &[Loaded] = &[(b"b", b"1"), (b"a", b"2"), (b"b", b"3")];

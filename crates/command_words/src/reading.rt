@@ -7,7 +7,7 @@ ghost use Rattle.clap.specs.Walk.{rows_of};
 ghost use Rattle.clap.specs.Simple.{subcommand_rows_of};
 ghost use Rattle.clap.specs.declared.error.kind.ErrorKind.TheVariants.{OutOfMemory};
 ghost use Rattle.command_rules.specs.Grammar.{args_of, number_given, number_in, prefix_in};
-ghost use Rattle.command_rules.specs.Found.{asked_by, asked_in, is_marked, listed};
+ghost use Rattle.command_laws.specs.Found.{asked_by, asked_in, is_marked, listed};
 
 use crate::args::ArgWords;
 use crate::command::program;

@@ -2,11 +2,21 @@
 use Rattle.std.proofs.Common.{◌≡◌, ℕ, zero, suc, ◌+◌, ◌-◌, ◌<◌, ◌≤◌, true, false, cond, ◌==◌, List, [], ◌∷◌, ◌++◌, length, take, drop, get_or, Result, Ok, Err, refl, sym, ap, ◌∙◌, append_assoc, arith}
 use Rattle.std.proofs.lemmas.List.{append-nil, length_push, nil_from_length}
 use Rattle.std.proofs.lemmas.Bool.{false_from_ne_true}
-use Rattle.line_rules.specs.Reading.{Entry, Fault, Line, Place, lines_of, joined, read_line, read_lines, next_place, is_pair, size_of}
+use Rattle.line_rules.specs.Reading.{Entry, Fault, BadLine, TooLong, TooMany, Line, Place, lines_of, joined, read_line, read_lines, next_place, is_pair, size_of}
 use Rattle.line_rules.proofs.ReadLines.{is_read}
 use Rattle.dump_text.specs.declared.fault.LineFault.{LineFault}
 use Rattle.dump_text.specs.declared.fault.LineFault.TheVariants as errors
+use Rattle.dump_text.specs.Places.{place_at}
 use Rattle.dump_text.specs.Reading.{Fails}
+
+-- the first fault decides
+pub fault_decides : {A B : Type 0} (e : LineFault) (through : Result A Fault → Result B Fault)
+    → ((fault : Fault) → through (Err fault) ≡ Err fault) → (first : Result A Fault) (total : Result B Fault) → Fails e first
+    → through first ≡ total → Fails e total
+fault_decides (errors.BadLine line place) through decides first total h so_far = sym so_far ∙ ap through h ∙ decides (BadLine line place)
+fault_decides (errors.TooLong line) through decides first total h so_far = sym so_far ∙ ap through h ∙ decides (TooLong line)
+fault_decides (errors.TooMany line) through decides first total h so_far = sym so_far ∙ ap through h ∙ decides (TooMany line)
+fault_decides errors.NoMemory through decides first total h so_far = tt
 
 -- what was read before, and what is still read
 abbrev pub before : List Entry → Result (List Entry) Fault → Result (List Entry) Fault
@@ -22,15 +32,6 @@ pub read_goes_on : (front : List Entry) (entry : Entry) (place : Place) (line : 
     → before front (read_lines place (line ∷ lines)) ≡ before (front ++ entry ∷ []) (read_lines (next_place place line) lines)
 unfolding read_lines
 read_goes_on front entry place line lines e = rw e (before_joined front entry (read_lines (next_place place line) lines))
-
-pub fault_decides : (e : LineFault) (front : List Entry) (place : Place) (line : Line) (lines : List Line)
-    (total : Result (List Entry) Fault) → Fails e (read_line place line)
-    → before front (read_lines place (line ∷ lines)) ≡ total → Fails e total
-unfolding read_lines
-fault_decides (errors.BadLine number at) front place line lines total h so_far = rw h at (sym so_far)
-fault_decides (errors.TooLong number) front place line lines total h so_far = rw h at (sym so_far)
-fault_decides (errors.TooMany number) front place line lines total h so_far = rw h at (sym so_far)
-fault_decides errors.NoMemory front place line lines total h so_far = tt
 
 read_is_done : (front : List Entry) (place : Place) (total : Result (List Entry) Fault) → before front (read_lines place []) ≡ total
     → total ≡ Ok front
@@ -78,10 +79,6 @@ last_line (byte ∷ next ∷ rest) h none =
 
 -- ---- a line of the input, and what is left behind it
 
--- where reading stands: what is left of the bytes, and the pairs that were read
-abbrev pub place_at : ℕ → List ℕ → List ℕ → List Entry → Place
-place_at number bytes left front = record { number = number; bytes = length bytes - length left; pairs = length front }
-
 pub line_goes_on : (number : ℕ) (bytes left rest : List ℕ) (front : List Entry) (entry : Entry) (line : Line)
     (total : Result (List Entry) Fault)
     → lines_of left ≡ line ∷ lines_of rest → size_of line + length rest ≡ length left → length left ≤ length bytes
@@ -102,4 +99,7 @@ pub line_ends : (fault : LineFault) (place : Place) (left rest : List ℕ) (fron
     (total : Result (List Entry) Fault)
     → lines_of left ≡ line ∷ lines_of rest → Fails fault (read_line place line) → before front (read_lines place (lines_of left)) ≡ total
     → Fails fault total
-line_ends fault place left rest front line total e h so_far = fault_decides fault front place line (lines_of rest) total h (rw e at so_far)
+unfolding read_lines
+line_ends fault place left rest front line total e h so_far =
+    fault_decides fault (λ first. before front (joined first (read_lines (next_place place line) (lines_of rest)))) (λ f. refl)
+    (read_line place line) total h (rw e at so_far)

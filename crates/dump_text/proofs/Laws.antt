@@ -1,27 +1,23 @@
--- An input that was read is the lines of its pairs, and the lines of pairs are read as these pairs.
-use Rattle.std.proofs.Common.{◌≡◌, ℕ, ◌+◌, ◌*◌, ◌/◌, ◌%◌, ◌<◌, ◌≤◌, Bool, true, false, cond, not, ◌||◌, ◌==◌, nat_lt, nat_le, List, [], ◌∷◌, ◌++◌, length, flat_map, Result, Ok, Err, refl, sym, ap, subst, ◌∙◌, append_assoc, arith}
+-- Lines that were read are the lines of their pairs, and the lines of pairs are read as these pairs.
+use Rattle.std.proofs.Common.{◌≡◌, ℕ, ◌+◌, ◌*◌, ◌/◌, ◌%◌, ◌<◌, ◌≤◌, Bool, true, false, cond, not, ◌||◌, ◌==◌, nat_lt, List, [], ◌∷◌, ◌++◌, length, flat_map, Result, Ok, Err, refl, sym, ap, subst, ◌∙◌, append_assoc, arith}
 use Rattle.std.specs.List.{AllByRecursion}
-use Rattle.std.proofs.lemmas.Bool.{eqb-true, ltb-false, le-ltb, lt-leb, not-false}
+use Rattle.std.proofs.lemmas.Bool.{eqb-true, ltb-false, le-ltb, not-false}
 use Rattle.std.proofs.lemmas.Bool.Decides.{nat_tests}
 use Rattle.std.proofs.lemmas.List.{append-nil, length-append}
 use Rattle.std.proofs.lemmas.List.Elements.{All-from_recursion, recursion_from_All}
 use Rattle.key_bytes.specs.Keys.{IsByteString, key_lt, top}
 use Rattle.database_rules.specs.declared.TheConstants.{KEY_LIMIT, VALUE_LIMIT}
-use Rattle.line_rules.specs.Inputs.{pair_lines, IsSmall, IsInput}
+use Rattle.line_rules.specs.Inputs.{pair_lines, IsSmall}
 use Rattle.line_rules.specs.Printing.{separator, printed, printable, hexadecimal_digit, is_plain, backslash, pair_line}
-use Rattle.line_rules.specs.Reading.{ReadText, text_of, Stop, AtEnd, AtSeparator, AtFault, Line, Flaw, Bad, Long, Entry, pair_within, value_at, key_at, fields_at, pair_at, lines_of, with_first, size_of, Fault, Place, start, next_place, read_line, read_lines, joined, pairs_of, input_limit, pairs_limit, line_limit}
+use Rattle.line_rules.specs.Reading.{ReadText, text_of, Stop, AtEnd, AtSeparator, AtFault, Line, Flaw, Bad, Long, Entry, pair_within, value_at, key_at, fields_at, pair_at, judged, lines_of, with_first, size_of, Fault, Place, next_place, read_line, read_lines, joined, input_limit, pairs_limit, line_limit}
 use Rattle.dump_text.specs.Texts.{with_front}
 use Rattle.dump_text.proofs.Pieces.{text_empty, text_parted}
 use Rattle.dump_text.proofs.Printed.{ending, text_was, text_printed}
 use Rattle.line_rules.proofs.Lines.{IsFeedless, IsFeedless-append, whole_first}
-use Rattle.line_rules.proofs.ReadLines.{guard_ok, neither, is_read}
+use Rattle.line_rules.proofs.ReadLines.{guard_ok, neither, limits_pass, is_read}
+use Rattle.input_rules.proofs.Machines.{choice_ok}
 
 -- ---- a pair that was read
-
-choice_ok : {A E : Type 0} (test : Bool) (fault : E) (read : Result A E) (value : A) → cond test read (Err fault) ≡ Ok value
-    → (test ≡ true) × (read ≡ Ok value)
-choice_ok true fault read value e = (refl, e)
-choice_ok false fault read value e = absurd cc
 
 abbrev pub found : Entry → Result Entry Flaw
 found entry = Ok entry
@@ -140,11 +136,11 @@ length-feed : (is_whole : Bool) → length {A = ℕ} (cond is_whole (10 ∷ []) 
 length-feed true = refl
 length-feed false = refl
 
-length-standing : (line : Line) → length (standing line) ≡ size_of line
+pub length-standing : (line : Line) → length (standing line) ≡ size_of line
 length-standing line = length-append line.bytes (cond line.is_whole (10 ∷ []) [])
     ∙ ap (λ (n : ℕ). length line.bytes + n) (length-feed line.is_whole)
 
-lines_were : (place : Place) (lines : List Line) (pairs : List Entry) → place.pairs ≤ pairs_limit → place.bytes ≤ input_limit
+pub lines_were : (place : Place) (lines : List Line) (pairs : List Entry) → place.pairs ≤ pairs_limit → place.bytes ≤ input_limit
     → read_lines place lines ≡ Ok pairs → WereRead place lines pairs
 unfolding read_lines
 lines_were place [] pairs few size e =
@@ -166,18 +162,6 @@ lines_were place (line ∷ lines) pairs few size e =
       count = omega (arith, later.count, one_more);
       size = omega (arith, later.size, length-append (standing line) (flat_map standing lines), length-standing line);
     })
-
-pub input_was : (bytes : List ℕ) (pairs : List Entry) → pairs_of bytes ≡ Ok pairs → IsInput bytes pairs
-unfolding pairs_of
-input_was bytes pairs e =
-    let read = lines_were start (lines_of bytes) pairs (omega arith) (omega arith) e in
-    let stands = lines_stand bytes in
-    record {
-      spelled = sym stands ∙ read.spelled;
-      small = read.small;
-      count = omega (arith, read.count);
-      size = omega (arith, ap length stands, read.size);
-    }
 
 -- ---- the lines of pairs are read
 
@@ -266,18 +250,16 @@ line_again : (place : Place) (entry : Entry) → IsSmall entry → place.pairs <
     → place.bytes + size_of (line_for entry) ≤ input_limit → read_line place (line_for entry) ≡ Ok entry
 unfolding read_line
 line_again place entry small few size =
-    let size_test : nat_lt input_limit (place.bytes + size_of (line_for entry)) ≡ false =
-    le-ltb input_limit (place.bytes + size_of (line_for entry)) size in
-    let few_test : nat_le pairs_limit place.pairs ≡ false = lt-leb pairs_limit place.pairs few in
-    let short_test : nat_lt line_limit (length (content entry)) ≡ false =
-    le-ltb line_limit (length (content entry)) (length-content entry small.key_len small.value_len) in
-    rw (size_test, few_test, short_test, pair_again (line_for entry) entry refl small) refl
+    let line = line_for entry in
+    let short = length-content entry small.key_len small.value_len in
+    limits_pass place line (judged place.number (pair_at line line.bytes)) (record { size = size; few = λ pair. few; short = short })
+    ∙ ap (judged place.number) (pair_again line entry refl small)
 
 first_again : (entry : Entry) (rest : List ℕ) → lines_of (pair_line entry.0 entry.1 ++ rest) ≡ line_for entry ∷ lines_of rest
 first_again entry rest = ap (λ (x : List ℕ). lines_of (x ++ rest)) (pair_line-is entry)
     ∙ whole_first (content entry) rest (feedless_content entry)
 
-lines_again : (place : Place) (pairs : List Entry) → AllByRecursion IsSmall pairs → place.pairs + length pairs ≤ pairs_limit
+pub lines_again : (place : Place) (pairs : List Entry) → AllByRecursion IsSmall pairs → place.pairs + length pairs ≤ pairs_limit
     → place.bytes + length (pair_lines pairs) ≤ input_limit
     → read_lines place (lines_of (pair_lines pairs)) ≡ Ok pairs
 unfolding read_lines lines_of
@@ -291,8 +273,3 @@ lines_again place (entry ∷ entries) small few size =
     let read = line_again place entry small.0 (omega arith) (omega (arith, lens)) in
     let later = lines_again (next_place place line) entries small.1 (omega arith) (omega (arith, lens)) in
     rw (first_again entry rest, read, later) refl
-
-pub input_again : (bytes : List ℕ) (pairs : List Entry) → IsInput bytes pairs → pairs_of bytes ≡ Ok pairs
-unfolding pairs_of
-input_again bytes pairs h =
-    rw h.spelled (lines_again start pairs h.small (omega (arith, h.count)) (omega (arith, h.size, ap length h.spelled)))

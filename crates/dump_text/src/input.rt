@@ -1,15 +1,19 @@
 //! Reading of an input, line after line.
 
-ghost use Rattle.std.specs.Prelude.{◌≡◌, ℕ, ◌+◌, ◌^◌, ◌<◌, ◌∷◌, ◌++◌, List, length, Ok, IfOk};
+ghost use Rattle.std.specs.Prelude.{◌≡◌, ℕ, ◌+◌, ◌-◌, ◌^◌, ◌<◌, ◌≤◌, [], ◌∷◌, ◌++◌, List, length, Ok, IfOk};
 ghost use Rattle.key_bytes.specs.Entries.{entry_of};
-ghost use Rattle.line_rules.specs.Reading.{Entry, size_of, is_too_many, lines_of, read_line, pairs_of, input_limit};
-ghost use Rattle.line_rules.specs.Inputs.{IsInput};
+ghost use Rattle.line_rules.specs.Reading.{start, size_of, is_too_many, lines_of, read_line, read_lines, input_limit};
+ghost use Rattle.input_rules.specs.declared.input.Input.{Input};
+ghost use Rattle.input_rules.specs.Orders.{is_of_order, read_machine};
+ghost use Rattle.input_rules.specs.Forms.{read_replay, input_of, IsInputOf};
 ghost use Rattle.dump_text.specs.Reading.{Gives};
 ghost use Rattle.dump_text.specs.InputLines.{line_is};
-ghost use Rattle.dump_text.specs.Places.{place_is};
+ghost use Rattle.dump_text.specs.Places.{place_is, place_at};
 
 use crate::fault::LineFault;
-use crate::pair::{InputLine, LINE_LIMIT, read_pair};
+use crate::machine::machine_of;
+use crate::pair::{InputLine, read_pair};
+use input_rules::{Form, Input, Order};
 use key_bytes::{Pair, Pairs};
 use memchr::memchr;
 use std::alloc::Global;
@@ -78,21 +82,46 @@ fn read_line(
     if is_too_many(place, line) {
         return Err(LineFault::TooMany { line: line.number });
     }
-    if line.bytes.len() > LINE_LIMIT {
+    if line.is_too_long() {
         return Err(LineFault::TooLong { line: line.number });
     }
     read_pair(alloc, scratch, line)
 }
 
-// The pairs of an input, or its first fault.
-fn read_pairs(alloc: Global, bytes: &[u8]) -> Result<Pairs, LineFault>
-    ensures { Gives (λ pairs. pairs) result (pairs_of bytes.now) }
+// The machine of the line of an order at a place, or its first fault.
+#[tactic(auto, unfolding(input_rules::specs::Orders::read_machine))]
+fn read_machine(place: Place, line: &InputLine<'_>) -> Result<u16, LineFault>
+    requires { place.bytes + size_of (line_is line.now) < 2 ^ 64 }
+    ensures { Gives (λ machine. machine) result (read_machine (place_is line.now.number place) (line_is line.now)) }
+{
+    if is_too_many(place, line) {
+        return Err(LineFault::TooMany { line: line.number });
+    }
+    if line.is_too_long() {
+        return Err(LineFault::TooLong { line: line.number });
+    }
+    machine_of(line)
+}
+
+// Whether the first line that is left is of an order, which its first byte tells. It takes no memory.
+fn is_of_order(left: &[u8]) -> bool
+    ensures { result ≡ is_of_order left.now }
+{
+    matches!(left, [b'O', ..])
+}
+
+// The pairs of what is left of an input, from the line of this number on, or their first fault.
+fn read_pairs(alloc: Global, bytes: &[u8], number: u32, left: &[u8]) -> Result<Pairs, LineFault>
+    requires within { length left.now ≤ length bytes.now }
+    requires counted { number ≤ length bytes.now - length left.now + 1 }
+    requires size { length bytes.now - length left.now ≤ input_limit }
+    ensures { Gives (λ pairs. pairs) result (read_lines (place_at number bytes.now left.now []) (lines_of left.now)) }
 {
     let mut pairs = Pairs::new(alloc);
     // Each text with an escape in it is built here.
     let mut scratch = Vec::new(alloc);
-    let mut left = bytes;
-    let mut number = 1;
+    let mut number = number;
+    let mut left = left;
     while !left.is_empty() {
         let place = Place {
             bytes: bytes.len() - left.len(),
@@ -107,18 +136,56 @@ fn read_pairs(alloc: Global, bytes: &[u8]) -> Result<Pairs, LineFault>
     Ok(pairs)
 }
 
-/// The pairs of an input, in its order: its lines are those of pairs. An error is the first fault of the input, with
-/// its line and its place, or that memory ran out; nothing of the input is kept then.
-pub fn read_lines(alloc: Global, bytes: &[u8]) -> Result<Pairs, LineFault>
+// What an input of a replay says, or its first fault.
+fn read_replay(alloc: Global, bytes: &[u8]) -> Result<Input, LineFault>
+    ensures { Gives (λ input. input) result (read_replay start (lines_of bytes.now)) }
+{
+    let mut order = Order::new(alloc);
+    let mut number = 1;
+    let mut left = bytes;
+    while is_of_order(left) {
+        let place = Place {
+            bytes: bytes.len() - left.len(),
+            pairs: 0,
+        };
+        let (line, rest) = first_line(number, left);
+        let machine = read_machine(place, &line)?;
+        order.push(machine)?;
+        left = rest;
+        number += 1;
+    }
+    let pairs = read_pairs(alloc, bytes, number, left)?;
+    Ok(Input { order, pairs })
+}
+
+// What an input says by its form, or its first fault.
+fn read_input(alloc: Global, form: Form, bytes: &[u8]) -> Result<Input, LineFault>
+    ensures { Gives (λ input. input) result (input_of form bytes.now) }
+{
+    match form {
+        Form::Run => {
+            let pairs = read_pairs(alloc, bytes, 1, bytes)?;
+            Ok(Input {
+                order: Order::new(alloc),
+                pairs,
+            })
+        }
+        Form::Replay => read_replay(alloc, bytes),
+    }
+}
+
+/// What an input says, by its form: lines of pairs, for a replay with lines of an order before them. An error is the
+/// first fault of the input, with its line and its place, or that memory ran out; nothing of the input is kept then.
+pub fn read_lines(alloc: Global, form: Form, bytes: &[u8]) -> Result<Input, LineFault>
     // What is read is spelled so.
-    ensures found { IfOk result (λ pairs. IsInput bytes.now pairs) }
+    ensures found { IfOk result (λ input. IsInputOf form bytes.now input) }
     // What is spelled so is read, unless memory runs out.
-    ensures only { (pairs : List Entry) → IsInput bytes.now pairs → Gives (λ pairs. pairs) result (Ok pairs) }
+    ensures only { (input : Input) → IsInputOf form bytes.now input → Gives (λ input. input) result (Ok input) }
     // Which fault it is.
-    ensures exact { Gives (λ pairs. pairs) result (pairs_of bytes.now) }
+    ensures exact { Gives (λ input. input) result (input_of form bytes.now) }
     // Bytes behind the first one past the limit change nothing.
     ensures past { (rest : List ℕ) → input_limit < length bytes.now
-        → Gives (λ pairs. pairs) result (pairs_of (bytes.now ++ rest)) }
+        → Gives (λ input. input) result (input_of form (bytes.now ++ rest)) }
 {
-    read_pairs(alloc, bytes)
+    read_input(alloc, form, bytes)
 }

@@ -1,15 +1,15 @@
-//! Lines of text: the pairs of an input are read, and the lines of a dump are written.
+//! Lines of text: the order and the pairs of an input are read, and the lines of a dump are written.
 //!
-//! `line_rules` says what the lines are. What is written is the one spelling of a line. What is read is exactly
-//! the pairs that an input spells, and a fault is the first one from the left, with its line and its place.
-//! Clauses say more than that reading follows its rules: what is read is the spelling of the pairs that come out,
-//! and each spelling of pairs within the limits is read.
+//! `line_rules` and `input_rules` say what the lines are. What is written is the one spelling of a line. What is read
+//! is exactly the order and the pairs that an input spells, and a fault is the first one from the left, with its line
+//! and its place. Clauses say more than that reading follows its rules: what is read is the spelling of the order and
+//! the pairs that come out, and each spelling of an order and of pairs within the limits is read.
 #![tactic(auto)]
 
 mod fault;
 mod input;
 mod line;
-mod order;
+mod machine;
 mod pair;
 mod plain;
 mod printing;
@@ -18,8 +18,8 @@ mod writing;
 
 pub use fault::LineFault;
 pub use input::read_lines;
+pub use input_rules::{Form, Input, Order};
 pub use line::{EndWord, Line};
-pub use order::Order;
 pub use printing::write_printable;
 pub use writing::{
     write_error_line, write_item_line, write_line, write_machine_line, write_order_line,

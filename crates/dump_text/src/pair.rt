@@ -1,6 +1,6 @@
 //! Reading of the line of a pair.
 
-ghost use Rattle.std.specs.Prelude.{◌≡◌, ◌+◌, ◌^◌, ◌<◌, ◌≤◌, length};
+ghost use Rattle.std.specs.Prelude.{◌≡◌, ◌+◌, ◌^◌, ◌<◌, ◌≤◌, nat_lt, length};
 ghost use Rattle.key_bytes.specs.Entries.{entry_of};
 ghost use Rattle.key_bytes.specs.Keys.{key_lt, top};
 ghost use Rattle.line_rules.specs.Reading.{line_limit, is_pair, text_of, judged, pair_at, fields_at, value_at, pair_within};
@@ -13,8 +13,8 @@ use database_rules::{KEY_LIMIT, VALUE_LIMIT};
 use key_bytes::{Bytes, Pair};
 use std::alloc::Global;
 
-/// How many bytes a line may have before its line feed.
-pub const LINE_LIMIT: usize = 440_004;
+// How many bytes a line may have before its line feed.
+const LINE_LIMIT: usize = 440_004;
 
 /// A line of an input without its line feed, with its number, and whether the line feed is there.
 #[derive(Clone, Copy)]
@@ -32,8 +32,15 @@ impl InputLine<'_> {
         matches!(self.bytes, [b'K', ..])
     }
 
-    // The fault that the byte at this place fits no rule. It takes no memory.
-    fn bad_at(&self, place: usize) -> LineFault
+    /// Whether the line has too many bytes before its line feed. It takes no memory.
+    pub fn is_too_long(&self) -> bool
+        ensures { result ≡ nat_lt line_limit (length self.now.bytes.now) }
+    {
+        self.bytes.len() > LINE_LIMIT
+    }
+
+    /// The fault that the byte at this place fits no rule. It takes no memory.
+    pub fn bad_at(&self, place: usize) -> LineFault
         requires { place < 2 ^ 32 }
         ensures { result ≡ LineFault.BadLine self.now.number place }
     {

@@ -5,8 +5,8 @@ use std::test::Fail;
 
 // ---- faults
 
-fn fault_of(alloc: Global, input: &[u8]) -> Option<LineFault> {
-    match read_lines(alloc, input) {
+fn fault_of(alloc: Global, form: Form, input: &[u8]) -> Option<LineFault> {
+    match read_lines(alloc, form, input) {
         Ok(_) => None,
         Err(fault) => Some(fault),
     }
@@ -40,7 +40,39 @@ fn bad_lines(rt: HostRuntime) {
     ];
     for (input, line, place) in rows {
         assert_eq!(rt;
-            fault_of(rt.alloc(), input),
+            fault_of(rt.alloc(), Form::Run, input),
+            Some(LineFault::BadLine { line, place })
+        );
+    }
+}
+
+#[test]
+fn bad_lines_of_a_replay(rt: HostRuntime) {
+    let rows: [(&[u8], u32, u32); 20] = [
+        (b"O 64\n", 1, 2),
+        (b"O 64", 1, 2),
+        (b"O 64x\n", 1, 2),
+        (b"O 6x\n", 1, 3),
+        (b"O 07\n", 1, 3),
+        (b"O 00\n", 1, 3),
+        (b"O 6", 1, 3),
+        (b"O\n", 1, 1),
+        (b"O \n", 1, 2),
+        (b"Ox\n", 1, 1),
+        (b"O 630\n", 1, 2),
+        (b"O 63x\n", 1, 4),
+        (b"O 63", 1, 4),
+        (b"K a\\=b\nO 0\n", 2, 0),
+        (b"O 0\nM 0 ended 0 \n", 2, 0),
+        (b"S 0 0 0 \\x15\x01\n", 1, 0),
+        (b"E 0 0 1020\n", 1, 0),
+        (b"\n", 1, 0),
+        (b"O 0\n\nO 1\n", 2, 0),
+        (b"O 0\nO 63\nK a\n", 3, 3),
+    ];
+    for (input, line, place) in rows {
+        assert_eq!(rt;
+            fault_of(rt.alloc(), Form::Replay, input),
             Some(LineFault::BadLine { line, place })
         );
     }
@@ -57,7 +89,7 @@ fn fault_of_long(
     let value = vec![in alloc; byte; value_len]?;
     let mut input = Vec::new(alloc);
     write_pair_line(&mut input, key.as_slice(), value.as_slice())?;
-    Ok(fault_of(alloc, input.as_slice()))
+    Ok(fault_of(alloc, Form::Run, input.as_slice()))
 }
 
 // The first row whose pair is refused where it is within its limits, or the other way round.
@@ -94,7 +126,7 @@ fn long_pairs(rt: HostRuntime) -> Result<(), Fail> {
 
 fn fault_of_line(alloc: Global, len: usize) -> Result<Option<LineFault>, AllocError> {
     let input = vec![in alloc; b'a'; len]?;
-    Ok(fault_of(alloc, input.as_slice()))
+    Ok(fault_of(alloc, Form::Run, input.as_slice()))
 }
 
 #[test]
@@ -124,9 +156,9 @@ fn fault_text(rt: HostRuntime) -> Result<(), Fail> {
 
 // Whether the input is of this one pair.
 fn is_one_pair(alloc: Global, input: &[u8], key: &[u8], value: &[u8]) -> bool {
-    match read_lines(alloc, input) {
-        Ok(pairs) if pairs.len() == 1 => {
-            let pair = pairs.get(0);
+    match read_lines(alloc, Form::Run, input) {
+        Ok(input) if input.pairs.len() == 1 => {
+            let pair = input.pairs.get(0);
             pair.key.as_slice() == key && pair.value.as_slice() == value
         }
         _ => false,
@@ -147,10 +179,32 @@ fn one_pair(rt: HostRuntime) {
     assert!(rt; is_one_pair(alloc, b"K a b\\==\n", b"a b", b"="));
 }
 
+// Whether the input of a replay is of this order and of so many pairs.
+fn is_replay_of(alloc: Global, input: &[u8], order: &[u16], pairs: usize) -> bool {
+    match read_lines(alloc, Form::Replay, input) {
+        Ok(input) => input.order.as_slice() == order && input.pairs.len() == pairs,
+        Err(_) => false,
+    }
+}
+
+#[test]
+fn replays(rt: HostRuntime) {
+    let rows: [(&[u8], &[u16], usize); 5] = [
+        (b"", &[], 0),
+        (b"K a\\=b\n", &[], 1),
+        (b"O 0\nO 63\n", &[0, 63], 0),
+        (b"O 9\nO 10\nO 9\n", &[9, 10, 9], 0),
+        (b"O 0\nO 63\nK a\\=b\n", &[0, 63], 1),
+    ];
+    for (input, order, pairs) in rows {
+        assert!(rt; is_replay_of(rt.alloc(), input, order, pairs));
+    }
+}
+
 fn written_again(alloc: Global, input: &[u8]) -> Result<Vec<u8>, LineFault> {
-    let pairs = read_lines(alloc, input)?;
+    let input = read_lines(alloc, Form::Run, input)?;
     let mut to = Vec::new(alloc);
-    for pair in pairs.as_slice() {
+    for pair in input.pairs.as_slice() {
         write_pair_line(&mut to, pair.key.as_slice(), pair.value.as_slice())?;
     }
     Ok(to)

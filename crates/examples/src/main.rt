@@ -70,7 +70,7 @@ fn try_script<R: Threads + Wait + Sync>(
     input: &[u8],
     dump: &[u8],
 ) -> Result<Finding, AllocError> {
-    let args = words(alloc, script.prefix)?;
+    let args = args_of(alloc, script.words)?;
     let mut source = MemSource::new(alloc, input, PIECE, &[])?;
     let mut out = MemSink::new(alloc, ROOM, PIECE, &[])?;
     let mut err = CleanSink::new(PIECE);
@@ -78,12 +78,12 @@ fn try_script<R: Threads + Wait + Sync>(
     Ok(judge(outcome.status, script.status, out.written(), dump))
 }
 
-// The words of the command line `run PREFIX 630`.
-fn words(alloc: Global, prefix: &str) -> Result<ArgWords, AllocError> {
+// The words of a command line.
+fn args_of(alloc: Global, words: &[&str]) -> Result<ArgWords, AllocError> {
     let mut args = ArgWords::new(alloc);
-    args.push("run")?;
-    args.push(prefix)?;
-    args.push("630")?;
+    for word in words {
+        args.push(word)?;
+    }
     Ok(args)
 }
 

@@ -111,6 +111,10 @@ pub enum Request {
     Log { prefix: Bytes, entries: Pairs },
     /// What was promised of a life: the versionstamp of its commit.
     PollStamp { life: u64 },
+    /// Whether no key begins with a prefix, at the last version.
+    PollEmpty { prefix: Key },
+    /// One more machine, whose instructions are in the range of a prefix at the last version.
+    Start { prefix: Bytes },
 }
 
 /// What became of a life of a transaction (`fdb_transaction_get_versionstamp`).
@@ -139,8 +143,14 @@ pub enum Reply {
     Life(u64),
     /// The versionstamp of a life's commit.
     Stamp([u8; 10]),
-    /// What is asked for isn't decided yet.
+    /// What is asked for isn't decided yet, or isn't so yet.
     NotYet,
+    /// No key begins with the prefix.
+    Empty,
+    /// A machine was started. It has this number, and the values of these pairs are its instructions.
+    Started { machine: u16, instructions: Pairs },
+    /// None was started: there are as many as may be.
+    NoMachine,
     /// The first check that failed has this code.
     Fault(Code),
     /// Memory ran out.

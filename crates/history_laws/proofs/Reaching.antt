@@ -1,6 +1,6 @@
 -- Each world that a run reaches holds a grown history, and each of its transactions is held.
 use Rattle.std.proofs.Common.{◌≡◌, ℕ, ◌+◌, ◌*◌, ◌^◌, ◌<◌, ◌≤◌, Bool, true, false, cond, List, [], ◌∷◌, ◌++◌, length, Option, Some, None, refl, sym, ap, subst, ◌∙◌, length-append, arith}
-use Rattle.std.specs.Prelude.{map, is_some, unwrap_or, option_map, slice_get}
+use Rattle.std.specs.Prelude.{map, is_some, nat_lt, unwrap_or, option_map, slice_get}
 use Rattle.std.specs.FinMap as finite
 use Rattle.std.specs.List.{AllByRecursion}
 use Rattle.std.specs.Ordering.{eq_by_cmp}
@@ -16,9 +16,11 @@ use Rattle.fdb_calls.specs.declared.Request.TheVariants as request
 use Rattle.fdb_calls.specs.declared.TxnCall.{TxnCall}
 use Rattle.fdb_calls.specs.declared.TxnCall.TheVariants as call
 use Rattle.fdb_calls.specs.Calling.{Called, called, is_fault, in_turn, logs}
-use Rattle.machine_rules.specs.Worlds.{World, Transactions, begun, next_life, with_lives, with_new, with_named, transaction_of, stepped, call_named, fresh_at_last, called_apart, database_by, and_commit, step}
+use Rattle.machine_rules.specs.declared.TheConstants.{MACHINES}
+use Rattle.machine_rules.specs.Worlds.{World, Transactions, begun, next_life, with_lives, with_new, with_named, transaction_of, stepped, call_named, fresh_at_last, called_apart, database_by, and_commit, start_by, step}
 use Rattle.machine_rules.specs.Machines.{Progress}
-use Rattle.machine_rules.specs.Runs.{Run, start, taken, replied, take_place, run_from, words_of_run}
+use Rattle.command_rules.specs.declared.args.RunArgs.{RunArgs}
+use Rattle.machine_rules.specs.Runs.{Run, start, taken, replied, take_place, run_from}
 use Rattle.history_laws.specs.Small.{are_small}
 use Rattle.history_laws.specs.Held.{AreHeld, AreSound, IsGood, IsGrown, IsHeld, IsReached}
 use Rattle.history_laws.proofs.Holding.{fresh_held, later_held, version_held}
@@ -176,6 +178,15 @@ own_held world reached =
     version_held world.setting (fresh (next_life world)) (grown_some world.setting.history reached.grown)
     (fresh_held world.setting.history (next_life world))
 
+-- a machine that is started changes no history
+start_led : (there_is_room : Bool) (world : World) (prefix : List ℕ) → IsReached world
+    → IsLed world 2 (start_by there_is_room world prefix).world
+start_led true world prefix reached = record {
+  reached = record { grown = reached.grown; held = reached.held };
+  few = omega arith;
+}
+start_led false world prefix reached = record { reached = reached; few = omega arith }
+
 -- a request makes two commits at most, and leaves a reached world
 step_led : (world : World) (given : Request) → IsReached world → last world.setting.history + 2 < 2 ^ 63
     → IsLed world 2 (step world given).world
@@ -193,6 +204,8 @@ step_led world (request.Log prefix entries) reached spare =
     (in_turn_good world.setting.history (logs prefix entries) (fresh_at_last world) (logs_keeping world.setting.history prefix entries)
     (own_held world reached))
 step_led world (request.PollStamp life) reached spare = record { reached = reached; few = omega arith }
+step_led world (request.PollEmpty prefix) reached spare = record { reached = reached; few = omega arith }
+step_led world (request.Start prefix) reached spare = start_led (nat_lt (length world.started) MACHINES) world prefix reached
 
 -- after a step the world is reached
 pub step_reached : (world : World) (given : Request) → IsReached world → last world.setting.history + 2 < 2 ^ 63
@@ -209,9 +222,9 @@ pairs_small (pair ∷ pairs) below =
     and_from (key_lt pair.0 top) (are_small (map set_of pairs)) below.0 (pairs_small pairs below.1)
 
 -- the world at the beginning is reached
-pub begun_reached : (pairs : List (List ℕ × List ℕ)) (words : ℕ → ℕ) → AllByRecursion (λ pair. key_lt pair.0 top ≡ true) pairs
-    → IsReached (begun pairs words)
-begun_reached pairs words below = record {
+pub begun_reached : (pairs : List (List ℕ × List ℕ)) (arguments : RunArgs) → AllByRecursion (λ pair. key_lt pair.0 top ≡ true) pairs
+    → IsReached (begun pairs arguments)
+begun_reached pairs arguments below = record {
   grown = record { first = loaded pairs; later = []; is = refl; bare = refl; sound = tt; small = pairs_small pairs below };
   held = λ name transaction found. absurd (none-some transaction (sym (finite.get-empty key_cmp name) ∙ found));
 }
@@ -225,12 +238,12 @@ place_led machine_number run after reached spare is =
     (λ progress found asked. by progress progress.asks asked)
   where
     by : (progress : Progress) (asks : Option Request)
-        → option_map (λ given. replied run machine_number progress.machine (step run.world given)) asks ≡ Some after
+        → option_map (λ given. replied run machine_number progress.machine given (step run.world given)) asks ≡ Some after
         → IsLed run.world 2 after.world
     by progress None asked = absurd (none-some after asked)
     by progress (Some given) asked =
         subst (λ (left : Run). IsLed run.world 2 left.world)
-        (same_Some (replied run machine_number progress.machine (step run.world given)) after asked)
+        (same_Some (replied run machine_number progress.machine given (step run.world given)) after asked)
         (step_led run.world given reached spare)
 
 -- each request of an order makes two commits at most
@@ -245,8 +258,8 @@ run_reached (machine_number ∷ order) run after reached spare is =
     run_reached order next after led.reached (omega (arith, led.few, spare)) goes_on)
 
 -- the world after each order of requests is reached
-pub runs_reached : (order : List ℕ) (pairs : List (List ℕ × List ℕ)) (prefix : List ℕ) (run : Run)
+pub runs_reached : (order : List ℕ) (pairs : List (List ℕ × List ℕ)) (arguments : RunArgs) (run : Run)
     → AllByRecursion (λ pair. key_lt pair.0 top ≡ true) pairs → length order < 2 ^ 62
-    → run_from order (start pairs prefix) ≡ Some run → IsReached run.world
-runs_reached order pairs prefix run below few is =
-    run_reached order (start pairs prefix) run (begun_reached pairs words_of_run below) (omega (arith, few)) is
+    → run_from order (start pairs arguments) ≡ Some run → IsReached run.world
+runs_reached order pairs arguments run below few is =
+    run_reached order (start pairs arguments) run (begun_reached pairs arguments below) (omega (arith, few)) is

@@ -4,14 +4,15 @@ use Rattle.std.specs.List.{AllByRecursion}
 use Rattle.key_bytes.specs.Keys.{key_lt, top}
 use Rattle.database_rules.specs.Histories.{last}
 use Rattle.fdb_calls.specs.declared.Request.{Request}
+use Rattle.command_rules.specs.declared.args.RunArgs.{RunArgs}
 use Rattle.machine_rules.specs.Worlds.{World, begun, step}
 use Rattle.history_laws.specs.Held.{IsReached}
 use Rattle.history_laws.specs.Whole.{IsOneLegalHistory}
 
 -- a world that begins with pairs whose keys are less than FF is reached
 abbrev pub AreBegunReached : Type 0
-AreBegunReached = (pairs : List (List ℕ × List ℕ)) (words : ℕ → ℕ) → AllByRecursion (λ pair. key_lt pair.0 top ≡ true) pairs
-    → IsReached (begun pairs words)
+AreBegunReached = (pairs : List (List ℕ × List ℕ)) (arguments : RunArgs)
+    → AllByRecursion (λ pair. key_lt pair.0 top ≡ true) pairs → IsReached (begun pairs arguments)
 
 -- after each request a world that was reached is reached, while versions are left
 abbrev pub AreStepsReached : Type 0

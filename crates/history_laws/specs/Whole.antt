@@ -9,6 +9,7 @@ use Rattle.database_rules.specs.Intervals.{any_meet}
 use Rattle.database_rules.specs.Reads.{Read, Answer, answer}
 use Rattle.database_rules.specs.States.{seen}
 use Rattle.line_rules.specs.Inputs.{IsSmall}
+use Rattle.command_rules.specs.declared.args.RunArgs.{RunArgs}
 use Rattle.machine_rules.specs.Runs.{Run, start, run_from}
 
 -- this holds of each ordinary read of a script with its answer, and of the writes before it, where these were made before
@@ -40,5 +41,5 @@ pub record IsOneLegalHistory (history : History) : Type 0 where
 
 -- every run of an order leaves one legal history, complete or not, over pairs that an input may have; no memory holds a longer order
 abbrev pub AreRunsLegal : Type 0
-AreRunsLegal = (pairs : List (List ℕ × List ℕ)) (prefix order : List ℕ) (run : Run) → AllByRecursion IsSmall pairs → length order < 2 ^ 62
-    → run_from order (start pairs prefix) ≡ Some run → IsOneLegalHistory run.world.setting.history
+AreRunsLegal = (pairs : List (List ℕ × List ℕ)) (arguments : RunArgs) (order : List ℕ) (run : Run) → AllByRecursion IsSmall pairs → length order < 2 ^ 62
+    → run_from order (start pairs arguments) ≡ Some run → IsOneLegalHistory run.world.setting.history

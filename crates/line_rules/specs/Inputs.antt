@@ -1,10 +1,9 @@
--- What an input of pairs is: the lines of the pairs, within all limits.
+-- The lines of pairs, and which pairs an input may have.
 use Rattle.std.specs.Prelude.{◌≡◌, ◌≤◌, ℕ, true, List, length, flat_map}
-use Rattle.std.specs.List.{AllByRecursion}
 use Rattle.key_bytes.specs.Keys.{IsByteString, key_lt, top}
 use Rattle.database_rules.specs.declared.TheConstants.{KEY_LIMIT, VALUE_LIMIT}
 use Rattle.line_rules.specs.Printing.{pair_line}
-use Rattle.line_rules.specs.Reading.{Entry, input_limit, pairs_limit}
+use Rattle.line_rules.specs.Reading.{Entry}
 
 -- the lines of pairs, one after the other
 abbrev pub pair_lines : List Entry → List ℕ
@@ -17,10 +16,3 @@ pub record IsSmall (e : Entry) : Type 0 where
   pub below_top : key_lt e.0 top ≡ true
   pub key_len : length e.0 ≤ KEY_LIMIT
   pub value_len : length e.1 ≤ VALUE_LIMIT
-
--- the bytes are the lines of these pairs, and all is within its limit
-pub record IsInput (bytes : List ℕ) (pairs : List Entry) : Type 0 where
-  pub spelled : bytes ≡ pair_lines pairs
-  pub small : AllByRecursion IsSmall pairs
-  pub count : length pairs ≤ pairs_limit
-  pub size : length bytes ≤ input_limit

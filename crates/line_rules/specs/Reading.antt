@@ -213,7 +213,3 @@ joined (Ok entry) (Ok entries) = Ok (entry ∷ entries)
 unfoldable pub read_lines : Place → List Line → Result (List Entry) Fault
 read_lines place [] = Ok []
 read_lines place (line ∷ lines) = joined (read_line place line) (read_lines (next_place place line) lines)
-
--- the pairs of an input, or its first fault
-unfoldable pub pairs_of : List ℕ → Result (List Entry) Fault
-pairs_of bytes = read_lines start (lines_of bytes)

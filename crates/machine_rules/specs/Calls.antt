@@ -151,6 +151,14 @@ request_in scope.Transaction name call = request.On name call
 request_in scope.Snapshot name call = request.On name call
 request_in scope.Database name call = request.Database call
 
+-- ---- START_THREAD
+
+-- the request that starts a machine under the prefix that is popped
+abbrev pub start_request : List Item → Popped Request
+start_request stack = do
+  prefix ← bytes_operand stack
+  Ok (request.Start prefix.0, prefix.1)
+
 -- ---- LOG_STACK
 
 -- the packed bytes of an item; of one that waits the one byte 2A, which begins no packed tuple

@@ -97,6 +97,8 @@ abbrev pub bare_instruction : List ℕ → Option Instruction
 bare_instruction name =
     if bytes_eq name (codes "USE_TRANSACTION") then Some instruction.UseTransaction
     else if bytes_eq name (codes "LOG_STACK") then Some instruction.LogStack
+    else if bytes_eq name (codes "START_THREAD") then Some instruction.StartThread
+    else if bytes_eq name (codes "WAIT_EMPTY") then Some instruction.WaitEmpty
     else or_else (option_map (λ found. instruction.OnTransaction found) (transaction_operation name))
     (or_else (option_map (λ found. instruction.OnDatabase found.0 found.1) (database_operation name))
     (option_map (λ found. instruction.OnStack found) (stack_operation name)))

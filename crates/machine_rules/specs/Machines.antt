@@ -29,7 +29,7 @@ use Rattle.machine_rules.specs.declared.Instruction.{Instruction}
 use Rattle.machine_rules.specs.declared.Instruction.TheVariants as instruction
 use Rattle.machine_rules.specs.Operands.{Refusal, Missing, Unfit, Waiting, Popped, bytes_operand}
 use Rattle.machine_rules.specs.StackOperations.{Operated, pushed, operated}
-use Rattle.machine_rules.specs.Calls.{Calls, call_of, request_in, request_of, awaits_of, prefix_end, log_entries}
+use Rattle.machine_rules.specs.Calls.{Calls, call_of, request_in, request_of, awaits_of, start_request, prefix_end, log_entries}
 use Rattle.machine_rules.specs.Instructions.{instruction_of}
 
 -- ---- a machine
@@ -168,6 +168,12 @@ abbrev pub logs_stack : ℕ → Registers → Popped (List ℕ) → Act
 logs_stack number registers (Ok popped) = logs_on (with_stack registers popped.1) popped.0
 logs_stack number registers (Err refusal) = refused number registers refusal
 
+-- WAIT_EMPTY pops the prefix, and polls
+abbrev pub waits_empty : ℕ → Registers → Popped (List ℕ) → Act
+waits_empty number registers (Ok popped) =
+    Asks (with_stack registers popped.1) (request.PollEmpty popped.0) (awaits.Empty popped.0 0)
+waits_empty number registers (Err refusal) = refused number registers refusal
+
 -- the instruction of this number on these registers
 unfoldable pub act_of : ℕ → Registers → Option Instruction → Act
 act_of number registers None = Stops registers (end.BadInstruction number)
@@ -179,6 +185,8 @@ act_of number registers (Some (instruction.OnTransaction operation)) =
 act_of number registers (Some (instruction.OnDatabase operation scope)) =
     calls number registers scope (call_of operation scope registers.stack)
 act_of number registers (Some instruction.LogStack) = logs_stack number registers (bytes_operand registers.stack)
+act_of number registers (Some instruction.StartThread) = asks number registers awaits.Start (start_request registers.stack)
+act_of number registers (Some instruction.WaitEmpty) = waits_empty number registers (bytes_operand registers.stack)
 
 -- ---- going on
 
@@ -214,6 +222,9 @@ set_conflict_range = elem.Bytes (codes "SET_CONFLICT_RANGE")
 abbrev pub set_conflict_key : Elem
 set_conflict_key = elem.Bytes (codes "SET_CONFLICT_KEY")
 
+abbrev pub waited_for_empty : Elem
+waited_for_empty = elem.Bytes (codes "WAITED_FOR_EMPTY")
+
 -- the item that tells of a code
 abbrev pub error_item : ℕ → Elem
 error_item code = elem.Bytes (spelling (Single (Bytes (codes "ERROR")) (Single (Bytes (decimal code)) Empty)))
@@ -245,6 +256,8 @@ pub data Use : Type 0 where
   PushesWaiting : (life : ℕ) → Use
   -- LOG_STACK goes on
   LogsOn : (prefix : List ℕ) → Use
+  -- no machine was started
+  LacksMachine : Use
 
 -- a reply of another kind than the request's changes nothing but that the machine goes on
 abbrev pub use_of : Awaits → Reply → Use
@@ -260,6 +273,7 @@ use_of awaits.CommittedVersion (reply.Version version) = Keeps version got_commi
 use_of awaits.ConflictRange reply.Done = Pushes set_conflict_range
 use_of awaits.ConflictKey reply.Done = Pushes set_conflict_key
 use_of awaits.Promise (reply.Life life) = PushesWaiting life
+use_of awaits.Start reply.NoMachine = LacksMachine
 use_of awaits reply = Goes
 
 -- in the instruction of this number
@@ -271,6 +285,7 @@ used number registers (Fails word element) = Does (failing number registers word
 used number registers (PushesWaiting life) =
     Does (with_stack registers (record { value = value.Waits life; instruction = number } ∷ registers.stack))
 used number registers (LogsOn prefix) = logs_on registers prefix
+used number registers LacksMachine = Stops registers (end.MachineLimit number)
 
 -- ---- using the reply to a poll
 
@@ -310,6 +325,18 @@ after_poll polls number registers wait again awaiting reply.NotYet =
     polls_on (nat_lt (wait.polled + 1) polls) number registers (polled_once wait) awaiting
 after_poll polls number registers wait again awaiting reply = Does registers
 
+-- the instruction of this number polls again whether no key begins with a prefix, or it has polled as often as it may
+abbrev pub watches_on : Bool → ℕ → Registers → (prefix : List ℕ) → (polled : ℕ) → Act
+watches_on true number registers prefix polled = Asks registers (request.PollEmpty prefix) (awaits.Empty prefix polled)
+watches_on false number registers prefix polled = Stops registers (end.WaitBound number)
+
+-- the reply to such a poll. One of another kind changes nothing but that the machine goes on
+abbrev pub after_watch : (polls number : ℕ) → Registers → (prefix : List ℕ) → (polled : ℕ) → Reply → Act
+after_watch polls number registers prefix polled reply.Empty = Does (pushing number registers waited_for_empty)
+after_watch polls number registers prefix polled reply.NotYet =
+    watches_on (nat_lt (polled + 1) polls) number registers prefix (polled + 1)
+after_watch polls number registers prefix polled reply = Does registers
+
 -- the instruction that a machine stands at
 abbrev pub instruction_at : Machine → Option Instruction
 instruction_at machine = option_and_then instruction_of (slice_get machine.instructions machine.next)
@@ -319,6 +346,7 @@ replied_act (awaits.Stamp wait) machine reply =
     after_poll machine.polls machine.next machine.registers wait (λ registers. act_of machine.next registers (instruction_at machine)) awaits.Stamp reply
 replied_act (awaits.LoggedStamp prefix wait) machine reply =
     after_poll machine.polls machine.next machine.registers wait (λ registers. logs_on registers prefix) (awaits.LoggedStamp prefix) reply
+replied_act (awaits.Empty prefix polled) machine reply = after_watch machine.polls machine.next machine.registers prefix polled reply
 replied_act awaits machine reply = used machine.next machine.registers (use_of awaits reply)
 
 abbrev pub resumed_by : State → Machine → Reply → Progress

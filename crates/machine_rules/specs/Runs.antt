@@ -1,18 +1,18 @@
 -- A run over an order of requests, and its dump.
-use Rattle.std.specs.Prelude.{◌≡◌, ℕ, zero, suc, pos, ◌+◌, ◌-◌, Bool, true, false, if◌then◌else◌, List, [], ◌∷◌, ◌++◌, length, map, filter, flat_map, reverse, Option, Some, option_and_then, option_map, slice_get, slice_set, IsTrue, codes}
+use Rattle.std.specs.Prelude.{◌≡◌, ℕ, zero, suc, pos, ◌+◌, ◌-◌, ◌<◌, ◌≤◌, ◌⊎◌, Bool, true, false, if◌then◌else◌, List, [], ◌∷◌, ◌++◌, length, map, flat_map, reverse, Option, Some, None, is_some, option_and_then, option_map, slice_get, slice_set, IsTrue, codes}
 use Rattle.std.specs.List.{enumerate_from, list_all}
 use Rattle.std.specs.FinMap as finite
-use Rattle.key_bytes.specs.Keys.{within}
-use Rattle.database_rules.specs.Databases.{Database}
-use Rattle.database_rules.specs.Histories.{at, last}
-use Rattle.fdb_tuple.specs.Tuples.{Bytes, Empty, Single}
-use Rattle.fdb_tuple.specs.Spelling.{spelling}
+use Rattle.database_rules.specs.Slices.{Entries}
+use Rattle.fdb_calls.specs.declared.Request.{Request}
+use Rattle.fdb_calls.specs.declared.Request.TheVariants as request
+use Rattle.fdb_calls.specs.declared.Reply.{Reply}
+use Rattle.fdb_calls.specs.declared.Reply.TheVariants as reply
 use Rattle.line_rules.specs.Printing.{machine_line, item_line, error_line, order_line, pair_line}
-use Rattle.machine_rules.specs.declared.TheConstants.{POLLS}
+use Rattle.command_rules.specs.declared.args.RunArgs.{RunArgs}
 use Rattle.machine_rules.specs.declared.End.TheVariants as end
 use Rattle.machine_rules.specs.declared.State.{State}
 use Rattle.machine_rules.specs.declared.State.TheVariants as state
-use Rattle.machine_rules.specs.Worlds.{World, Stepped, begun, step}
+use Rattle.machine_rules.specs.Worlds.{World, Stepped, begun, instruction_pairs, newest, step}
 use Rattle.machine_rules.specs.Calls.{item_bytes}
 use Rattle.machine_rules.specs.Machines.{Machine, Progress, silent, advance, resumed}
 
@@ -34,27 +34,15 @@ at_rest progress = rested (length progress.machine.instructions - progress.machi
 
 -- ---- starting a machine
 
--- the ends of the range of the tuples that begin with (prefix,)
-abbrev pub packed_prefix : List ℕ → List ℕ
-packed_prefix prefix = spelling (Single (Bytes prefix) Empty)
-
--- the values of the pairs in the range of a prefix, in the order of their keys
-abbrev pub instructions_in : Database → List ℕ → List (List ℕ)
-instructions_in database prefix =
-    map (λ entry. entry.1) (filter (λ entry. within (packed_prefix prefix ++ 0 ∷ []) (packed_prefix prefix ++ 255 ∷ []) entry.0) (finite.entries database))
-
--- the map at the last version
-abbrev pub newest : World → Database
-newest world = at world.setting.history (last world.setting.history)
-
--- a machine of a number, as it is started under a prefix
-unfoldable pub started : World → ℕ → List ℕ → Machine
-started world number prefix = record {
+-- a machine of a number, as it is started under a prefix: the values of these pairs are its instructions, and each of its waits
+-- has so many polls
+unfoldable pub started : (number : ℕ) → (prefix : List ℕ) → (polls : ℕ) → Entries → Machine
+started number prefix polls pairs = record {
   number = number;
   prefix = prefix;
-  instructions = instructions_in (newest world) prefix;
+  instructions = map (λ pair. pair.1) pairs;
   next = 0;
-  polls = POLLS;
+  polls = polls;
   registers = record { name = prefix; last_seen = pos 0; stack = []; errors = [] };
   state = state.Running;
 }
@@ -66,26 +54,35 @@ pub record Run : Type 0 where
   pub world : World
   pub machines : List Progress
 
--- the random words of a run; no request uses one yet
-abbrev pub words_of_run : ℕ → ℕ
-words_of_run place = 0
+-- the run before any request was taken: machine 0 was started
+abbrev pub start : List (List ℕ × List ℕ) → RunArgs → Run
+start pairs arguments =
+    let world = begun pairs arguments in
+    let pairs_under = instruction_pairs arguments.prefix (newest world) in
+    record { world = world; machines = at_rest (silent (started 0 arguments.prefix arguments.polls pairs_under)) ∷ [] }
 
--- the run before any request was taken: machine 0 was started under the prefix
-abbrev pub start : List (List ℕ × List ℕ) → List ℕ → Run
-start pairs prefix =
-    let world = begun pairs words_of_run in
-    record { world = world; machines = at_rest (silent (started world 0 prefix)) ∷ [] }
+-- the prefix under which a request starts a machine, if it starts one
+abbrev pub start_prefix : Request → Option (List ℕ)
+start_prefix (request.Start prefix) = Some prefix
+start_prefix _ = None
 
--- a machine's request was taken: its machine has the reply, and stands at its next request or its end
-abbrev pub replied : Run → ℕ → Machine → Stepped → Run
-replied run machine_number machine stepped = record {
+-- the machine that was started under a prefix by this reply, at its first request or its end; its waits have as many polls as
+-- those of its starter
+abbrev pub started_by : (prefix : Option (List ℕ)) → (polls : ℕ) → Reply → List Progress
+started_by (Some prefix) polls (reply.Started number pairs) = at_rest (silent (started number prefix polls pairs)) ∷ []
+started_by prefix polls reply = []
+
+-- a machine's request was taken: its machine has the reply, and stands at its next request or its end; so does a machine that
+-- it started
+abbrev pub replied : Run → ℕ → Machine → Request → Stepped → Run
+replied run machine_number machine request stepped = record {
   world = stepped.world;
-  machines = slice_set run.machines machine_number (at_rest (resumed machine stepped.reply));
+  machines = slice_set run.machines machine_number (at_rest (resumed machine stepped.reply)) ++ started_by (start_prefix request) machine.polls stepped.reply;
 }
 
 abbrev pub taken : Run → ℕ → Progress → Option Run
 taken run machine_number progress =
-    option_map (λ request. replied run machine_number progress.machine (step run.world request)) progress.asks
+    option_map (λ request. replied run machine_number progress.machine request (step run.world request)) progress.asks
 
 -- the request of the machine of this number is taken; there is no such run where it has none
 unfoldable pub take_place : ℕ → Run → Option Run
@@ -105,10 +102,40 @@ has_stopped (state.Stopped end) = true
 abbrev pub is_complete : Run → Bool
 is_complete run = list_all (λ progress. has_stopped progress.machine.state) run.machines
 
--- the run of these pairs under this prefix in this order, which is complete
-pub record RunsTo (pairs : List (List ℕ × List ℕ)) (prefix order : List ℕ) (run : Run) : Type 0 where
-  pub runs : run_from order (start pairs prefix) ≡ Some run
+-- the run of these pairs by these arguments in this order, which is complete
+pub record RunsTo (pairs : List (List ℕ × List ℕ)) (arguments : RunArgs) (order : List ℕ) (run : Run) : Type 0 where
+  pub runs : run_from order (start pairs arguments) ≡ Some run
   pub complete : IsTrue (is_complete run)
+
+-- ---- turns
+
+-- whether the machine of a number has a next request
+abbrev pub has_request : Run → ℕ → Bool
+has_request run number = is_some (option_and_then (λ progress. progress.asks) (slice_get run.machines number))
+
+-- the first machine, from one on, that has a next request
+pub record IsFirstFrom (from : ℕ) (run : Run) (number : ℕ) : Type 0 where
+  pub not_below : from ≤ number
+  pub has_one : IsTrue (has_request run number)
+  pub first : (other : ℕ) → from ≤ other → other < number → has_request run other ≡ false
+
+-- whose turn it is: the first machine from one on that has a next request, or else the first of all that has one
+abbrev pub HasTurn : (from : ℕ) → Run → ℕ → Type 0
+HasTurn from run number =
+    IsFirstFrom from run number ⊎ (((other : ℕ) → from ≤ other → has_request run other ≡ false) × IsFirstFrom 0 run number)
+
+-- after an order it is the turn of the machine behind its last one; the first turn begins at machine 0
+abbrev pub turn_after : List ℕ → ℕ
+turn_after [] = 0
+turn_after (number ∷ []) = number + 1
+turn_after (number ∷ order) = turn_after order
+
+-- requests were taken by turns: at each place of the order stands the machine whose turn it was
+abbrev pub AreByTurns : (pairs : List (List ℕ × List ℕ)) → RunArgs → (order : List ℕ) → Type 0
+AreByTurns pairs arguments order = (front rest : List ℕ) (number : ℕ) (run : Run) → order ≡ front ++ number ∷ rest
+    → run_from front (start pairs arguments) ≡ Some run → HasTurn (turn_after front) run number
+
+-- ---- how a run ends
 
 abbrev pub has_ended : State → Bool
 has_ended state.Running = false
@@ -117,6 +144,7 @@ has_ended (state.Stopped end.Ended) = true
 has_ended (state.Stopped (end.BadInstruction instruction)) = false
 has_ended (state.Stopped (end.Underflow instruction)) = false
 has_ended (state.Stopped (end.WaitBound instruction)) = false
+has_ended (state.Stopped (end.MachineLimit instruction)) = false
 
 -- the exit status of a complete run: 0 where every machine has ended after its last instruction, else 3
 abbrev pub status_of : Run → ℕ
@@ -131,6 +159,7 @@ end_line machine (state.Stopped end.Ended) = machine_line machine.number (codes 
 end_line machine (state.Stopped (end.BadInstruction instruction)) = machine_line machine.number (codes "bad-instruction") instruction machine.prefix
 end_line machine (state.Stopped (end.Underflow instruction)) = machine_line machine.number (codes "underflow") instruction machine.prefix
 end_line machine (state.Stopped (end.WaitBound instruction)) = machine_line machine.number (codes "wait-bound") instruction machine.prefix
+end_line machine (state.Stopped (end.MachineLimit instruction)) = machine_line machine.number (codes "machine-limit") instruction machine.prefix
 
 -- a machine's stack, each item with its place, the oldest at 0
 abbrev pub stack_lines : Machine → List ℕ

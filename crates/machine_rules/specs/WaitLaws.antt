@@ -25,23 +25,25 @@ use Rattle.machine_rules.specs.declared.Awaits.TheVariants as awaits
 use Rattle.machine_rules.specs.declared.Wait.{Wait}
 use Rattle.machine_rules.specs.Operands.{Refusal, Missing, Unfit, Waiting, ◌>>=◌, Popped, two_operands, bytes_operand}
 use Rattle.machine_rules.specs.StackOperations.{Operated, operated}
-use Rattle.machine_rules.specs.Calls.{Calls, written_in, selector_operand, manner_operand, call_of, request_of, awaits_of}
-use Rattle.machine_rules.specs.Machines.{Registers, Act, Does, Stops, Asks, with_stack, refused, does, asks, calls, uses, life_by, first_life, logs_batch, logs_from, logs_on, logs_stack, act_of, instruction_at, Machine, Use, Goes, Pushes, Keeps, Fails, PushesWaiting, LogsOn, use_of, used, known_or, with_known, noting, error_item, knowing, polls_on, polled_once, after_poll, replied_act}
-use Rattle.machine_rules.specs.Waits.{counted, waiting_count, IsLeft, left_itself, left_further, left_below, at_most_counted, IsFair, IsRefusedFairly, IsOf, of_bytes, operated_fairly, of_call, of_request}
+use Rattle.machine_rules.specs.Calls.{Calls, written_in, selector_operand, manner_operand, call_of, request_of, awaits_of, start_request}
+use Rattle.machine_rules.specs.Machines.{Registers, Act, Does, Stops, Asks, with_stack, refused, does, asks, calls, uses, life_by, first_life, logs_batch, logs_from, logs_on, logs_stack, waits_empty, act_of, instruction_at, Machine, Use, Goes, Pushes, Keeps, Fails, PushesWaiting, LogsOn, LacksMachine, use_of, used, known_or, with_known, noting, error_item, knowing, polls_on, polled_once, after_poll, watches_on, after_watch, replied_act}
+use Rattle.machine_rules.specs.Waits.{counted, waiting_count, IsLeft, left_itself, left_further, left_below, at_most_counted, IsFair, IsRefusedFairly, IsOf, of_then, of_bytes, operated_fairly, of_call, of_request}
 
 -- ---- what a machine has still to do within its instruction
 
--- a reply is used at once, or for an item that waits, or for the next items that are logged
+-- a reply is used at once, or for an item that waits, or for the next items that are logged, or while keys are watched
 pub data Errand : Type 0 where
   AtOnce : Errand
   Polls : (wait : Wait) → Errand
   Logs : Errand
+  Watches : (polled : ℕ) → Errand
 
 -- what a reply that is awaited is used for
 abbrev pub errand_of : Awaits → Errand
 errand_of (awaits.Stamp wait) = Polls wait
 errand_of (awaits.LoggedStamp prefix wait) = Polls wait
 errand_of (awaits.Logged prefix) = Logs
+errand_of (awaits.Empty prefix polled) = Watches polled
 errand_of _ = AtOnce
 
 -- an item waits, where one is polled for
@@ -49,6 +51,7 @@ abbrev pub HasItsItem : Errand → List Item → Type 0
 HasItsItem AtOnce stack = ⊤
 HasItsItem (Polls wait) stack = 1 ≤ waiting_count stack
 HasItsItem Logs stack = ⊤
+HasItsItem (Watches polled) stack = ⊤
 
 -- the items, those that wait counted twice, each for as many polls as a wait may have
 abbrev pub load : (polls : ℕ) → List Item → ℕ
@@ -63,6 +66,7 @@ abbrev pub effort : (polls : ℕ) → Errand → List Item → ℕ
 effort polls AtOnce stack = 0
 effort polls (Polls wait) stack = load polls stack + (polls - wait.polled) + 1
 effort polls Logs stack = room polls stack
+effort polls (Watches polled) stack = (polls - polled) + 1
 
 -- a request asks for less than this, and an item waits where one is polled for
 pub record IsBounded (polls bound : ℕ) (errand : Errand) (stack : List Item) : Type 0 where
@@ -224,6 +228,16 @@ calls_bounded : (polls number : ℕ) (registers : Registers) (scope : Scope) (po
 calls_bounded polls number registers scope (Ok popped) is of = at_once_bounded polls (errand_of popped.0.1) popped.1 registers.stack is
 calls_bounded polls number registers scope (Err refusal) is fair = refused_bounded polls number registers refusal fair
 
+-- WAIT_EMPTY polls as often as one wait may
+waits_empty_bounded : (polls number : ℕ) (registers : Registers) (popped : Popped (List ℕ)) → IsOf popped registers.stack
+    → IsBoundedAct polls (room polls registers.stack) (waits_empty number registers popped)
+waits_empty_bounded polls number registers (Ok popped) of = record { below = omega arith; waits = tt }
+waits_empty_bounded polls number registers (Err refusal) fair = refused_bounded polls number registers refusal fair
+
+-- START_THREAD uses its reply at once
+of_start : (stack : List Item) → IsOf (start_request stack) stack
+of_start stack = of_then (bytes_operand stack) _ stack (of_bytes stack) (λ prefix. left_itself prefix.1)
+
 -- LOG_STACK polls for an item among those that it takes, or has fewer items afterwards
 batch_bounded : (polls : ℕ) (life : Option ℕ) (registers : Registers) (prefix : List ℕ)
     → first_life (take LOG_BATCH registers.stack) ≡ life
@@ -277,6 +291,10 @@ act_bounded polls number registers (Some (instruction.OnDatabase operation scope
     (of_call operation scope registers.stack)
 act_bounded polls number registers (Some instruction.LogStack) =
     logs_stack_bounded polls number registers (bytes_operand registers.stack) (of_bytes registers.stack)
+act_bounded polls number registers (Some instruction.StartThread) =
+    asks_bounded polls number registers awaits.Start (start_request registers.stack) refl (of_start registers.stack)
+act_bounded polls number registers (Some instruction.WaitEmpty) =
+    waits_empty_bounded polls number registers (bytes_operand registers.stack) (of_bytes registers.stack)
 
 -- ---- the item that was polled for becomes known
 
@@ -332,6 +350,7 @@ logs_on_logged awaits.CommittedVersion (reply.Version version) prefix is = absur
 logs_on_logged awaits.ConflictRange reply.Done prefix is = absurd cc
 logs_on_logged awaits.ConflictKey reply.Done prefix is = absurd cc
 logs_on_logged awaits.Promise (reply.Life life) prefix is = absurd cc
+logs_on_logged awaits.Start reply.NoMachine prefix is = absurd cc
 logs_on_logged awaiting given prefix is = absurd cc
 
 -- so what a reply is used for asks for less than the request had still to do
@@ -346,6 +365,7 @@ use_bounded polls number bound registers (PushesWaiting life) logged = tt
 use_bounded polls number bound registers (LogsOn prefix) logged =
     bounded_above polls (room polls registers.stack) bound (logs_on registers prefix) (logged prefix refl)
     (logs_bounded polls registers prefix)
+use_bounded polls number bound registers LacksMachine logged = tt
 
 used_bounded : (polls number : ℕ) (registers : Registers) (awaiting : Awaits) (given : Reply)
     → IsBoundedAct polls (effort polls (errand_of awaiting) registers.stack) (used number registers (use_of awaiting given))
@@ -386,6 +406,22 @@ poll_bounded polls number registers wait again awaiting reply.NotYet again_bound
     polls_on_bounded (nat_lt (wait.polled + 1) polls) polls number registers wait awaiting refl polls_is some
 poll_bounded polls number registers wait again awaiting given again_bounded polls_is some = tt
 
+-- one poll less while keys are watched
+watches_on_bounded : (more : Bool) (polls number : ℕ) (registers : Registers) (prefix : List ℕ) (polled : ℕ)
+    → nat_lt (polled + 1) polls ≡ more
+    → IsBoundedAct polls (effort polls (Watches polled) registers.stack) (watches_on more number registers prefix (polled + 1))
+watches_on_bounded true polls number registers prefix polled is =
+    let inside = ltb-true (polled + 1) polls is in
+    record { below = omega (arith, inside); waits = tt }
+watches_on_bounded false polls number registers prefix polled is = tt
+
+watch_bounded : (polls number : ℕ) (registers : Registers) (prefix : List ℕ) (polled : ℕ) (given : Reply)
+    → IsBoundedAct polls (effort polls (Watches polled) registers.stack) (after_watch polls number registers prefix polled given)
+watch_bounded polls number registers prefix polled reply.Empty = tt
+watch_bounded polls number registers prefix polled reply.NotYet =
+    watches_on_bounded (nat_lt (polled + 1) polls) polls number registers prefix polled refl
+watch_bounded polls number registers prefix polled given = tt
+
 -- what a machine asks with a reply is less than it had to do before, and it polls only where an item waits
 pub replied_bounded : (awaiting : Awaits) (machine : Machine) (given : Reply) → HasItsItem (errand_of awaiting) machine.registers.stack
     → IsBoundedAct machine.polls (effort machine.polls (errand_of awaiting) machine.registers.stack) (replied_act awaiting machine given)
@@ -395,4 +431,6 @@ replied_bounded (awaits.Stamp wait) machine given item =
 replied_bounded (awaits.LoggedStamp prefix wait) machine given item =
     poll_bounded machine.polls machine.next machine.registers wait (λ registers. logs_on registers prefix)
     (awaits.LoggedStamp prefix) given (λ known. logs_bounded machine.polls known prefix) refl item
+replied_bounded (awaits.Empty prefix polled) machine given item =
+    watch_bounded machine.polls machine.next machine.registers prefix polled given
 replied_bounded awaiting machine given item = used_bounded machine.polls machine.next machine.registers awaiting given

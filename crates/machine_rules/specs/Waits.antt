@@ -99,7 +99,7 @@ fairly_then : {A B : Type 0} (popped : Popped A) (f : A × List Item → Result 
 fairly_then (Ok x) f stack of next = fairly_above (f x) x.1 stack of (next x)
 fairly_then (Err refusal) f stack fair next = fair
 
-of_then : {A B : Type 0} (popped : Popped A) (f : A × List Item → Popped B) (stack : List Item)
+pub of_then : {A B : Type 0} (popped : Popped A) (f : A × List Item → Popped B) (stack : List Item)
     → IsOf popped stack → ((x : A × List Item) → IsOf (f x) x.1) → IsOf (popped >>= f) stack
 of_then (Ok x) f stack of next = of_above (f x) x.1 stack of (next x)
 of_then (Err refusal) f stack fair next = fair

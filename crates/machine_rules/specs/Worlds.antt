@@ -1,8 +1,16 @@
 -- The world, which all machines share, and the step that a request makes in it.
-use Rattle.std.specs.Prelude.{◌≡◌, ℕ, ◌==◌, Bool, true, false, if◌then◌else◌, List, [], ◌∷◌, ◌++◌, length, replicate, slice_set, slice_index_or, Option, Some, None, unwrap_or, is_some}
+use Rattle.std.specs.Prelude.{◌≡◌, ℕ, ◌==◌, nat_lt, Bool, true, false, if◌then◌else◌, List, [], ◌∷◌, ◌++◌, length, replicate, slice_set, slice_index_or, Option, Some, None, unwrap_or, is_some}
 use Rattle.std.specs.FinMap as finite
-use Rattle.key_bytes.specs.Keys.{key_cmp}
-use Rattle.database_rules.specs.Histories.{Setting, loaded, grown_by}
+use Rattle.std.specs.List.{filter, list_any}
+use Rattle.key_bytes.specs.Keys.{begins_with, key_cmp, within}
+use Rattle.database_rules.specs.Databases.{Database}
+use Rattle.database_rules.specs.Histories.{Setting, at, last, loaded, grown_by}
+use Rattle.database_rules.specs.Slices.{Entries}
+use Rattle.fdb_tuple.specs.Tuples.{Bytes, Empty, Single}
+use Rattle.fdb_tuple.specs.Spelling.{spelling}
+use Rattle.machine_rules.specs.declared.TheConstants.{MACHINES}
+use Rattle.command_rules.specs.declared.args.RunArgs.{RunArgs}
+use Rattle.outside.specs.Seeds.{words_of_seed}
 use Rattle.database_rules.specs.Transactions.{Transaction, fresh, with_version}
 use Rattle.database_rules.specs.declared.TheConstants.{TRANSACTION_CANCELLED}
 use Rattle.fdb_calls.specs.declared.Outcome.{Outcome}
@@ -28,13 +36,25 @@ pub record World : Type 0 where
   pub transactions : Transactions
   -- what became of each life that was drawn, at its number, once it is decided
   pub lives : List (Option Outcome)
+  -- the prefixes of the machines that were started, by their numbers
+  pub started : List (List ℕ)
   -- the random words still to come, by their places from 0
   pub words : ℕ → ℕ
 
--- the world at the beginning: the pairs of the input are the first commit, no name has a transaction, and these are the
--- random words
-abbrev pub begun : List (List ℕ × List ℕ) → (ℕ → ℕ) → World
-begun pairs words = record { setting = record { history = loaded pairs ∷ [] }; transactions = finite.empty; lives = []; words = words }
+-- the world at the beginning: the pairs of the input are the first commit, no name has a transaction, machine 0 was started
+-- under the prefix, and the random words are those of the seed
+abbrev pub begun : List (List ℕ × List ℕ) → RunArgs → World
+begun pairs arguments = record {
+  setting = record { history = loaded pairs ∷ [] };
+  transactions = finite.empty;
+  lives = [];
+  started = arguments.prefix ∷ [];
+  words = words_of_seed arguments.seed;
+}
+
+-- the map at the last version
+abbrev pub newest : World → Database
+newest world = at world.setting.history (last world.setting.history)
 
 -- the number of the next life
 abbrev pub next_life : World → ℕ
@@ -147,9 +167,35 @@ promised None = reply.NotYet
 promised (Some (outcome.HasStamp stamp)) = reply.Stamp stamp
 promised (Some (outcome.Lacks code)) = reply.Fault code
 
+-- ---- machines
+
+-- whether a key begins with a prefix
+abbrev pub has_key_with : (prefix : List ℕ) → Database → Bool
+has_key_with prefix database = list_any (λ entry. begins_with entry.0 prefix) (finite.entries database)
+
+-- the packed tuple of a prefix alone, with which the keys of its instructions begin
+abbrev pub packed_prefix : List ℕ → List ℕ
+packed_prefix prefix = spelling (Single (Bytes prefix) Empty)
+
+-- the pairs of the instructions of a prefix: those in the range of the tuples that begin with it
+abbrev pub instruction_pairs : (prefix : List ℕ) → Database → Entries
+instruction_pairs prefix database =
+    filter (λ entry. within (packed_prefix prefix ++ 0 ∷ []) (packed_prefix prefix ++ 255 ∷ []) entry.0) (finite.entries database)
+
+-- one more machine, whose instructions are those of its prefix at the last version; none where there are as many as may be
+abbrev pub start_by : Bool → World → (prefix : List ℕ) → Stepped
+start_by true world prefix = record {
+  world = record world { started = world.started ++ prefix ∷ [] };
+  reply = reply.Started (length world.started) (instruction_pairs prefix (newest world));
+}
+start_by false world prefix = record { world = world; reply = reply.NoMachine }
+
 unfoldable pub step : World → Request → Stepped
 step world (request.New name) = record { world = with_new world name; reply = reply.Done }
 step world (request.On name call) = call_named (with_named world name) name call
 step world (request.Database call) = and_commit world (λ drawn transaction. called drawn.setting (next_life drawn) transaction call)
 step world (request.Log prefix entries) = and_commit world (λ drawn transaction. in_turn (logs prefix entries) transaction)
 step world (request.PollStamp life) = record { world = world; reply = promised (slice_index_or world.lives life None) }
+step world (request.PollEmpty prefix) =
+    record { world = world; reply = if has_key_with prefix (newest world) then reply.NotYet else reply.Empty }
+step world (request.Start prefix) = start_by (nat_lt (length world.started) MACHINES) world prefix

@@ -2,9 +2,10 @@
 //! a machine, and what a run over an order of requests leaves and dumps.
 //!
 //! Nothing here runs. Contracts above cite these words: `specs/Worlds.antt` has the world and the step of a
-//! request, `specs/Operands.antt` and `specs/StackOperations.antt` what the operations on a stack do,
+//! request, `specs/Operands.antt` and `specs/StackOperations.antt` what the operations on a stack do, `specs/Calls.antt`
+//! what an operation asks of the database and makes of the reply, `specs/Waits.antt` what waits and for what,
 //! `specs/Instructions.antt` how a value is an instruction, `specs/Machines.antt` a machine, and `specs/Runs.antt` a
-//! run and its dump.
+//! run and its dump. `specs/WaitLaws.antt` and `specs/Laws.antt` show that a machine comes to rest and that waits end.
 //! The few types that the machine and its definitions share stand in `src/`.
 #![tactic(auto)]
 
@@ -36,8 +37,10 @@ pub enum End {
     BadInstruction(u64),
     /// The instruction of this number pops an item where the stack has none.
     Underflow(u64),
-    /// The instruction of this number pops an item that waits, and all polls for it were answered that it isn't decided yet.
+    /// The instruction of this number waits, and all polls of its wait were answered that it isn't so yet.
     WaitBound(u64),
+    /// The instruction of this number starts a machine, where as many were started as may be.
+    MachineLimit(u64),
 }
 
 /// An error that a machine noted: the number of the instruction that was run, and the digits of the code.
@@ -47,8 +50,8 @@ pub struct ErrorNote {
     pub word: Bytes,
 }
 
-/// How often the polls of one wait may be answered that it isn't decided yet.
-pub const POLLS: u32 = 10_000;
+/// How many machines a run starts, at most, the first one included.
+pub const MACHINES: usize = 64;
 
 /// How many items LOG_STACK writes in one request, at most.
 pub const LOG_BATCH: usize = 100;
@@ -96,6 +99,11 @@ pub enum Awaits {
     Stamp(Wait),
     /// The same within the next items that are logged under the prefix.
     LoggedStamp { prefix: Bytes, wait: Wait },
+    /// Nothing is pushed; where no machine was started, the machine ends.
+    Start,
+    /// The fixed text `WAITED_FOR_EMPTY` is pushed once no key begins with the prefix. So many polls were answered that it
+    /// isn't so yet.
+    Empty { prefix: Bytes, polled: u32 },
 }
 
 /// What a machine is about to do.
@@ -230,4 +238,8 @@ pub enum Instruction {
     OnDatabase(DatabaseOperation, Scope),
     /// Pops a prefix, and writes all items of the stack under it, at most `LOG_BATCH` in one commit.
     LogStack,
+    /// Pops a prefix, and starts a machine under it.
+    StartThread,
+    /// Pops a prefix, and waits until no key begins with it.
+    WaitEmpty,
 }

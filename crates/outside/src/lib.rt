@@ -10,8 +10,8 @@
 //! one never fails. Nothing is said of how they are spread.
 //!
 //! There are sources and sinks in memory, some that fail where a test says and some that never fail, two over std's
-//! readers and writers, and the words of a list. `read_all` and `write_all` move whole inputs and outputs. The
-//! definitions stand in `specs/Counts.antt`, `specs/Streams.antt` and `specs/Memory.antt`.
+//! readers and writers, the words of a list and those of a seed. `read_all` and `write_all` move whole inputs and outputs. The
+//! definitions stand in `specs/Counts.antt`, `specs/Streams.antt`, `specs/Memory.antt` and `specs/Seeds.antt`.
 #![tactic(auto)]
 
 mod bytes_left;
@@ -20,6 +20,7 @@ mod gate;
 mod list_words;
 mod mem_sink;
 mod mem_source;
+mod pcg_words;
 mod sink;
 mod source;
 mod streams;
@@ -31,6 +32,7 @@ pub use gate::{Gate, OpenGate};
 pub use list_words::ListWords;
 pub use mem_sink::MemSink;
 pub use mem_source::MemSource;
+pub use pcg_words::PcgWords;
 pub use sink::{Put, Sink};
 pub use source::{Source, Taken};
 pub use streams::{ReadSource, WriteSink};

@@ -240,6 +240,31 @@ fn a_list_gives_its_words_and_then_zeros(rt: HostRuntime) -> Result<(), Fail> {
     Ok(())
 }
 
+// Seeds, and the first three words of each, as the generator's description gives them.
+const SEEDED: &[(u64, [u32; 3])] = &[
+    (0, [298_703_107, 4_236_525_527, 336_081_875]),
+    (7, [2_442_223_337, 414_063_806, 2_743_600_285]),
+    (u64::MAX, [2_553_256_318, 1_362_994_822, 3_759_657_484]),
+];
+
+// The first seed with other words.
+fn first_other_seed() -> Option<u64> {
+    for (seed, wanted) in SEEDED {
+        let mut words = PcgWords::new(*seed);
+        if first_other_word(&mut words, wanted).is_some() {
+            return Some(*seed);
+        }
+    }
+    None
+}
+
+#[test]
+fn a_seed_gives_its_words(rt: HostRuntime) -> Result<(), Fail> {
+    let _alloc = rt.alloc();
+    assert_eq!(rt; first_other_seed(), None);
+    Ok(())
+}
+
 // The sum of the next two words, whatever gives them.
 fn sum_of_two<W: Words>(words: &mut W) -> u64
     ensures sum { result ≡ W.words words.old 0 + W.words words.old 1 }

@@ -4,6 +4,7 @@ ghost use Rattle.std.specs.Prelude.{◌≡◌, IfOk, IsErr};
 ghost use Rattle.stack_machine.specs.Acts.{polls_for, refusal_of};
 
 use fdb_calls::Request;
+use key_bytes::Bytes;
 use machine_rules::{Awaits, End, Wait};
 use stack_items::StackFault;
 use std::alloc::AllocError;
@@ -31,6 +32,17 @@ pub fn refused(number: u64, fault: StackFault) -> Result<Act, AllocError>
         StackFault::Waits { life } => Ok(poll(life)),
         StackFault::NoMemory => Err(AllocError),
     }
+}
+
+/// Polls whether no key begins with a prefix, after so many polls that were answered that it isn't so yet.
+pub fn ask_empty(prefix: &Bytes, polled: u32) -> Result<Act, AllocError>
+    ensures { IfOk result (λ act. act ≡ Act.Asks (Request.PollEmpty prefix.now) (Awaits.Empty prefix.now polled)) }
+{
+    let request = Request::PollEmpty {
+        prefix: prefix.copy()?,
+    };
+    let prefix = prefix.copy()?;
+    Ok(Act::Asks(request, Awaits::Empty { prefix, polled }))
 }
 
 // The first poll for a life.

@@ -64,6 +64,12 @@ fn bare_instruction(name: &[u8]) -> Option<Instruction>
     if name == b"LOG_STACK".as_slice() {
         return Some(Instruction::LogStack);
     }
+    if name == b"START_THREAD".as_slice() {
+        return Some(Instruction::StartThread);
+    }
+    if name == b"WAIT_EMPTY".as_slice() {
+        return Some(Instruction::WaitEmpty);
+    }
     if let Some(operation) = transaction_operation(name) {
         return Some(Instruction::OnTransaction(operation));
     }

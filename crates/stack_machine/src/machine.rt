@@ -74,7 +74,7 @@ impl Machine {
     ghost use Rattle.stack_machine.specs.Steps.{MayStep, moved, Moves};
 
     /// A machine before its first instruction, under a number and a prefix, with the values of these pairs as its
-    /// instructions, in order, and how often the polls of one wait may be answered that it isn't decided yet.
+    /// instructions, in order, and how often the polls of one wait may be answered that it isn't so yet.
     pub fn new(
         alloc: Global,
         number: u16,
@@ -113,6 +113,13 @@ impl Machine {
         ensures { result ≡ self.now.machine.number }
     {
         self.number
+    }
+
+    /// How often the polls of one wait may be answered that it isn't so yet. It takes no memory.
+    pub fn polls(&self) -> u32
+        ensures { result ≡ self.now.machine.polls }
+    {
+        self.polls
     }
 
     /// The prefix that the machine was started under. It takes no memory.
@@ -214,6 +221,13 @@ impl Machine {
                 let act = self
                     .registers
                     .resume_log(number, self.polls, prefix, *wait, reply)?;
+                Ok(self.act(act))
+            }
+            State::Awaiting(Awaits::Empty { prefix, polled }) => {
+                let number = self.next as u64;
+                let act = self
+                    .registers
+                    .resume_watch(number, self.polls, prefix, *polled, reply)?;
                 Ok(self.act(act))
             }
             State::Awaiting(awaits) => {

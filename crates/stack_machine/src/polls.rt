@@ -1,13 +1,14 @@
-//! Polls for an item that waits (bindingApiTester.md, "GET_VERSIONSTAMP").
+//! Polls for an item that waits, and whether no key begins with a prefix (bindingApiTester.md, "GET_VERSIONSTAMP" and
+//! "WAIT_EMPTY").
 
 ghost use Rattle.std.specs.Prelude.{◌≡◌, ◌<◌, ◌+◌, decimal, nat_lt, length, IfOk};
 ghost use Rattle.machine_rules.specs.declared.Awaits.{Awaits as AwaitsSaid};
 ghost use Rattle.machine_rules.specs.declared.Wait.{Wait as WaitSaid};
-ghost use Rattle.machine_rules.specs.Machines.{Registers as RegistersSaid, Act as ActSaid, act_of, after_poll, error_item, knowing, logs_on, noting};
+ghost use Rattle.machine_rules.specs.Machines.{Registers as RegistersSaid, Act as ActSaid, act_of, after_poll, after_watch, watches_on, error_item, knowing, logs_on, noting};
 ghost use Rattle.stack_machine.specs.Acts.{act_with, polled_act, PollsOn};
 ghost use Rattle.stack_machine.specs.Pushes.{PushesAnElement};
 
-use crate::act::Act;
+use crate::act::{Act, ask_empty};
 use crate::errors::{digits_of, error_item};
 use crate::registers::Registers;
 use fdb_calls::{Code, Reply, Request};
@@ -130,5 +131,40 @@ impl Registers {
             Polled::Bound => Ok(Act::Stops(End::WaitBound(number))),
             Polled::Other => Ok(Act::Does),
         }
+    }
+
+    /// Uses the reply to a poll of WAIT_EMPTY, after so many polls that were answered that it isn't so yet.
+    pub fn resume_watch(
+        &mut self,
+        number: u64,
+        polls: u32,
+        prefix: &Bytes,
+        polled: u32,
+        reply: &Reply,
+    ) -> Result<Act, AllocError>
+        ensures { IfOk result (λ act. act_with self.new act ≡ after_watch polls number self.old prefix.now polled reply.now) }
+    {
+        match reply {
+            Reply::Empty => self.push_text(number, b"WAITED_FOR_EMPTY"),
+            Reply::NotYet => self.watch_on(number, polls, prefix, polled),
+            _ => Ok(Act::Does),
+        }
+    }
+
+    // It isn't so yet: it is polled for again, or the machine ends.
+    fn watch_on(
+        &self,
+        number: u64,
+        polls: u32,
+        prefix: &Bytes,
+        polled: u32,
+    ) -> Result<Act, AllocError>
+        ensures { IfOk result (λ act. act_with self.now act
+            ≡ watches_on (nat_lt (polled + 1) polls) number self.now prefix.now (polled + 1)) }
+    {
+        if polled < polls.saturating_sub(1) {
+            return ask_empty(prefix, polled + 1);
+        }
+        Ok(Act::Stops(End::WaitBound(number)))
     }
 }

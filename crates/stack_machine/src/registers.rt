@@ -4,14 +4,14 @@ ghost use Rattle.std.specs.Prelude.{◌≡◌, pos, [], ◌∷◌, ◌++◌, tak
 ghost use Rattle.fdb_tuple.specs.Listed.{IsElement};
 ghost use Rattle.machine_rules.specs.Operands.{bytes_operand};
 ghost use Rattle.machine_rules.specs.StackOperations.{operated};
-ghost use Rattle.machine_rules.specs.Calls.{call_of, request_in, request_of, awaits_of};
-ghost use Rattle.machine_rules.specs.Machines.{act_of, pushing, does, uses, asks, calls, logs_stack, logs_on, logs_batch, first_life, with_stack, knowing, below_waiting, used};
+ghost use Rattle.machine_rules.specs.Calls.{call_of, request_in, request_of, awaits_of, start_request};
+ghost use Rattle.machine_rules.specs.Machines.{act_of, pushing, does, uses, asks, calls, logs_stack, logs_on, logs_batch, waits_empty, first_life, with_stack, knowing, below_waiting, used};
 ghost use Rattle.machine_rules.specs.Machines.{Does, PushesWaiting};
 ghost use Rattle.machine_rules.specs.declared.TheConstants.{LOG_BATCH};
 ghost use Rattle.stack_machine.specs.Acts.{act_with};
 ghost use Rattle.stack_machine.specs.Pushes.{PushesAnElement};
 
-use crate::act::{Act, refused};
+use crate::act::{Act, ask_empty, refused};
 use crate::call::call_of;
 use crate::errors::Errors;
 use crate::requests::{awaits_of, request_of};
@@ -98,6 +98,8 @@ impl Registers {
                 self.on_database(number, operation, scope)
             }
             Some(Instruction::LogStack) => self.log_stack(number),
+            Some(Instruction::StartThread) => self.start_thread(number),
+            Some(Instruction::WaitEmpty) => self.wait_empty(number),
         }
     }
 
@@ -222,6 +224,26 @@ impl Registers {
     {
         match self.stack.pop_bytes() {
             Ok(prefix) => self.log_on(&prefix),
+            Err(fault) => refused(number, fault),
+        }
+    }
+
+    // START_THREAD pops the prefix of the machine that is started.
+    fn start_thread(&mut self, number: u64) -> Result<Act, AllocError>
+        ensures { IfOk result (λ act. act_with self.new act ≡ asks number self.old Awaits.Start (start_request self.old.stack)) }
+    {
+        match self.stack.pop_bytes() {
+            Ok(prefix) => Ok(Act::Asks(Request::Start { prefix }, Awaits::Start)),
+            Err(fault) => refused(number, fault),
+        }
+    }
+
+    // WAIT_EMPTY pops the prefix, and polls for the first time.
+    fn wait_empty(&mut self, number: u64) -> Result<Act, AllocError>
+        ensures { IfOk result (λ act. act_with self.new act ≡ waits_empty number self.old (bytes_operand self.old.stack)) }
+    {
+        match self.stack.pop_bytes() {
+            Ok(prefix) => ask_empty(&prefix, 0),
             Err(fault) => refused(number, fault),
         }
     }

@@ -13,7 +13,7 @@ use crate::registers::Registers;
 use fdb_calls::{Code, Reply};
 use fdb_tuple::Elem;
 use key_bytes::{Bytes, Key, Pairs, is_below};
-use machine_rules::Awaits;
+use machine_rules::{Awaits, End};
 use std::alloc::{AllocError, Global};
 
 impl Registers {
@@ -47,6 +47,7 @@ impl Registers {
             (Awaits::ConflictRange, Reply::Done) => self.push_text(number, b"SET_CONFLICT_RANGE"),
             (Awaits::ConflictKey, Reply::Done) => self.push_text(number, b"SET_CONFLICT_KEY"),
             (Awaits::Promise, Reply::Life(life)) => self.push_waiting(number, *life),
+            (Awaits::Start, Reply::NoMachine) => Ok(Act::Stops(End::MachineLimit(number))),
             _ => Ok(Act::Does),
         }
     }
@@ -69,7 +70,7 @@ impl Registers {
     }
 
     // Pushes a fixed text.
-    fn push_text(&mut self, number: u64, text: &[u8]) -> Result<Act, AllocError>
+    pub(crate) fn push_text(&mut self, number: u64, text: &[u8]) -> Result<Act, AllocError>
         ensures { IfOk result (λ act. act_with self.new act ≡ Does (pushing number self.old (Elem.Bytes text.now))) }
     {
         let text = Bytes::from_slice(self.alloc(), text)?;

@@ -5,9 +5,11 @@ use super::*;
 use Course::{Asks, Bad, Under};
 use fdb_tuple::{Elem, pack_element};
 use key_bytes::{Bytes, Pair, Pairs};
-use machine_rules::POLLS;
 use std::alloc::{AllocError, Global};
 use std::test::Fail;
+
+// How many polls a wait has in these tests.
+const POLLS: u32 = 10_000;
 
 // An instruction that is this name alone, under the empty key.
 fn instruction(alloc: Global, name: &[u8]) -> Result<Pair, AllocError> {
@@ -71,6 +73,8 @@ const NAMES: &[(&[u8], Course)] = &[
     (b"GET_RANGE_SELECTOR_DATABASE", Under),
     (b"SET", Under),
     (b"ATOMIC_OP_DATABASE", Under),
+    (b"START_THREAD", Under),
+    (b"WAIT_EMPTY", Under),
     (b"HELLO", Bad),
     (b"SET_SNAPSHOT", Bad),
     (b"ATOMIC_OP_SNAPSHOT", Bad),
@@ -78,6 +82,8 @@ const NAMES: &[(&[u8], Course)] = &[
     (b"GET_READ_VERSION_DATABASE", Bad),
     (b"GET_COMMITTED_VERSION_SNAPSHOT", Bad),
     (b"GET_VERSIONSTAMP_DATABASE", Bad),
+    (b"START_THREAD_DATABASE", Bad),
+    (b"WAIT_EMPTY_SNAPSHOT", Bad),
     (b"GET_", Bad),
     (b"_SNAPSHOT", Bad),
     (b"", Bad),
@@ -98,6 +104,7 @@ fn is_as_made(machine: &Machine) -> bool {
     machine.number() == 0
         && machine.prefix().as_slice() == b"p".as_slice()
         && machine.instruction_count() == 1
+        && machine.polls() == POLLS
         && machine.errors().len() == 0
         && machine.stack().is_empty()
 }

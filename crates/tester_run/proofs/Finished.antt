@@ -1,100 +1,176 @@
--- A machine that has stopped ends the run: what is rendered is its dump and its status.
-use Rattle.std.proofs.Common.{◌≡◌, ℕ, Bool, true, false, ◌&&◌, cond, subst, List, [], ◌∷◌, ◌++◌, Some, refl, sym, ap, ◌∙◌, arith}
-use Rattle.std.specs.Prelude.{pos, IsTrue}
-use Rattle.std.specs.List.{flat_map}
-use Rattle.std.proofs.lemmas.List.{append-nil}
-use Rattle.std.proofs.lemmas.List.Concat.{flat_map-cons}
-use Rattle.client_core.specs.Stands.{CoreModel, StandsFor}
-use Rattle.machine_rules.specs.declared.State.TheVariants as state
+-- Where no machine asks the run has ended: what is rendered is its dump and its status.
+use Rattle.std.proofs.Common.{◌≡◌, ℕ, zero, suc, Bool, true, false, ◌&&◌, cond, List, [], ◌∷◌, ◌++◌, length, Option, Some, None, Result, Ok, Err, refl, sym, ap, subst, ◌∙◌, arith}
+use Rattle.std.specs.Prelude.{IfOk, is_some, map}
+use Rattle.std.specs.declared.alloc.AllocError.{AllocError}
+use Rattle.std.specs.List.{flat_map, list_all}
 use Rattle.std.specs.FinMap as finite
+use Rattle.std.proofs.lemmas.List.Concat.{flat_map-cons}
+use Rattle.std.proofs.lemmas.List.Folds.{list_all-map}
+use Rattle.std.proofs.lemmas.Option.{none-some, same_Some}
+use Rattle.client_core.specs.Stands.{CoreModel, StandsFor}
 use Rattle.version_store.specs.Versions.{at, last_of}
 use Rattle.database_rules.specs.Databases.{Database}
 use Rattle.database_rules.specs.Histories.{last}
-use Rattle.machine_rules.specs.Worlds.{World, HasWords, begun}
-use Rattle.machine_rules.specs.Machines.{Machine, Progress, silent}
-use Rattle.machine_rules.specs.declared.TheConstants.{POLLS}
-use Rattle.machine_rules.specs.Runs.{words_of_run, started, instructions_in, newest, run_from, has_stopped, has_ended}
-use Rattle.machine_rules.specs.Runs.{status_of, end_line, stack_lines, error_lines, dump}
-use Rattle.machine_rules.specs.Laws.{at_rest_still}
-use Rattle.line_rules.specs.Printing.{order_line}
-use Rattle.tester_run.specs.Driving.{Leads, run_of}
 use Rattle.line_rules.specs.Inputs.{pair_lines}
-use Rattle.tester_run.specs.Dumps.{machine_dump}
-use Rattle.tester_run.specs.Rendered.{Renders}
-use Rattle.tester_run.proofs.Leading.{stopped_rests}
+use Rattle.line_rules.specs.Printing.{order_line}
+use Rattle.machine_rules.specs.declared.State.{State}
+use Rattle.machine_rules.specs.declared.State.TheVariants as state
+use Rattle.command_rules.specs.declared.args.RunArgs.{RunArgs}
+use Rattle.machine_rules.specs.Worlds.{World, HasWords, begun, instruction_pairs, newest}
+use Rattle.machine_rules.specs.Machines.{Progress, silent}
+use Rattle.machine_rules.specs.Laws.{is_awaiting}
+use Rattle.machine_rules.specs.Runs.{AreByTurns, Run, at_rest, started, run_from, is_running, has_stopped, has_ended, status_of, end_line, stack_lines, error_lines, dump}
+use Rattle.tester_run.specs.declared.seat.Seat.{Seat}
 use Rattle.tester_run.specs.declared.running.Rendered.{Rendered}
+use Rattle.tester_run.specs.Driving.{asks_at, progress_of, AreFirst, AreSeated, IsGoing, IsSeated, Leads, LeadsByTurns}
+use Rattle.tester_run.specs.Dumps.{dump_of, newest_pairs, seat_end, seat_errors, seat_stack}
+use Rattle.tester_run.specs.Rendered.{Renders}
+use Rattle.tester_run.proofs.Turns.{none_behind}
 
 -- the map at the last version that a core keeps
 abbrev pub kept_map : CoreModel → Database
 kept_map core = at core.store (last_of core.store)
 
 pub kept_newest : (core : CoreModel) (world : World) → StandsFor core world → kept_map core ≡ newest world
-kept_newest core world stands = ap (at core.store) stands.keeps.last_is ∙ stands.keeps.at_is (last world.setting.history) (omega arith)
-
--- machine 0 as it is started
-abbrev pub first_machine : Database → List ℕ → Machine
-first_machine database prefix = record {
-  number = 0;
-  prefix = prefix;
-  instructions = instructions_in database prefix;
-  next = 0;
-  polls = POLLS;
-  registers = record { name = prefix; last_seen = pos 0; stack = []; errors = [] };
-  state = state.Running;
-}
+kept_newest core world stands =
+    ap (at core.store) stands.contents.keeps.last_is ∙ stands.contents.keeps.at_is (last world.setting.history) (omega arith)
 
 -- before any request the empty order leads to the start
-pub begins : (pairs : List (List ℕ × List ℕ)) (prefix : List ℕ) (core : CoreModel) (words : ℕ → ℕ) (machine : Machine)
-    → StandsFor core (begun pairs words_of_run)
-    → HasWords (begun pairs words_of_run) words → machine ≡ first_machine (kept_map core) prefix
-    → Leads pairs prefix core words (silent machine) []
-unfolding run_from started
-begins pairs prefix core words machine stands has_words is =
-    let world : World = begun pairs words_of_run in
+begins : (pairs : List (List ℕ × List ℕ)) (arguments : RunArgs) (core : CoreModel) (words : ℕ → ℕ) (seat : Seat)
+    → StandsFor core (begun pairs arguments)
+    → HasWords (begun pairs arguments) words
+    → progress_of seat ≡ at_rest (silent (started 0 arguments.prefix arguments.polls (instruction_pairs arguments.prefix (kept_map core))))
+    → LeadsByTurns pairs arguments core words (seat ∷ []) [] 0
+unfolding run_from
+begins pairs arguments core words seat stands has_words is =
+    let world : World = begun pairs arguments in
     record {
-      world = world;
-      stands = stands;
-      has_words = has_words;
-      runs =
-          ap (λ (m : Machine). Some (run_of world (silent m))) (sym (is ∙ ap (λ (d : Database). first_machine d prefix) (kept_newest core world stands)));
+      leads = record {
+        world = world;
+        stands = stands;
+        has_words = has_words;
+        runs =
+            ap (λ (d : Database). Some (record { world = world; machines = at_rest (silent (started 0 arguments.prefix arguments.polls (instruction_pairs arguments.prefix d))) ∷ [] }))
+            (sym (kept_newest core world stands))
+            ∙ ap (λ (p : Progress). Some (record { world = world; machines = p ∷ [] })) (sym is);
+      };
+      turns = λ front rest number run e runs. absurd (none_behind front number rest e);
+      from_is = refl;
     }
 
-alone : {X : Type 0} (f : X → List ℕ) (x : X) → flat_map f (x ∷ []) ≡ f x
-alone f x = flat_map-cons f x [] ∙ append-nil (f x)
+pub leads_first : (pairs : List (List ℕ × List ℕ)) (arguments : RunArgs) (core : CoreModel) (words : ℕ → ℕ) (seats : List Seat) (order : List ℕ)
+    → StandsFor core (begun pairs arguments)
+    → HasWords (begun pairs arguments) words
+    → AreFirst seats arguments core → order ≡ []
+    → LeadsByTurns pairs arguments core words seats order 0
+leads_first pairs arguments core words seats order stands has_words first none =
+    subst (λ (all : List Seat). LeadsByTurns pairs arguments core words all order 0) (sym first.alone)
+    (subst (λ (o : List ℕ). LeadsByTurns pairs arguments core words (first.seat ∷ []) o 0) (sym none)
+    (begins pairs arguments core words first.seat stands has_words first.started))
 
-dump_alone : (order : List ℕ) (world : World) (machine : Machine)
-    → dump order (record { world = world; machines = silent machine ∷ [] }) ≡ machine_dump machine order (finite.entries (newest world))
-unfolding dump machine_dump
-dump_alone order world machine =
-    ap (λ (ends : List ℕ). ends ++ flat_map (λ (p : Progress). stack_lines p.machine) (silent machine ∷ []) ++ flat_map (λ (p : Progress). error_lines p.machine) (silent machine ∷ []) ++ flat_map order_line order ++ pair_lines (finite.entries (newest world)))
-    (alone (λ (p : Progress). end_line p.machine p.machine.state) (silent machine))
-    ∙ ap (λ (stacks : List ℕ). end_line machine machine.state ++ stacks ++ flat_map (λ (p : Progress). error_lines p.machine) (silent machine ∷ []) ++ flat_map order_line order ++ pair_lines (finite.entries (newest world)))
-    (alone (λ (p : Progress). stack_lines p.machine) (silent machine))
-    ∙ ap (λ (errors : List ℕ). end_line machine machine.state ++ stack_lines machine ++ errors ++ flat_map order_line order ++ pair_lines (finite.entries (newest world)))
-    (alone (λ (p : Progress). error_lines p.machine) (silent machine))
+alone_seated : (seat : Seat) → IsSeated seat → AreSeated (seat ∷ [])
+alone_seated seat own zero other e = subst IsSeated (same_Some seat other e) own
+alone_seated seat own (suc number) other e = absurd (none-some other e)
 
-and_true : (b : Bool) → (b && true) ≡ b
-and_true true = refl
-and_true false = refl
+pub going_first : (pairs : List (List ℕ × List ℕ)) (arguments : RunArgs) (core : CoreModel) (seats : List Seat) (order : List ℕ)
+    → StandsFor core (begun pairs arguments) → core.applied ≡ 0 → AreFirst seats arguments core → order ≡ []
+    → IsGoing core seats order
+going_first pairs arguments core seats order stands unapplied first none =
+    let one : length seats ≡ 1 = ap length first.alone in
+    record {
+      seated = subst AreSeated (sym first.alone) (alone_seated first.seat first.seated);
+      counted = unapplied ∙ sym (ap length none);
+      started = ap length stands.started ∙ sym one;
+      few = omega (arith, one);
+    }
 
-status_alone : (world : World) (machine : Machine)
-    → status_of (record { world = world; machines = silent machine ∷ [] }) ≡ cond (has_ended machine.state) 0 3
-status_alone world machine = ap (λ b. cond b 0 3) (and_true (has_ended machine.state))
+-- ---- the end
 
--- where the order leads to a machine that has stopped, what was rendered is what the run leaves
-pub finishes : (pairs : List (List ℕ × List ℕ)) (prefix : List ℕ) (core : CoreModel) (words : ℕ → ℕ) (machine : Machine) (rendered : Rendered)
-    → Leads pairs prefix core words (silent machine) rendered.order → has_stopped machine.state ≡ true
-    → rendered.dump.items ≡ machine_dump machine rendered.order (finite.entries (kept_map core)) → rendered.status ≡ cond (has_ended machine.state) 0 3 → Renders pairs prefix rendered
-finishes pairs prefix core words machine rendered leads stopped dump_is status_is = record {
-  run = record { world = leads.world; machines = silent machine ∷ [] };
-  runs = record {
-    runs =
-        leads.runs
-        ∙ ap (λ (p : Progress). Some (record { world = leads.world; machines = p ∷ [] })) (at_rest_still (silent machine) (stopped_rests machine.state stopped));
-    complete = subst (λ b. IsTrue (b && true)) (sym stopped) refl;
-  };
+at_rest_stopped : (its_state : State) → is_running its_state ≡ false → is_awaiting its_state ≡ false → has_stopped its_state ≡ true
+at_rest_stopped state.Running runs awaits = absurd cc
+at_rest_stopped (state.Awaiting awaiting) runs awaits = absurd cc
+at_rest_stopped (state.Stopped end) runs awaits = refl
+
+-- a machine that asks nothing has stopped
+seat_stopped : (seat : Seat) → IsSeated seat → is_some seat.asks ≡ false → has_stopped seat.machine.machine.state ≡ true
+seat_stopped seat seated none = at_rest_stopped seat.machine.machine.state seated.rests (seated.awaits ∙ none)
+
+all_stopped : (seats : List Seat) → AreSeated seats → ((number : ℕ) → asks_at seats number ≡ false)
+    → list_all (λ (progress : Progress). has_stopped progress.machine.state) (map progress_of seats) ≡ true
+all_stopped [] all none = refl
+all_stopped (seat ∷ seats) all none =
+    rw (seat_stopped seat (all 0 seat refl) (none 0))
+    (all_stopped seats (λ number other e. all (suc number) other e) (λ number. none (suc number)))
+
+-- ---- what is rendered
+
+flat_map-map : {X Y : Type 0} (f : Y → List ℕ) (g : X → Y) (xs : List X) → flat_map f (map g xs) ≡ flat_map (λ x. f (g x)) xs
+flat_map-map f g [] = refl
+flat_map-map f g (x ∷ xs) =
+    flat_map-cons f (g x) (map g xs) ∙ ap (λ (rest : List ℕ). f (g x) ++ rest) (flat_map-map f g xs)
+    ∙ sym (flat_map-cons (λ y. f (g y)) x xs)
+
+abbrev ends : Progress → List ℕ
+ends progress = end_line progress.machine progress.machine.state
+
+abbrev stacks : Progress → List ℕ
+stacks progress = stack_lines progress.machine
+
+abbrev errors : Progress → List ℕ
+errors progress = error_lines progress.machine
+
+dump_is_of : (order : List ℕ) (world : World) (seats : List Seat)
+    → dump order (record { world = world; machines = map progress_of seats }) ≡ dump_of seats order (finite.entries (newest world))
+unfolding dump dump_of
+dump_is_of order world seats =
+    let pairs = pair_lines (finite.entries (newest world)) in
+    (λ i. flat_map-map ends progress_of seats i ++ flat_map-map stacks progress_of seats i ++ flat_map-map errors progress_of seats i
+    ++ flat_map order_line order ++ pairs)
+
+-- where no machine asks, what was rendered is what the run leaves
+finishes : (pairs : List (List ℕ × List ℕ)) (arguments : RunArgs) (core : CoreModel) (words : ℕ → ℕ) (seats : List Seat)
+    (rendered : Rendered)
+    → Leads pairs arguments core words seats rendered.order → AreSeated seats → ((number : ℕ) → asks_at seats number ≡ false)
+    → rendered.dump.items ≡ dump_of seats rendered.order (finite.entries (kept_map core))
+    → rendered.status ≡ cond (list_all (λ (seat : Seat). has_ended seat.machine.machine.state) seats) 0 3
+    → Renders pairs arguments rendered
+finishes pairs arguments core words seats rendered leads seated none dump_is status_is = record {
+  run = record { world = leads.world; machines = map progress_of seats };
+  runs = record { runs = leads.runs; complete = all_stopped seats seated none };
   dump_is =
-      dump_is ∙ ap (λ (d : Database). machine_dump machine rendered.order (finite.entries d)) (kept_newest core leads.world leads.stands)
-      ∙ sym (dump_alone rendered.order leads.world machine);
-  status_is = status_is ∙ sym (status_alone leads.world machine);
+      dump_is ∙ ap (λ (d : Database). dump_of seats rendered.order (finite.entries d)) (kept_newest core leads.world leads.stands)
+      ∙ sym (dump_is_of rendered.order leads.world seats);
+  status_is = status_is
+      ∙ ap (λ b. cond b 0 3) (sym (list_all-map (λ (progress : Progress). has_ended progress.machine.state) progress_of seats));
 }
+
+-- what was rendered of the seats and of the order
+pub rendered_finishes : (pairs : List (List ℕ × List ℕ)) (arguments : RunArgs) (core : CoreModel) (words : ℕ → ℕ) (seats slice : List Seat)
+    (order : List ℕ) (rendered : Rendered)
+    → Leads pairs arguments core words seats order → AreSeated seats → ((number : ℕ) → asks_at seats number ≡ false) → slice ≡ seats
+    → rendered.order ≡ order → rendered.dump.items ≡ dump_of slice order (newest_pairs core.store)
+    → rendered.status ≡ cond (list_all (λ (seat : Seat). has_ended seat.machine.machine.state) slice) 0 3
+    → Renders pairs arguments rendered
+rendered_finishes pairs arguments core words seats slice order rendered leads seated none same order_is dump_is status_is =
+    finishes pairs arguments core words seats rendered
+    (subst (λ (o : List ℕ). Leads pairs arguments core words seats o) (sym order_is) leads) seated none
+    (dump_is ∙ (λ i. dump_of (same i) (sym order_is i) (newest_pairs core.store)))
+    (status_is ∙ ap (λ (all : List Seat). cond (list_all (λ (seat : Seat). has_ended seat.machine.machine.state) all) 0 3) same)
+
+-- and so where memory may have run out
+pub run_renders : (pairs : List (List ℕ × List ℕ)) (arguments : RunArgs) (core : CoreModel) (words : ℕ → ℕ) (seats slice : List Seat)
+    (order : List ℕ) (result : Result Rendered AllocError)
+    → Leads pairs arguments core words seats order → AreSeated seats → ((number : ℕ) → asks_at seats number ≡ false) → slice ≡ seats
+    → IfOk result (λ rendered. rendered.order ≡ order)
+    → IfOk result (λ rendered. rendered.dump.items ≡ dump_of slice order (newest_pairs core.store))
+    → IfOk result (λ rendered. rendered.status ≡ cond (list_all (λ (seat : Seat). has_ended seat.machine.machine.state) slice) 0 3)
+    → IfOk result (Renders pairs arguments)
+run_renders pairs arguments core words seats slice order (Ok rendered) leads seated none same order_is dump_is status_is =
+    rendered_finishes pairs arguments core words seats slice order rendered leads seated none same order_is dump_is status_is
+run_renders pairs arguments core words seats slice order (Err short) leads seated none same order_is dump_is status_is = tt
+
+pub run_turns : (pairs : List (List ℕ × List ℕ)) (arguments : RunArgs) (order : List ℕ) (result : Result Rendered AllocError)
+    → AreByTurns pairs arguments order → IfOk result (λ rendered. rendered.order ≡ order)
+    → IfOk result (λ rendered. AreByTurns pairs arguments rendered.order)
+run_turns pairs arguments order (Ok rendered) turns is = subst (λ (o : List ℕ). AreByTurns pairs arguments o) (sym is) turns
+run_turns pairs arguments order (Err short) turns is = tt

@@ -1,5 +1,9 @@
+pub mod Resting
+pub mod Seats
+pub mod Turns
 pub mod Leading
 pub mod Stacks
 pub mod Finished
+pub mod Replayed
 pub mod Tops
 pub mod Tellings

@@ -1,13 +1,15 @@
 -- What the parts of the top call tell on err.
-use Rattle.std.proofs.Common.{◌≡◌, ℕ, List, Option, Some, None, Result, Ok, Err, refl, sym, ◌∙◌, subst, inl, inr, ◌⊎◌, ⊎_elim, arith}
-use Rattle.std.specs.Prelude.{◌++◌, IfSome, IsErr, codes}
+use Rattle.std.proofs.Common.{◌≡◌, ℕ, List, Option, Some, None, ◌++◌, sym, append_assoc, ◌∙◌, subst, inl, inr, ◌⊎◌, ⊎_elim, arith}
+use Rattle.std.specs.Prelude.{IfSome, codes}
 use Rattle.outside.specs.Counts.{Rose}
-use Rattle.line_rules.specs.Reading.{Entry, Fault, BadLine, TooLong, TooMany, pairs_of}
-use Rattle.dump_text.specs.declared.fault.LineFault.{LineFault}
-use Rattle.dump_text.specs.declared.fault.LineFault.TheVariants as errors
-use Rattle.tester_run.specs.Inputs.{IsFirst, IsFaulty, IsReadOut, IsRefusedBy}
-use Rattle.tester_run.specs.Outcomes.{usage, bad_input, read_fault, write_fault, out_of_memory, IsFinal}
-use Rattle.tester_run.specs.Tellings.{told, fault_text, IsFaultTold, IsLineOf, IsShort, IsTold, IsWritten, Refuses, Tells}
+use Rattle.std.proofs.lemmas.Option.{same_Some}
+use Rattle.command_rules.specs.declared.args.Args.{Args}
+use Rattle.command_words.specs.declared.fault.ArgFault.{ArgFault}
+use Rattle.command_words.specs.declared.fault.ArgFault.TheVariants as arg
+use Rattle.tester_run.specs.Faults.{InputFault, HasFault, line_in, order_in}
+use Rattle.tester_run.specs.Inputs.{IsFaulty, IsReadOut, IsRefusedBy}
+use Rattle.tester_run.specs.Outcomes.{usage, bad_input, read_fault, write_fault, out_of_memory, IsFinal, IsLawful}
+use Rattle.tester_run.specs.Tellings.{told, IsFaultLine, IsFaultTold, IsLineOf, IsShort, IsTold, IsUnasked, IsWritten, Refuses, Tells}
 use Rattle.tester_run.specs.declared.top.Refusal.{Refusal}
 use Rattle.tester_run.specs.declared.top.Refusal.TheVariants as refusal
 
@@ -15,9 +17,9 @@ use Rattle.tester_run.specs.declared.top.Refusal.TheVariants as refusal
 other : {A : Type 0} (status n m : ℕ) → (n ≡ m → ⊥) → status ≡ n → status ≡ m → A
 other status n m apart is e = absurd (apart (sym is ∙ e))
 
-pub tells_words : (status : ℕ) (left before after : Option (List ℕ)) (faults faults_after : ℕ) → status ≡ usage
-    → IsTold (codes "usage") before after faults faults_after → Tells status left before after faults faults_after
-tells_words status left before after faults faults_after is text = record {
+pub tells_words : (asked : Option Args) (status : ℕ) (left before after : Option (List ℕ)) (faults faults_after : ℕ) → status ≡ usage
+    → IsTold (codes "usage") before after faults faults_after → Tells asked status left before after faults faults_after
+tells_words asked status left before after faults faults_after is text = record {
   words = λ e. text;
   input = λ e. other status 1 2 (λ h. omega arith) is e;
   read = λ e. other status 1 4 (λ h. omega arith) is e;
@@ -25,9 +27,9 @@ tells_words status left before after faults faults_after is text = record {
   memory = λ e. other status 1 6 (λ h. omega arith) is e;
 }
 
-pub tells_input : (status : ℕ) (left before after : Option (List ℕ)) (faults faults_after : ℕ) → status ≡ bad_input
-    → IsFaultTold left before after faults faults_after → Tells status left before after faults faults_after
-tells_input status left before after faults faults_after is text = record {
+pub tells_input : (asked : Option Args) (status : ℕ) (left before after : Option (List ℕ)) (faults faults_after : ℕ) → status ≡ bad_input
+    → IfSome asked (λ its. IsFaultTold its left before after faults faults_after) → Tells asked status left before after faults faults_after
+tells_input asked status left before after faults faults_after is text = record {
   words = λ e. other status 2 1 (λ h. omega arith) is e;
   input = λ e. text;
   read = λ e. other status 2 4 (λ h. omega arith) is e;
@@ -35,9 +37,9 @@ tells_input status left before after faults faults_after is text = record {
   memory = λ e. other status 2 6 (λ h. omega arith) is e;
 }
 
-pub tells_read : (status : ℕ) (left before after : Option (List ℕ)) (faults faults_after : ℕ) → status ≡ read_fault
-    → IsTold (codes "read fault") before after faults faults_after → Tells status left before after faults faults_after
-tells_read status left before after faults faults_after is text = record {
+pub tells_read : (asked : Option Args) (status : ℕ) (left before after : Option (List ℕ)) (faults faults_after : ℕ) → status ≡ read_fault
+    → IsTold (codes "read fault") before after faults faults_after → Tells asked status left before after faults faults_after
+tells_read asked status left before after faults faults_after is text = record {
   words = λ e. other status 4 1 (λ h. omega arith) is e;
   input = λ e. other status 4 2 (λ h. omega arith) is e;
   read = λ e. text;
@@ -45,9 +47,9 @@ tells_read status left before after faults faults_after is text = record {
   memory = λ e. other status 4 6 (λ h. omega arith) is e;
 }
 
-pub tells_memory : (status : ℕ) (left before after : Option (List ℕ)) (faults faults_after : ℕ) → status ≡ out_of_memory
-    → IsTold (codes "out of memory") before after faults faults_after → Tells status left before after faults faults_after
-tells_memory status left before after faults faults_after is text = record {
+pub tells_memory : (asked : Option Args) (status : ℕ) (left before after : Option (List ℕ)) (faults faults_after : ℕ) → status ≡ out_of_memory
+    → IsTold (codes "out of memory") before after faults faults_after → Tells asked status left before after faults faults_after
+tells_memory asked status left before after faults faults_after is text = record {
   words = λ e. other status 6 1 (λ h. omega arith) is e;
   input = λ e. other status 6 2 (λ h. omega arith) is e;
   read = λ e. other status 6 4 (λ h. omega arith) is e;
@@ -56,25 +58,25 @@ tells_memory status left before after faults faults_after is text = record {
 }
 
 -- a run that was made: only the sink's fault is told
-pub tells_run : (status run_status : ℕ) (left before after : Option (List ℕ)) (faults faults_after : ℕ)
+pub tells_run : (asked : Option Args) (status run_status : ℕ) (left before after : Option (List ℕ)) (faults faults_after : ℕ)
     → (status ≡ run_status) ⊎ (status ≡ write_fault) → IsFinal run_status
     → (status ≡ write_fault → IsTold (codes "write fault") before after faults faults_after)
-    → Tells status left before after faults faults_after
-tells_run status run_status left before after faults faults_after (inr is) final text = record {
+    → Tells asked status left before after faults faults_after
+tells_run asked status run_status left before after faults faults_after (inr is) final text = record {
   words = λ e. other status 5 1 (λ h. omega arith) is e;
   input = λ e. other status 5 2 (λ h. omega arith) is e;
   read = λ e. other status 5 4 (λ h. omega arith) is e;
   write = text;
   memory = λ e. other status 5 6 (λ h. omega arith) is e;
 }
-tells_run status run_status left before after faults faults_after (inl is) (inl zero) text = record {
+tells_run asked status run_status left before after faults faults_after (inl is) (inl zero) text = record {
   words = λ e. other status 0 1 (λ h. omega arith) (is ∙ zero) e;
   input = λ e. other status 0 2 (λ h. omega arith) (is ∙ zero) e;
   read = λ e. other status 0 4 (λ h. omega arith) (is ∙ zero) e;
   write = text;
   memory = λ e. other status 0 6 (λ h. omega arith) (is ∙ zero) e;
 }
-tells_run status run_status left before after faults faults_after (inl is) (inr three) text = record {
+tells_run asked status run_status left before after faults faults_after (inl is) (inr three) text = record {
   words = λ e. other status 3 1 (λ h. omega arith) (is ∙ three) e;
   input = λ e. other status 3 2 (λ h. omega arith) (is ∙ three) e;
   read = λ e. other status 3 4 (λ h. omega arith) (is ∙ three) e;
@@ -82,80 +84,104 @@ tells_run status run_status left before after faults faults_after (inl is) (inr 
   memory = λ e. other status 3 6 (λ h. omega arith) (is ∙ three) e;
 }
 
--- what holds where there is no run for want of an input
-pub record IsRefused (status : ℕ) (left after before_err after_err : Option (List ℕ)) (at_first at_last faults faults_after : ℕ) : Type 0 where
+-- what holds where nothing was rendered of what was asked
+pub record IsRefused (its : Args) (status : ℕ) (left after before_err after_err : Option (List ℕ)) (at_first at_last faults faults_after : ℕ) : Type 0 where
   pub is_status : (status ≡ bad_input) ⊎ (status ≡ read_fault) ⊎ (status ≡ out_of_memory)
-  pub input : status ≡ bad_input → IfSome left (λ bytes. IsErr (pairs_of bytes))
+  pub input : status ≡ bad_input → IfSome left (λ bytes. (fault : InputFault) × HasFault its bytes fault)
   pub judged : status ≡ bad_input → IsReadOut left after
   pub read : status ≡ read_fault → Rose at_first at_last
-  pub tells : Tells status left before_err after_err faults faults_after
+  pub tells : Tells (Some its) status left before_err after_err faults faults_after
 
-short_refused : (status : ℕ) (left after before_err after_err : Option (List ℕ)) (at_first at_last faults faults_after : ℕ)
-    → IsShort status before_err after_err faults faults_after → IsRefused status left after before_err after_err at_first at_last faults faults_after
-short_refused status left after before_err after_err at_first at_last faults faults_after h = record {
+short_refused : (its : Args) (status : ℕ) (left after before_err after_err : Option (List ℕ)) (at_first at_last faults faults_after : ℕ)
+    → IsShort status before_err after_err faults faults_after
+    → IsRefused its status left after before_err after_err at_first at_last faults faults_after
+short_refused its status left after before_err after_err at_first at_last faults faults_after h = record {
   is_status = inr (inr h.is_status);
   input = λ e. other status 6 2 (λ z. omega arith) h.is_status e;
   judged = λ e. other status 6 2 (λ z. omega arith) h.is_status e;
   read = λ e. other status 6 4 (λ z. omega arith) h.is_status e;
-  tells = tells_memory status left before_err after_err faults faults_after h.is_status h.is_told;
+  tells = tells_memory (Some its) status left before_err after_err faults faults_after h.is_status h.is_told;
 }
 
-is_error : (read : Result (List Entry) Fault) (fault : Fault) → read ≡ Err fault → IsErr read
-is_error read fault e = subst (λ (r : Result (List Entry) Fault). IsErr r) (sym e) refl
+has_one : (its : Args) (fault : InputFault) (left : Option (List ℕ)) → IfSome left (λ bytes. HasFault its bytes fault)
+    → IfSome left (λ bytes. (found : InputFault) × HasFault its bytes found)
+has_one its fault None has = tt
+has_one its fault (Some bytes) has = (fault, has)
 
-first_error : (fault : LineFault) (left : Option (List ℕ)) → IfSome left (λ bytes. IsFirst fault (pairs_of bytes))
-    → IfSome left (λ bytes. IsErr (pairs_of bytes))
-first_error fault None first = tt
-first_error (errors.BadLine line place) (Some bytes) first = is_error (pairs_of bytes) (BadLine line place) first
-first_error (errors.TooLong line) (Some bytes) first = is_error (pairs_of bytes) (TooLong line) first
-first_error (errors.TooMany line) (Some bytes) first = is_error (pairs_of bytes) (TooMany line) first
-first_error errors.NoMemory (Some bytes) first = absurd first
+no_fault : {A : Type 0} (its : Args) (bytes : List ℕ) → IsLineOf None bytes → A
+no_fault its bytes is = absurd is
 
-told_as : (bytes text : List ℕ) (before after : Option (List ℕ)) (faults faults_after : ℕ) → bytes ≡ told text
-    → IsWritten bytes before after faults faults_after → IsTold text before after faults faults_after
-told_as bytes text before after faults faults_after e written =
-    subst (λ (b : List ℕ). IsWritten b before after faults faults_after) e written
-
-fault_told : (fault : LineFault) (left : Option (List ℕ)) (bytes : List ℕ) (before after : Option (List ℕ)) (faults faults_after : ℕ)
-    → IfSome left (λ bytes. IsFirst fault (pairs_of bytes)) → IsLineOf fault bytes
-    → IsWritten bytes before after faults faults_after → IsFaultTold left before after faults faults_after
-fault_told (errors.BadLine line place) left bytes before after faults faults_after first is written = record {
-  fault = BadLine line place;
-  first = first;
-  is_told = told_as bytes (fault_text (BadLine line place)) before after faults faults_after is written;
+-- the line of a fault was told
+fault_refused : (its : Args) (fault : Option InputFault) (status : ℕ) (left after before_err after_err : Option (List ℕ))
+    (at_first at_last faults faults_after : ℕ)
+    → IsFaulty its fault left after → IsFaultLine fault status before_err after_err faults faults_after
+    → IsRefused its status left after before_err after_err at_first at_last faults faults_after
+fault_refused its None status left after before_err after_err at_first at_last faults faults_after faulty (inl h) =
+    no_fault its h.1 h.2
+fault_refused its (Some fault) status left after before_err after_err at_first at_last faults faults_after faulty (inl h) = record {
+  is_status = inl h.0;
+  input = λ e. has_one its fault left faulty.fault_is;
+  judged = λ e. faulty.out;
+  read = λ e. other status 2 4 (λ z. omega arith) h.0 e;
+  tells =
+      tells_input (Some its) status left before_err after_err faults faults_after h.0 (record {
+        fault = fault;
+        fault_is = faulty.fault_is;
+        is_told = subst (λ (b : List ℕ). IsWritten b before_err after_err faults faults_after) h.2 h.3;
+      });
 }
-fault_told (errors.TooLong line) left bytes before after faults faults_after first is written = record {
-  fault = TooLong line;
-  first = first;
-  is_told = told_as bytes (fault_text (TooLong line)) before after faults faults_after is written;
-}
-fault_told (errors.TooMany line) left bytes before after faults faults_after first is written = record {
-  fault = TooMany line;
-  first = first;
-  is_told = told_as bytes (fault_text (TooMany line)) before after faults faults_after is written;
-}
-fault_told errors.NoMemory left bytes before after faults faults_after first is written = absurd is
+fault_refused its fault status left after before_err after_err at_first at_last faults faults_after faulty (inr h) =
+    short_refused its status left after before_err after_err at_first at_last faults faults_after h
 
-pub refused_by : (given : Refusal) (status : ℕ) (left after before_err after_err : Option (List ℕ)) (at_first at_last faults faults_after : ℕ)
-    → IsRefusedBy given left after at_first at_last → Refuses given status before_err after_err faults faults_after
-    → IsRefused status left after before_err after_err at_first at_last faults faults_after
-refused_by refusal.Source status left after before_err after_err at_first at_last faults faults_after rose h = record {
+pub refused_by : (its : Args) (given : Refusal) (status : ℕ) (left after before_err after_err : Option (List ℕ))
+    (at_first at_last faults faults_after : ℕ)
+    → IsRefusedBy its given left after at_first at_last → Refuses given status before_err after_err faults faults_after
+    → IsRefused its status left after before_err after_err at_first at_last faults faults_after
+refused_by its refusal.Source status left after before_err after_err at_first at_last faults faults_after rose h = record {
   is_status = inr (inl h.0);
   input = λ e. other status 4 2 (λ z. omega arith) h.0 e;
   judged = λ e. other status 4 2 (λ z. omega arith) h.0 e;
   read = λ e. rose;
-  tells = tells_read status left before_err after_err faults faults_after h.0 h.1;
+  tells = tells_read (Some its) status left before_err after_err faults faults_after h.0 h.1;
 }
-refused_by (refusal.Line fault) status left after before_err after_err at_first at_last faults faults_after faulty (inl h) = record {
-  is_status = inl h.0;
-  input = λ e. first_error fault left faulty.first;
-  judged = λ e. faulty.out;
-  read = λ e. other status 2 4 (λ z. omega arith) h.0 e;
-  tells =
-      tells_input status left before_err after_err faults faults_after h.0
-      (fault_told fault left h.1 before_err after_err faults faults_after faulty.first h.2 h.3);
-}
-refused_by (refusal.Line fault) status left after before_err after_err at_first at_last faults faults_after faulty (inr h) =
-    short_refused status left after before_err after_err at_first at_last faults faults_after h
-refused_by refusal.Memory status left after before_err after_err at_first at_last faults faults_after free h =
-    short_refused status left after before_err after_err at_first at_last faults faults_after h
+refused_by its (refusal.Line fault) status left after before_err after_err at_first at_last faults faults_after faulty h =
+    fault_refused its (line_in fault) status left after before_err after_err at_first at_last faults faults_after faulty h
+refused_by its (refusal.Order fault) status left after before_err after_err at_first at_last faults faults_after faulty h =
+    fault_refused its (order_in fault) status left after before_err after_err at_first at_last faults faults_after faulty h
+refused_by its refusal.Memory status left after before_err after_err at_first at_last faults faults_after free h =
+    short_refused its status left after before_err after_err at_first at_last faults faults_after h
+
+-- lawful words and a lawful input are refused for want of memory alone
+pub refused_short : (words : Option Args) (its : Args) (status : ℕ) (left after before_err after_err : Option (List ℕ))
+    (at_first at_last faults faults_after written written_after : ℕ) → words ≡ Some its
+    → IsRefused its status left after before_err after_err at_first at_last faults faults_after
+    → IsLawful words left at_first at_last written written_after → status ≡ out_of_memory
+refused_short words its status left after before_err after_err at_first at_last faults faults_after written written_after is refused lawful =
+    ⊎_elim
+    (λ bad.
+    let found = subst (λ (l : Option (List ℕ)). IfSome l (λ bytes. (fault : InputFault) × HasFault its bytes fault)) lawful.told
+    (refused.input bad) in
+    absurd (lawful.faultless found.0
+    (subst (λ (a : Args). HasFault a lawful.bytes found.0) (same_Some its lawful.its_args (sym is ∙ lawful.words)) found.1)))
+    (⊎_elim (λ failed. absurd (lawful.read (refused.read failed))) (λ short. short))
+    refused.is_status
+
+-- what was told by the words
+pub told_by_words : (words : Option Args) (its : Args) (status : ℕ) (left before after : Option (List ℕ)) (faults faults_after : ℕ)
+    → words ≡ Some its → Tells (Some its) status left before after faults faults_after
+    → Tells words status left before after faults faults_after
+told_by_words words its status left before after faults faults_after is tells =
+    subst (λ (w : Option Args). Tells w status left before after faults faults_after) (sym is) tells
+
+pub usage_told : (fault : ArgFault) (status : ℕ) (before after : Option (List ℕ)) (faults faults_after : ℕ) → fault ≡ arg.Usage
+    → status ≡ usage → IsTold (codes "usage") before after faults faults_after → IsUnasked fault status before after faults faults_after
+usage_told fault status before after faults faults_after is status_is text =
+    subst (λ (f : ArgFault). IsUnasked f status before after faults faults_after) (sym is) (status_is, text)
+
+-- ---- the text of a place of an order
+
+pub order_text : (place machine : List ℕ)
+    → codes "fdbtester: order place " ++ place ++ codes ": machine " ++ machine ++ codes " has no request\n"
+    ≡ told (codes "order place " ++ place ++ codes ": machine " ++ machine ++ codes " has no request")
+order_text place machine =
+    sym (append_assoc (codes "fdbtester: order place " ++ place ++ codes ": machine " ++ machine) (codes " has no request") (codes "\n"))

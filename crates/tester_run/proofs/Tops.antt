@@ -3,67 +3,120 @@ use Rattle.std.proofs.Common.{◌≡◌, ◌≢◌, ℕ, ◌^◌, ◌<◌, Bool,
 use Rattle.std.specs.Prelude.{IfSome, IsErr}
 use Rattle.std.specs.Io.KnownBytes.{Appends, Consumes}
 use Rattle.std.proofs.lemmas.List.{append-nil}
+use Rattle.outside.specs.Counts.{Rose}
 use Rattle.outside.specs.Streams.{AppendsFront}
-use Rattle.line_rules.specs.Reading.{Entry, Fault, pairs_of, input_limit}
-use Rattle.line_rules.proofs.Limits.{too_long_is_refused}
-use Rattle.machine_rules.specs.Runs.{Run, RunsTo, dump}
+use Rattle.command_rules.specs.declared.args.Args.{Args}
 use Rattle.dump_text.specs.declared.fault.LineFault.{LineFault}
-use Rattle.tester_run.specs.Inputs.{IsFirst, IsJudged, IsRefusedBy, AreRead, read_limit}
+use Rattle.dump_text.specs.declared.fault.LineFault.TheVariants as line
+use Rattle.dump_text.specs.Reading.{Fails}
 use Rattle.history_laws.specs.Whole.{AreRunsLegal}
-use Rattle.tester_run.specs.Outcomes.{write_fault, IsFinal, IsLegal, HasRun, Finishes, BreaksOff}
-use Rattle.tester_run.specs.Rendered.{Renders}
+use Rattle.input_rules.specs.declared.input.Form.{Form}
+use Rattle.input_rules.specs.declared.input.Input.{Input}
+use Rattle.input_rules.specs.Forms.{input_of}
+use Rattle.input_rules.proofs.Limits.{too_long_is_refused}
+use Rattle.line_rules.specs.Reading.{Fault, input_limit}
+use Rattle.std.specs.List.{list_all}
+use Rattle.machine_rules.specs.Machines.{Progress}
+use Rattle.machine_rules.specs.Runs.{Run, RunsTo, dump, has_ended}
+use Rattle.tester_run.specs.declared.fault.OrderFault.{OrderFault}
+use Rattle.tester_run.specs.declared.fault.OrderFault.TheVariants as order
+use Rattle.tester_run.specs.Arguments.{arguments_of, form_of}
+use Rattle.tester_run.specs.Faults.{InputFault, IsFaultOf, IsMisfit, line_in, order_in}
+use Rattle.tester_run.specs.Inputs.{IsFaulty, IsJudged, IsMade, IsRead, IsRefusedBy, read_limit}
+use Rattle.tester_run.specs.Outcomes.{write_fault, IsFinal, IsLawful, IsLegal, HasRun, Finishes, BreaksOff}
+use Rattle.tester_run.specs.Rendered.{IsOrderOf}
 use Rattle.tester_run.specs.declared.running.Rendered.{Rendered}
 use Rattle.tester_run.specs.declared.top.Refusal.{Refusal}
 use Rattle.tester_run.specs.declared.top.Refusal.TheVariants as refusal
 
-abbrev some_word : List ℕ → Option (List ℕ)
-some_word word = Some word
+abbrev some_args : Args → Option Args
+some_args asked = Some asked
 
-not_both : {A : Type 0} (read : Result (List Entry) Fault) (pairs : List Entry) → IsErr read → read ≡ Ok pairs → A
-not_both (Ok found) pairs failed e = absurd cc
-not_both (Err fault) pairs failed e = absurd cc
+not_both : {A : Type 0} (read : Result Input Fault) (input : Input) → IsErr read → read ≡ Ok input → A
+not_both (Ok found) input failed e = absurd cc
+not_both (Err fault) input failed e = absurd cc
 
 -- more bytes than an input may have are not read
-pub long_not_read : (bytes : List ℕ) (pairs : List Entry) → input_limit < length bytes → pairs_of bytes ≡ Ok pairs → ⊥
-long_not_read bytes pairs long e =
-    not_both (pairs_of bytes) pairs (subst (λ (b : List ℕ). IsErr (pairs_of b)) (append-nil bytes) (too_long_is_refused bytes [] long)) e
+pub long_not_read : (its_form : Form) (bytes : List ℕ) (input : Input) → input_limit < length bytes → input_of its_form bytes ≡ Ok input → ⊥
+long_not_read its_form bytes input long e =
+    not_both (input_of its_form bytes) input
+    (subst (λ (b : List ℕ). IsErr (input_of its_form b)) (append-nil bytes) (too_long_is_refused its_form bytes [] long)) e
+
+-- a fault that reading lines came to
+pub fails_with : (asked : Args) (fault : LineFault) (bytes : List ℕ) → fault ≢ line.NoMemory
+    → Fails fault (input_of (form_of asked) bytes) → IsFaultOf asked (line_in fault) bytes
+fails_with asked (line.BadLine number place) bytes some fails = fails
+fails_with asked (line.TooLong number) bytes some fails = fails
+fails_with asked (line.TooMany number) bytes some fails = fails
+fails_with asked line.NoMemory bytes some fails = absurd (some refl)
 
 -- where so many bytes were read, the fault that they come to is that of all that the source had
-full_first : (fault : LineFault) (left after : Option (List ℕ)) (items : List ℕ)
-    → ((rest : List ℕ) → IsFirst fault (pairs_of (items ++ rest))) → Consumes left after items
-    → IfSome left (λ bytes. IsFirst fault (pairs_of bytes))
-full_first fault None after items first consumed = tt
-full_first fault (Some bytes) None items first consumed = absurd consumed
-full_first fault (Some bytes) (Some rest) items first consumed =
-    subst (λ (b : List ℕ). IsFirst fault (pairs_of b)) (sym consumed) (first rest)
+full_first : (asked : Args) (fault : Option InputFault) (left after : Option (List ℕ)) (items : List ℕ)
+    → ((rest : List ℕ) → IsFaultOf asked fault (items ++ rest)) → Consumes left after items
+    → IfSome left (IsFaultOf asked fault)
+full_first asked fault None after items first consumed = tt
+full_first asked fault (Some bytes) None items first consumed = absurd consumed
+full_first asked fault (Some bytes) (Some rest) items first consumed =
+    subst (λ (b : List ℕ). IsFaultOf asked fault b) (sym consumed) (first rest)
 
-pub refused_full : (given : Refusal) (left after : Option (List ℕ)) (faults faults_after : ℕ) (items : List ℕ)
-    → ((rest : List ℕ) → IsJudged given (pairs_of (items ++ rest))) → length items ≡ read_limit → Consumes left after items
-    → IsRefusedBy given left after faults faults_after
-refused_full refusal.Source left after faults faults_after items judged exact consumed = absurd (judged [])
-refused_full (refusal.Line fault) left after faults faults_after items judged exact consumed = record {
-  first = full_first fault left after items judged consumed;
+pub refused_full : (asked : Args) (given : Refusal) (left after : Option (List ℕ)) (faults faults_after : ℕ) (items : List ℕ)
+    → ((rest : List ℕ) → IsJudged asked given (items ++ rest)) → length items ≡ read_limit → Consumes left after items
+    → IsRefusedBy asked given left after faults faults_after
+refused_full asked refusal.Source left after faults faults_after items judged exact consumed = absurd (judged [])
+refused_full asked (refusal.Line fault) left after faults faults_after items judged exact consumed = record {
+  fault_is = full_first asked (line_in fault) left after items judged consumed;
   out = inr (items, exact, consumed);
 }
-refused_full refusal.Memory left after faults faults_after items judged exact consumed = tt
+refused_full asked (refusal.Order fault) left after faults faults_after items judged exact consumed = absurd (judged [])
+refused_full asked refusal.Memory left after faults faults_after items judged exact consumed = tt
+
+-- an order that can't be followed is a fault of the input that it was read from
+misfit_of : (asked : Args) (fault : OrderFault) (input : Input) (bytes : List ℕ) → fault ≢ order.NoMemory
+    → input_of (form_of asked) bytes ≡ Ok input → IsMisfit fault input.pairs (arguments_of asked) input.order
+    → IsFaultOf asked (order_in fault) bytes
+misfit_of asked (order.NoRequest place machine) input bytes some read misfit = (input, read, misfit)
+misfit_of asked order.EndsEarly input bytes some read misfit = (input, read, misfit)
+misfit_of asked order.NoMemory input bytes some read misfit = absurd (some refl)
+
+misfit_in : (asked : Args) (fault : OrderFault) (input : Input) (left : Option (List ℕ)) → fault ≢ order.NoMemory
+    → IfSome left (λ bytes. input_of (form_of asked) bytes ≡ Ok input) → IsMisfit fault input.pairs (arguments_of asked) input.order
+    → IfSome left (IsFaultOf asked (order_in fault))
+misfit_in asked fault input None some read misfit = tt
+misfit_in asked fault input (Some bytes) some read misfit = misfit_of asked fault input bytes some read misfit
+
+pub misfit_refused : (asked : Args) (fault : OrderFault) (input : Input) (left after : Option (List ℕ)) → fault ≢ order.NoMemory
+    → IsRead asked left after input → IsMisfit fault input.pairs (arguments_of asked) input.order
+    → IsFaulty asked (order_in fault) left after
+misfit_refused asked fault input left after some read misfit = record {
+  fault_is = misfit_in asked fault input left some read.input_is misfit;
+  out = inl read.end;
+}
 
 -- the status of a run is final
 final_by : (b : Bool) → IsFinal (cond b 0 3)
 final_by true = inl refl
 final_by false = inr refl
 
+-- what was made has a final status
+pub made_final : (asked : Args) (left after : Option (List ℕ)) (rendered : Rendered) → IsMade asked left after rendered → IsFinal rendered.status
+made_final asked left after rendered made =
+    let renders = made.is_rendered.renders in
+    subst IsFinal (sym renders.status_is) (final_by (list_all (λ (progress : Progress). has_ended progress.machine.state) renders.run.machines))
+
 not_write_fault : (status : ℕ) → IsFinal status → status ≢ write_fault
 not_write_fault status final e =
     ⊎_elim (λ z. (let h : 0 ≡ 5 = sym z ∙ e in absurd (omega arith))) (λ z. (let h : 3 ≡ 5 = sym z ∙ e in absurd (omega arith))) final
 
--- what a run rendered, of the pairs that were read
-run_of_read : (left after : Option (List ℕ)) (prefix : List ℕ) (pairs : List (List ℕ × List ℕ)) (rendered : Rendered) (order : List ℕ)
-    → AreRead left after pairs → (renders : Renders pairs prefix rendered) → order ≡ rendered.order → HasRun left prefix order renders.run
-run_of_read left after prefix pairs rendered order read renders is = record {
-  pairs = pairs;
-  input = read.input;
-  small = read.small;
-  runs = subst (λ (o : List ℕ). RunsTo pairs prefix o renders.run) (sym is) renders.runs;
+-- what was rendered is the dump of a run of what was read
+run_of_made : (asked : Args) (left after : Option (List ℕ)) (rendered : Rendered) (order : List ℕ)
+    → (made : IsMade asked left after rendered) → order ≡ rendered.order → HasRun left asked order made.is_rendered.renders.run
+run_of_made asked left after rendered order made is = record {
+  input = made.input;
+  is_input = made.read.input_is;
+  small = made.read.small;
+  ordered = subst (λ (o : List ℕ). IsOrderOf asked made.input.pairs made.input.order o) (sym is) made.is_rendered.ordered;
+  runs = subst (λ (o : List ℕ). RunsTo made.input.pairs (arguments_of asked) o made.is_rendered.renders.run) (sym is)
+      made.is_rendered.renders.runs;
 }
 
 -- where the status is final it is that of the run
@@ -76,32 +129,48 @@ dump_moved : (rendered : Rendered) (order : List ℕ) (run : Run) → rendered.d
 dump_moved rendered order run e is = e ∙ ap (λ (o : List ℕ). dump o run) (sym is)
 
 -- a final status
-pub delivered : (words : Option (List ℕ)) (prefix : List ℕ) (left after before written : Option (List ℕ)) (pairs : List (List ℕ × List ℕ)) (rendered : Rendered) (order : List ℕ) (status : ℕ)
-    → some_word prefix ≡ words → AreRead left after pairs → Renders pairs prefix rendered → order ≡ rendered.order → (status ≡ rendered.status) ⊎ (status ≡ write_fault)
-    → (status ≢ write_fault → Appends before written rendered.dump.items) → IsFinal status → IfSome words (λ prefix. Finishes left prefix order status before written)
-delivered words prefix left after before written pairs rendered order status words_are read renders order_is status_is whole final =
-    subst (λ (w : Option (List ℕ)). IfSome w (λ prefix. Finishes left prefix order status before written)) words_are (record {
+pub delivered : (words : Option Args) (asked : Args) (left after before written : Option (List ℕ)) (rendered : Rendered) (order : List ℕ)
+    (status : ℕ)
+    → words ≡ some_args asked → IsMade asked left after rendered → order ≡ rendered.order
+    → (status ≡ rendered.status) ⊎ (status ≡ write_fault)
+    → (status ≢ write_fault → Appends before written rendered.dump.items) → IsFinal status
+    → IfSome words (λ its. Finishes left its order status before written)
+delivered words asked left after before written rendered order status words_are made order_is status_is whole final =
+    let renders = made.is_rendered.renders in
+    subst (λ (w : Option Args). IfSome w (λ its. Finishes left its order status before written)) (sym words_are) (record {
       run = renders.run;
-      has_run = run_of_read left after prefix pairs rendered order read renders order_is;
+      has_run = run_of_made asked left after rendered order made order_is;
       status_is = final_is status rendered.status status_is final ∙ renders.status_is;
       written =
           subst (Appends before written) (dump_moved rendered order renders.run renders.dump_is order_is) (whole (not_write_fault status final));
     })
 
 -- a sink that failed
-pub broken_off : (words : Option (List ℕ)) (prefix : List ℕ) (left after before written : Option (List ℕ)) (pairs : List (List ℕ × List ℕ)) (rendered : Rendered) (order : List ℕ)
-    → some_word prefix ≡ words → AreRead left after pairs → Renders pairs prefix rendered → order ≡ rendered.order → AppendsFront before written rendered.dump.items → IfSome words (λ prefix. BreaksOff left prefix order before written)
-broken_off words prefix left after before written pairs rendered order words_are read renders order_is front =
-    subst (λ (w : Option (List ℕ)). IfSome w (λ prefix. BreaksOff left prefix order before written)) words_are (record {
+pub broken_off : (words : Option Args) (asked : Args) (left after before written : Option (List ℕ)) (rendered : Rendered) (order : List ℕ)
+    → words ≡ some_args asked → IsMade asked left after rendered → order ≡ rendered.order
+    → AppendsFront before written rendered.dump.items → IfSome words (λ its. BreaksOff left its order before written)
+broken_off words asked left after before written rendered order words_are made order_is front =
+    let renders = made.is_rendered.renders in
+    subst (λ (w : Option Args). IfSome w (λ its. BreaksOff left its order before written)) (sym words_are) (record {
       run = renders.run;
-      has_run = run_of_read left after prefix pairs rendered order read renders order_is;
+      has_run = run_of_made asked left after rendered order made order_is;
       written = subst (AppendsFront before written) (dump_moved rendered order renders.run renders.dump_is order_is) front;
     })
 
 -- each run of the order is legal
-pub kept_legal : (words : Option (List ℕ)) (prefix : List ℕ) (left : Option (List ℕ)) (rendered : Rendered) (order : List ℕ)
-    → some_word prefix ≡ words → order ≡ rendered.order → length rendered.order < 2 ^ 62 → AreRunsLegal
-    → IfSome words (λ prefix. IsLegal left prefix order)
-kept_legal words prefix left rendered order words_are is short law =
-    subst (λ (w : Option (List ℕ)). IfSome w (λ prefix. IsLegal left prefix order)) words_are
-    (λ run has_run. law has_run.pairs prefix order run has_run.small (subst (λ (o : List ℕ). length o < 2 ^ 62) (sym is) short) has_run.runs.runs)
+pub kept_legal : (words : Option Args) (asked : Args) (rendered : Rendered) (order : List ℕ)
+    → words ≡ some_args asked → order ≡ rendered.order → length rendered.order < 2 ^ 62 → AreRunsLegal
+    → IfSome words (λ its. IsLegal its order)
+kept_legal words asked rendered order words_are is short law =
+    subst (λ (w : Option Args). IfSome w (λ its. IsLegal its order)) (sym words_are)
+    (λ pairs run small runs. law pairs (arguments_of asked) order run small (subst (λ (o : List ℕ). length o < 2 ^ 62) (sym is) short) runs.runs)
+
+-- where no sink failed, the status is final
+pub delivered_lawful : (words : Option Args) (left : Option (List ℕ)) (rendered_status status : ℕ)
+    (read read_after written written_after : ℕ)
+    → IsFinal rendered_status → (status ≡ rendered_status) ⊎ (status ≡ write_fault) → (status ≡ write_fault → Rose written written_after)
+    → IsLawful words left read read_after written written_after → IsFinal status
+delivered_lawful words left rendered_status status read read_after written written_after final (inl is) cause lawful =
+    subst IsFinal (sym is) final
+delivered_lawful words left rendered_status status read read_after written written_after final (inr failed) cause lawful =
+    absurd (lawful.written (cause failed))

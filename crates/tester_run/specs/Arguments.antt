@@ -1,16 +1,16 @@
--- The words of a lawful command line.
-use Rattle.std.specs.Prelude.{ℕ, not, ◌&&◌, ◌||◌, Bool, ◌==◌, nat_le, if◌then◌else◌, List, [], ◌∷◌, length, Option, Some, None, codes, bytes_eq}
-use Rattle.key_bytes.specs.Keys.{begins_with}
+-- What a command asks for.
+use Rattle.command_rules.specs.declared.args.RunArgs.{RunArgs}
+use Rattle.command_rules.specs.declared.args.Args.{Args}
+use Rattle.command_rules.specs.declared.args.Args.TheVariants.{Run, Replay}
+use Rattle.input_rules.specs.declared.input.Form.{Form}
+use Rattle.input_rules.specs.declared.input.Form.TheVariants as form
 
--- at most 1,000 bytes, and no word that begins with a hyphen but the hyphen alone
-abbrev pub is_prefix : List ℕ → Bool
-is_prefix word = nat_le (length word) 1000 && (not (begins_with word (codes "-")) || length word == 1)
+-- the arguments of its run
+abbrev pub arguments_of : Args → RunArgs
+arguments_of (Run arguments) = arguments
+arguments_of (Replay arguments) = arguments
 
--- the prefix of the three words: run, the prefix and the API version 630
-unfoldable pub prefix_in : List (List ℕ) → Option (List ℕ)
-prefix_in [] = None
-prefix_in (command ∷ []) = None
-prefix_in (command ∷ prefix ∷ []) = None
-prefix_in (command ∷ prefix ∷ version ∷ []) =
-    if bytes_eq command (codes "run") && is_prefix prefix && bytes_eq version (codes "630") then Some prefix else None
-prefix_in (command ∷ prefix ∷ version ∷ other ∷ more) = None
+-- the form of its input
+abbrev pub form_of : Args → Form
+form_of (Run arguments) = form.Run
+form_of (Replay arguments) = form.Replay

@@ -1,15 +1,22 @@
--- How the core and the machine stand to a run while it goes on.
-use Rattle.std.specs.Prelude.{◌≡◌, ◌≢◌, ℕ, ◌+◌, ◌-◌, true, cond, List, [], ◌∷◌, ◌++◌, length, Option, Some, None}
+-- How the core and the machines stand to a run while it goes on.
+use Rattle.std.specs.Prelude.{◌≡◌, ◌≢◌, ℕ, ◌+◌, ◌-◌, ◌<◌, ◌≤◌, ◌⊎◌, Bool, true, false, cond, List, [], ◌∷◌, ◌++◌, length, map, Option, Some, None, MatchOption, is_some, option_and_then, slice_get, ⊤}
+use Rattle.std.specs.List.{sum_by}
 use Rattle.fdb_calls.specs.declared.Request.{Request}
-use Rattle.fdb_calls.specs.declared.Reply.{Reply}
-use Rattle.fdb_calls.specs.declared.Reply.TheVariants as reply
-use Rattle.client_core.specs.Stands.{CoreModel, StandsFor, Answers}
+use Rattle.command_rules.specs.declared.args.RunArgs.{RunArgs}
+use Rattle.client_core.specs.Stands.{CoreModel, StandsFor}
 use Rattle.stack_machine.specs.declared.machine.Step.{Step}
 use Rattle.stack_machine.specs.declared.machine.Step.TheVariants as step
-use Rattle.machine_rules.specs.Worlds.{World, HasWords, step as world_step}
-use Rattle.machine_rules.specs.Machines.{Machine, Progress, resumed}
-use Rattle.machine_rules.specs.Runs.{Run, start, at_rest, run_from, is_running, has_stopped}
-use Rattle.machine_rules.specs.Laws.{is_awaiting}
+use Rattle.machine_rules.specs.declared.TheConstants.{MACHINES}
+use Rattle.machine_rules.specs.Worlds.{World, HasWords, instruction_pairs}
+use Rattle.version_store.specs.Versions.{at, last_of}
+use Rattle.machine_rules.specs.Machines.{Machine, Progress, silent}
+use Rattle.machine_rules.specs.Runs.{Run, AreByTurns, at_rest, start, started, run_from, turn_after, is_running, has_stopped}
+use Rattle.machine_rules.specs.Laws.{HasItsItemIn, effort_in, is_awaiting}
+use Rattle.tester_run.specs.declared.seat.Seat.{Seat}
+use Rattle.tester_run.specs.declared.driving.Moved.{Moved}
+use Rattle.tester_run.specs.declared.driving.Moved.TheVariants as moved
+use Rattle.tester_run.specs.declared.driving.Pause.{Pause}
+use Rattle.tester_run.specs.declared.driving.Pause.TheVariants as pause
 
 -- what a machine asks, by the answer of its step
 abbrev pub asked_by : Step → Option Request
@@ -21,43 +28,111 @@ asked_by (step.Stopped end) = None
 abbrev pub with_asked : Machine → Option Request → Progress
 with_asked machine asks = record { machine = machine; asks = asks }
 
--- the run of a world and one machine
-abbrev pub run_of : World → Progress → Run
-run_of world progress = record { world = world; machines = at_rest progress ∷ [] }
+-- ---- one machine
+
+abbrev pub progress_of : Seat → Progress
+progress_of seat = with_asked seat.machine.machine seat.asks
+
+-- The machine is at rest: it awaits a reply exactly where it asks, standing at one of its instructions, with an item that
+-- waits where it polls for one; else it has stopped.
+pub record IsSeated (seat : Seat) : Type 0 where
+  pub ready : seat.machine.is_out_of_memory ≡ false
+  pub rests : is_running seat.machine.machine.state ≡ false
+  pub awaits : is_awaiting seat.machine.machine.state ≡ is_some seat.asks
+  pub item : HasItsItemIn seat.machine.machine
+  pub inside : is_awaiting seat.machine.machine.state ≡ true → seat.machine.machine.next < length seat.machine.machine.instructions
+
+-- how many instructions a machine has left, and one step to end
+abbrev pub work_left : Machine → ℕ
+work_left machine = cond (has_stopped machine.state) 0 (length machine.instructions - machine.next + 1)
+
+-- a machine that used a reply asks on within the same instruction, and has less to poll for and to log; or it has fewer
+-- instructions left
+abbrev pub IsNearer : (asks_on : Bool) → (before after : Machine) → Type 0
+IsNearer true before after = (work_left after ≡ work_left before) × (effort_in after < effort_in before)
+IsNearer false before after = work_left after < work_left before
+
+-- ---- all machines
+
+abbrev pub work_of : List Seat → ℕ
+work_of seats = sum_by (λ seat. work_left seat.machine.machine) seats
+
+abbrev pub effort_of : List Seat → ℕ
+effort_of seats = sum_by (λ seat. effort_in seat.machine.machine) seats
+
+abbrev pub AreSeated : List Seat → Type 0
+AreSeated seats = (number : ℕ) (seat : Seat) → slice_get seats number ≡ Some seat → IsSeated seat
+
+-- whether the machine of a number asks
+abbrev pub asks_at : List Seat → ℕ → Bool
+asks_at seats number = is_some (option_and_then (λ seat. seat.asks) (slice_get seats number))
+
+-- the first machine, from one on, that asks, if one does
+abbrev pub IsFirstAsking : List Seat → (from : ℕ) → Option ℕ → Type 0
+IsFirstAsking seats from found = MatchOption found
+    ((other : ℕ) → from ≤ other → asks_at seats other ≡ false)
+    (λ number. (number < length seats) × (from ≤ number) × (asks_at seats number ≡ true)
+    × ((other : ℕ) → from ≤ other → other < number → asks_at seats other ≡ false))
+
+-- whose turn it is
+abbrev pub IsNextInTurn : List Seat → (from : ℕ) → Option ℕ → Type 0
+IsNextInTurn seats from None = (other : ℕ) → asks_at seats other ≡ false
+IsNextInTurn seats from (Some number) = IsFirstAsking seats from (Some number)
+    ⊎ (IsFirstAsking seats from None × IsFirstAsking seats 0 (Some number))
+
+-- machine 0 alone, at rest, as it is started over what a core keeps
+pub record AreFirst (seats : List Seat) (arguments : RunArgs) (core : CoreModel) : Type 0 where
+  pub seat : Seat
+  pub alone : seats ≡ seat ∷ []
+  pub started : progress_of seat ≡ at_rest (silent (started 0 arguments.prefix arguments.polls
+      (instruction_pairs arguments.prefix (at core.store (last_of core.store)))))
+  pub seated : IsSeated seat
+
+-- ---- the run so far
 
 -- The order so far leads from the start to a run: the core stands for its world, the random words still to come are that
--- world's, and its one machine is this one come to rest.
-pub record Leads (pairs : List (List ℕ × List ℕ)) (prefix : List ℕ) (core : CoreModel) (words : ℕ → ℕ)
-    (progress : Progress) (order : List ℕ) : Type 0 where
+-- world's, and its machines are these.
+pub record Leads (pairs : List (List ℕ × List ℕ)) (arguments : RunArgs) (core : CoreModel) (words : ℕ → ℕ) (seats : List Seat)
+    (order : List ℕ) : Type 0 where
   pub world : World
   pub stands : StandsFor core world
   pub has_words : HasWords world words
-  pub runs : run_from order (start pairs prefix) ≡ Some (run_of world progress)
+  pub runs : run_from order (start pairs arguments) ≡ Some (record { world = world; machines = map progress_of seats })
 
 -- wherever the order led before, it leads now
-abbrev pub GoesOn : CoreModel → (ℕ → ℕ) → Progress → List ℕ → CoreModel → (ℕ → ℕ) → Progress → List ℕ → Type 0
-GoesOn core words progress order core_after words_after progress_after order_after =
-    (pairs : List (List ℕ × List ℕ)) (prefix : List ℕ) → Leads pairs prefix core words progress order
-    → Leads pairs prefix core_after words_after progress_after order_after
+abbrev pub GoesOn : CoreModel → (ℕ → ℕ) → List Seat → List ℕ → CoreModel → (ℕ → ℕ) → List Seat → List ℕ → Type 0
+GoesOn core words seats order core_after words_after seats_after order_after =
+    (pairs : List (List ℕ × List ℕ)) (arguments : RunArgs) → Leads pairs arguments core words seats order
+    → Leads pairs arguments core_after words_after seats_after order_after
 
--- how many instructions are left, and one step to end
-abbrev pub work_left : Machine → ℕ
-work_left machine = cond (is_running machine.state) (length machine.instructions - machine.next + 1) 0
+-- The requests were taken by turns, and the next turn looks from this number on.
+pub record LeadsByTurns (pairs : List (List ℕ × List ℕ)) (arguments : RunArgs) (core : CoreModel) (words : ℕ → ℕ) (seats : List Seat)
+    (order : List ℕ) (from : ℕ) : Type 0 where
+  pub leads : Leads pairs arguments core words seats order
+  pub turns : AreByTurns pairs arguments order
+  pub from_is : turn_after order ≡ from
 
--- a request was taken: the core answered it by the step of each world for which it stood, and the machine, which awaited the
--- reply, used it
-pub record Takes (core : CoreModel) (words : ℕ → ℕ) (machine : Machine) (order : List ℕ) (request : Request)
-    (core_after : CoreModel) (words_after : ℕ → ℕ) (progress_after : Progress) (order_after : List ℕ) : Type 0 where
-  pub given : Reply
-  pub is_given : given ≢ reply.NoMemory
-  pub awaits : is_awaiting machine.state ≡ true
-  pub answers : (world : World) → StandsFor core world → HasWords world words
-      → Answers given core_after words_after (world_step world request)
-  pub progress_is : progress_after ≡ resumed machine given
-  pub order_is : order_after ≡ order ++ 0 ∷ []
+abbrev pub GoesOnByTurns : CoreModel → (ℕ → ℕ) → List Seat → List ℕ → ℕ → CoreModel → (ℕ → ℕ) → List Seat → List ℕ → ℕ → Type 0
+GoesOnByTurns core words seats order from core_after words_after seats_after order_after from_after =
+    (pairs : List (List ℕ × List ℕ)) (arguments : RunArgs) → LeadsByTurns pairs arguments core words seats order from
+    → LeadsByTurns pairs arguments core_after words_after seats_after order_after from_after
 
--- the machine finished the instruction at which it stood, and goes on; or it has stopped there
-pub data HasFinished (before after : Machine) : Type 0 where
-  Finished : (instructions_are : after.instructions ≡ before.instructions) (next_is : after.next ≡ before.next + 1)
-      (runs : is_running after.state ≡ true) → HasFinished before after
-  Halted : (stops : has_stopped after.state ≡ true) → HasFinished before after
+-- what is so between two requests
+pub record IsGoing (core : CoreModel) (seats : List Seat) (order : List ℕ) : Type 0 where
+  pub seated : AreSeated seats
+  pub counted : core.applied ≡ length order
+  pub started : length core.started ≡ length seats
+  pub few : length seats ≤ MACHINES
+
+-- what came of a request
+abbrev pub HasMoved : Moved → (before after : List Seat) → Type 0
+HasMoved moved.AsksOn before after =
+    (length after ≡ length before) × (work_of after ≡ work_of before) × (effort_of after < effort_of before)
+HasMoved moved.Finished before after = (length after ≡ length before) × (work_of after < work_of before)
+HasMoved moved.Started before after = length before < length after
+
+-- until when requests were taken
+abbrev pub HasPaused : Pause → (before after : List Seat) → Type 0
+HasPaused pause.Finished before after = (length after ≡ length before) × (work_of after < work_of before)
+HasPaused pause.Started before after = length before < length after
+HasPaused pause.Ended before after = ⊤

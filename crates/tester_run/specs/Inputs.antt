@@ -1,12 +1,16 @@
 -- Why there is no run.
-use Rattle.std.specs.Prelude.{◌≡◌, ◌≤◌, ◌⊎◌, ℕ, List, length, Option, IfSome, MatchOption, Ok, Err, Result, ⊤}
+use Rattle.std.specs.Prelude.{◌≡◌, ◌≤◌, ◌⊎◌, ℕ, List, length, Option, IfSome, Ok, ⊤}
 use Rattle.std.specs.Io.KnownBytes.{IsAtEnd, Consumes}
 use Rattle.outside.specs.Counts.{Rose}
 use Rattle.std.specs.List.{AllByRecursion}
 use Rattle.line_rules.specs.Inputs.{IsSmall}
-use Rattle.line_rules.specs.Reading.{Entry, Fault, pairs_of}
-use Rattle.dump_text.specs.declared.fault.LineFault.{LineFault}
-use Rattle.tester_run.specs.Tellings.{fault_in}
+use Rattle.command_rules.specs.declared.args.Args.{Args}
+use Rattle.input_rules.specs.declared.input.Input.{Input}
+use Rattle.input_rules.specs.Forms.{input_of}
+use Rattle.tester_run.specs.Arguments.{form_of}
+use Rattle.tester_run.specs.Faults.{InputFault, IsFaultOf, line_in, order_in}
+use Rattle.tester_run.specs.Rendered.{IsRendered}
+use Rattle.tester_run.specs.declared.running.Rendered.{Rendered}
 use Rattle.tester_run.specs.declared.top.Refusal.{Refusal}
 use Rattle.tester_run.specs.declared.top.Refusal.TheVariants as refusal
 
@@ -22,29 +26,33 @@ ReadsWithin left after = (bytes : List ℕ) × (length bytes ≤ read_limit) × 
 abbrev pub IsReadOut : Option (List ℕ) → Option (List ℕ) → Type 0
 IsReadOut left after = IsAtEnd after ⊎ ((bytes : List ℕ) × (length bytes ≡ read_limit) × Consumes left after bytes)
 
--- reading came to this fault
-abbrev pub IsFirst : LineFault → Result (List Entry) Fault → Type 0
-IsFirst fault read = MatchOption (fault_in fault) ⊥ (λ first. read ≡ Err first)
-
--- this is the first fault of the bytes that the source had, where they are told, and it was read to its end or its limit
-pub record IsFaulty (fault : LineFault) (left after : Option (List ℕ)) : Type 0 where
-  pub first : IfSome left (λ bytes. IsFirst fault (pairs_of bytes))
+-- this is the fault of the bytes that the source had, where they are told, and it was read to its end or its limit
+pub record IsFaulty (asked : Args) (fault : Option InputFault) (left after : Option (List ℕ)) : Type 0 where
+  pub fault_is : IfSome left (IsFaultOf asked fault)
   pub out : IsReadOut left after
 
--- the source failed; or this is the first fault of the bytes that it had; or memory ran out
-abbrev pub IsRefusedBy : Refusal → Option (List ℕ) → Option (List ℕ) → ℕ → ℕ → Type 0
-IsRefusedBy refusal.Source left after faults faults_after = Rose faults faults_after
-IsRefusedBy (refusal.Line fault) left after faults faults_after = IsFaulty fault left after
-IsRefusedBy refusal.Memory left after faults faults_after = ⊤
+-- the source failed; or this is the fault of the bytes that it had; or memory ran out
+abbrev pub IsRefusedBy : (asked : Args) → Refusal → Option (List ℕ) → Option (List ℕ) → ℕ → ℕ → Type 0
+IsRefusedBy asked refusal.Source left after faults faults_after = Rose faults faults_after
+IsRefusedBy asked (refusal.Line fault) left after faults faults_after = IsFaulty asked (line_in fault) left after
+IsRefusedBy asked (refusal.Order fault) left after faults faults_after = IsFaulty asked (order_in fault) left after
+IsRefusedBy asked refusal.Memory left after faults faults_after = ⊤
 
--- this is the first fault of bytes that were read, or memory ran out
-abbrev pub IsJudged : Refusal → Result (List Entry) Fault → Type 0
-IsJudged refusal.Source read = ⊥
-IsJudged (refusal.Line fault) read = IsFirst fault read
-IsJudged refusal.Memory read = ⊤
+-- this is the first fault of the lines of bytes that were read, or memory ran out
+abbrev pub IsJudged : (asked : Args) → Refusal → (bytes : List ℕ) → Type 0
+IsJudged asked refusal.Source bytes = ⊥
+IsJudged asked (refusal.Line fault) bytes = IsFaultOf asked (line_in fault) bytes
+IsJudged asked (refusal.Order fault) bytes = ⊥
+IsJudged asked refusal.Memory bytes = ⊤
 
--- the pairs are those of the bytes that the source had, where they are told, and none is left; an input may have them
-pub record AreRead (left after : Option (List ℕ)) (pairs : List (List ℕ × List ℕ)) : Type 0 where
-  pub input : IfSome left (λ bytes. pairs_of bytes ≡ Ok pairs)
-  pub small : AllByRecursion IsSmall pairs
+-- what was read is what the bytes that the source had say, where they are told, and none is left; an input may have its pairs
+pub record IsRead (asked : Args) (left after : Option (List ℕ)) (input : Input) : Type 0 where
+  pub input_is : IfSome left (λ bytes. input_of (form_of asked) bytes ≡ Ok input)
+  pub small : AllByRecursion IsSmall input.pairs
   pub end : IsAtEnd after
+
+-- what is asked was rendered of what was read
+pub record IsMade (asked : Args) (left after : Option (List ℕ)) (rendered : Rendered) : Type 0 where
+  pub input : Input
+  pub read : IsRead asked left after input
+  pub is_rendered : IsRendered asked input rendered

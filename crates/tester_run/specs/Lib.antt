@@ -1,5 +1,7 @@
 pub mod Arguments
+pub mod Faults
 pub mod Driving
+pub mod Following
 pub mod Dumps
 pub mod Rendered
 pub mod Inputs

@@ -3,8 +3,8 @@
 ghost use Rattle.std.specs.Prelude.{◌≢◌, IfOk};
 ghost use Rattle.tester_run.specs.Outcomes.{read_fault, write_fault};
 
-use crate::args::ArgWords;
 use crate::top::tester;
+use command_words::ArgWords;
 use outside::{CleanSink, CleanSource, Gate};
 use std::alloc::{AllocError, Global};
 use std::sync::Wait;

@@ -1,141 +1,255 @@
-//! Running a machine over the core.
+//! Running the machines over the core, by turns.
 
-ghost use Rattle.std.specs.Prelude.{◌≡◌, ◌↔◌, ◌<◌, ◌^◌, false, true, length, Some, Ok, IfOk, IsTrue, OnOk};
+ghost use Rattle.std.specs.Prelude.{◌≡◌, ◌≢◌, ◌≤◌, ◌<◌, ◌+◌, ◌++◌, ◌∷◌, ◌^◌, ◌↔◌, ◌⊎◌, ℕ, true, [], length, map, option_to_list, option_copied, is_some, slice_get, option_and_then, None, Ok, Some, if◌then◌else◌, IfOk, IfSome, IsTrue, OnOk};
 ghost use Rattle.fdb_calls.specs.declared.Reply.TheVariants.{NoMemory};
 ghost use Rattle.machine_rules.specs.Machines.{silent};
-ghost use Rattle.machine_rules.specs.Runs.{has_stopped};
-ghost use Rattle.machine_rules.specs.Laws.{HasItsItemIn, is_awaiting};
-ghost use Rattle.machine_rules.specs.Laws.{GoesOn as HasUsed};
-ghost use Rattle.tester_run.specs.Driving.{GoesOn, HasFinished, asked_by, with_asked, work_left};
+ghost use Rattle.machine_rules.specs.Runs.{at_rest, start_prefix, started, started_by};
+ghost use Rattle.tester_run.specs.Driving.{asks_at, progress_of, GoesOn, GoesOnByTurns, HasMoved, HasPaused, IsFirstAsking, IsGoing, IsNextInTurn, IsSeated};
 
+use crate::seat::Seat;
 use client_core::Core;
 use dump_text::Order;
 use fdb_calls::{Reply, Request};
+use key_bytes::{Bytes, Pairs};
 use outside::Words;
-use stack_machine::{Machine, Step};
-use std::alloc::AllocError;
+use stack_machine::Machine;
+use std::alloc::{AllocError, Global};
 
-/// The number of the one machine.
-const MACHINE: u16 = 0;
-
-// Whether a machine goes on.
-#[derive(Drop)]
-enum Motion {
-    GoesOn,
-    Stopped,
+/// What came of a request.
+#[derive(Clone, Copy, Debug, PartialEq, Eq)]
+pub enum Moved {
+    /// The machine asks on within the same instruction.
+    AsksOn,
+    /// It has fewer instructions left.
+    Finished,
+    /// It started a machine.
+    Started,
 }
 
-/// Runs a machine until it has stopped. Each request that it asks is taken, and is one more place of the
-/// order. It is refused for want of memory alone, and nothing is said of the three then.
+/// Until when requests were taken.
+#[derive(Clone, Copy, Debug, PartialEq, Eq)]
+pub enum Pause {
+    /// A machine had fewer instructions left.
+    Finished,
+    /// A machine was started.
+    Started,
+    /// No machine asks.
+    Ended,
+}
+
+/// Takes the requests of the machines by turns, until none asks: again and again, for each machine in the order of their
+/// numbers that asks, one request of it; a machine that is started is met in the same turn. Each request is one more place
+/// of the order. It is refused for want of memory alone, and nothing is said of the rest then.
 pub fn drive<W: Words>(
+    alloc: Global,
     core: &mut Core,
     words: &mut W,
-    machine: &mut Machine,
+    seats: &mut Vec<Seat>,
     order: &mut Order,
+    from: &mut usize,
 ) -> Result<(), AllocError>
-    requires ready { machine.old.is_out_of_memory ≡ false }
-    requires silent { is_awaiting machine.old.machine.state ≡ false }
-    requires counted { core.old.applied ≡ length order.old }
-    ensures goes_on { OnOk result (GoesOn core.old (W.words words.old) (silent machine.old.machine) order.old
-        core.new (W.words words.new) (silent machine.new.machine) order.new) }
-    ensures stopped { OnOk result (has_stopped machine.new.machine.state ≡ true) }
+    requires { IsGoing core.old seats.old.items order.old }
+    ensures goes_on { OnOk result (GoesOnByTurns core.old (W.words words.old) seats.old.items order.old from.old
+        core.new (W.words words.new) seats.new.items order.new from.new) }
+    ensures going { OnOk result (IsGoing core.new seats.new.items order.new) }
+    ensures ended { OnOk result (IsNextInTurn seats.new.items from.new None) }
 {
     loop {
-        if let Motion::Stopped = turn(core, words, machine, order)? {
+        if run_until_started(alloc, core, words, seats, order, from)? == Pause::Ended {
             return Ok(());
         }
     }
 }
 
-// One instruction of the machine, with the requests that it asks.
-fn turn<W: Words>(
+// Takes requests until a machine was started, or none asks.
+fn run_until_started<W: Words>(
+    alloc: Global,
     core: &mut Core,
     words: &mut W,
-    machine: &mut Machine,
+    seats: &mut Vec<Seat>,
     order: &mut Order,
-) -> Result<Motion, AllocError>
-    requires ready { machine.old.is_out_of_memory ≡ false }
-    requires silent { is_awaiting machine.old.machine.state ≡ false }
-    requires counted { core.old.applied ≡ length order.old }
-    ensures goes_on { OnOk result (GoesOn core.old (W.words words.old) (silent machine.old.machine) order.old
-        core.new (W.words words.new) (silent machine.new.machine) order.new) }
-    ensures ready { OnOk result (machine.new.is_out_of_memory ≡ false) }
-    ensures silent { OnOk result (is_awaiting machine.new.machine.state ≡ false) }
-    ensures counted { OnOk result (core.new.applied ≡ length order.new) }
-    ensures stopped { result ≡ Ok Motion.Stopped → has_stopped machine.new.machine.state ≡ true }
-    ensures nearer { result ≡ Ok Motion.GoesOn → work_left machine.new.machine < work_left machine.old.machine }
+    from: &mut usize,
+) -> Result<Pause, AllocError>
+    requires { IsGoing core.old seats.old.items order.old }
+    ensures goes_on { OnOk result (GoesOnByTurns core.old (W.words words.old) seats.old.items order.old from.old
+        core.new (W.words words.new) seats.new.items order.new from.new) }
+    ensures going { OnOk result (IsGoing core.new seats.new.items order.new) }
+    ensures paused { IfOk result (λ pause. (pause ≡ Pause.Ended) ⊎ (length seats.old.items < length seats.new.items)) }
+    ensures ended { result ≡ Ok Pause.Ended → IsNextInTurn seats.new.items from.new None }
 {
-    match machine.step(None)? {
-        Step::Again => Ok(Motion::GoesOn),
-        Step::Ask(request) => {
-            take_all(core, words, machine, order, request)?;
-            Ok(Motion::GoesOn)
+    loop {
+        match run_until_finished(alloc, core, words, seats, order, from)? {
+            Pause::Finished => {}
+            pause => return Ok(pause),
         }
-        Step::Stopped(_) => Ok(Motion::Stopped),
     }
 }
 
-// Has the core take the request that the machine asks, and each that it asks then within the same instruction.
-fn take_all<W: Words>(
+// Takes requests until a machine has fewer instructions left, or one was started, or none asks.
+fn run_until_finished<W: Words>(
+    alloc: Global,
     core: &mut Core,
     words: &mut W,
-    machine: &mut Machine,
+    seats: &mut Vec<Seat>,
     order: &mut Order,
-    first: Request,
-) -> Result<(), AllocError>
-    requires ready { machine.old.is_out_of_memory ≡ false }
-    requires awaits { is_awaiting machine.old.machine.state ≡ true }
-    requires item { HasItsItemIn machine.old.machine }
-    requires counted { core.old.applied ≡ length order.old }
-    ensures goes_on { OnOk result (GoesOn core.old (W.words words.old) (with_asked machine.old.machine (Some first)) order.old
-        core.new (W.words words.new) (silent machine.new.machine) order.new) }
-    ensures ready { OnOk result (machine.new.is_out_of_memory ≡ false) }
-    ensures counted { OnOk result (core.new.applied ≡ length order.new) }
-    ensures finished { OnOk result (HasFinished machine.old.machine machine.new.machine) }
+    from: &mut usize,
+) -> Result<Pause, AllocError>
+    requires { IsGoing core.old seats.old.items order.old }
+    ensures goes_on { OnOk result (GoesOnByTurns core.old (W.words words.old) seats.old.items order.old from.old
+        core.new (W.words words.new) seats.new.items order.new from.new) }
+    ensures going { OnOk result (IsGoing core.new seats.new.items order.new) }
+    ensures paused { IfOk result (λ pause. HasPaused pause seats.old.items seats.new.items) }
+    ensures ended { result ≡ Ok Pause.Ended → IsNextInTurn seats.new.items from.new None }
 {
-    let mut request = first;
-    while let Some(next) = take(core, words, machine, order, &request)? {
-        request = next;
+    while let Some(number) = next_in_turn(seats, *from) {
+        let moved = take(alloc, core, words, seats, order, number)?;
+        *from = number + 1;
+        match moved {
+            Moved::AsksOn => {}
+            Moved::Finished => return Ok(Pause::Finished),
+            Moved::Started => return Ok(Pause::Started),
+        }
     }
-    Ok(())
+    Ok(Pause::Ended)
 }
 
-// Has the core take the request that the machine asks: one more place of the order, and the machine uses the reply. The
-// answer is what the machine asks next within the same instruction.
-fn take<W: Words>(
+/// Has the core take the request of the machine of this number: one more place of the order. The machine uses the reply, and a
+/// machine that was started takes its seat. It is refused for want of memory alone, and nothing is said of the rest then.
+pub fn take<W: Words>(
+    alloc: Global,
     core: &mut Core,
     words: &mut W,
-    machine: &mut Machine,
+    seats: &mut Vec<Seat>,
     order: &mut Order,
-    request: &Request,
-) -> Result<Option<Request>, AllocError>
-    requires ready { machine.old.is_out_of_memory ≡ false }
-    requires awaits { is_awaiting machine.old.machine.state ≡ true }
-    requires item { HasItsItemIn machine.old.machine }
-    requires counted { core.old.applied ≡ length order.old }
-    ensures goes_on { IfOk result (λ next. GoesOn core.old (W.words words.old) (with_asked machine.old.machine (Some request.now)) order.old
-        core.new (W.words words.new) (with_asked machine.new.machine next) order.new) }
-    ensures ready { OnOk result (machine.new.is_out_of_memory ≡ false) }
-    ensures counted { OnOk result (core.new.applied ≡ length order.new) }
-    ensures item { OnOk result (HasItsItemIn machine.new.machine) }
-    ensures used { IfOk result (λ next. HasUsed machine.old.machine (with_asked machine.new.machine next)) }
+    number: usize,
+) -> Result<Moved, AllocError>
+    requires going { IsGoing core.old seats.old.items order.old }
+    requires within { number < length seats.old.items }
+    requires asks { asks_at seats.old.items number ≡ true }
+    ensures goes_on { OnOk result (GoesOn core.old (W.words words.old) seats.old.items order.old
+        core.new (W.words words.new) seats.new.items order.new) }
+    ensures order { OnOk result (order.new ≡ order.old ++ number ∷ []) }
+    ensures going { OnOk result (IsGoing core.new seats.new.items order.new) }
+    ensures moved { IfOk result (λ moved. HasMoved moved seats.old.items seats.new.items) }
 {
     shows_short(order);
-    order.push(MACHINE)?;
-    let reply = core.apply(MACHINE, request, words);
+    order.push(number as u16)?;
+    let polls = seats[number].machine.polls();
+    let request = request_at(seats, number);
+    let reply = core.apply(number as u16, request, words);
     if is_no_memory(&reply) {
         return Err(AllocError);
     }
-    Ok(asked_by(machine.step(Some(&reply))?))
+    let prefix = prefix_of(request)?;
+    let asks_on = seats[number].use_reply(&reply)?;
+    match seat_started(alloc, prefix, polls, reply)? {
+        None => Ok(moved_by(asks_on)),
+        Some(seat) => {
+            seats.push(seat)?;
+            Ok(Moved::Started)
+        }
+    }
 }
 
-// What a machine asks, by the answer of its step.
-fn asked_by(step: Step) -> Option<Request>
-    ensures { result ≡ asked_by step }
+// What came of a request by which no machine was started.
+fn moved_by(asks_on: bool) -> Moved
+    ensures { result ≡ (if asks_on then Moved.AsksOn else Moved.Finished) }
 {
-    match step {
-        Step::Ask(request) => Some(request),
-        Step::Again | Step::Stopped(_) => None,
+    if asks_on {
+        Moved::AsksOn
+    } else {
+        Moved::Finished
+    }
+}
+
+// What the machine of a number asks.
+fn request_at(seats: &[Seat], number: usize) -> &Request
+    requires within { number < length seats.now }
+    requires asks { asks_at seats.now number ≡ true }
+    ensures { option_and_then (λ seat. seat.asks) (slice_get seats.now number) ≡ Some result.now }
+{
+    seats[number].asks.as_ref().unwrap()
+}
+
+// The prefix under which a request starts a machine, if it starts one.
+fn prefix_of(request: &Request) -> Result<Option<Bytes>, AllocError>
+    ensures { IfOk result (λ prefix. prefix ≡ start_prefix request.now) }
+{
+    match request {
+        Request::Start { prefix } => Ok(Some(prefix.copy()?)),
+        _ => Ok(None),
+    }
+}
+
+// The machine that was started under a prefix by this reply, if one was.
+fn seat_started(
+    alloc: Global,
+    prefix: Option<Bytes>,
+    polls: u32,
+    reply: Reply,
+) -> Result<Option<Seat>, AllocError>
+    ensures started { IfOk result (λ seat. map progress_of (option_to_list seat) ≡ started_by prefix polls reply) }
+    ensures seated { IfOk result (λ seat. IfSome seat IsSeated) }
+{
+    match (prefix, reply) {
+        (
+            Some(prefix),
+            Reply::Started {
+                machine,
+                instructions,
+            },
+        ) => Ok(Some(start(alloc, machine, prefix, polls, instructions)?)),
+        _ => Ok(None),
+    }
+}
+
+/// A machine as it is started: of this number, under this prefix, with so many polls for each wait, and with the values of
+/// these pairs as its instructions. It is refused for want of memory alone.
+#[tactic(auto, unfolding(machine_rules::specs::Runs::started))]
+pub fn start(
+    alloc: Global,
+    number: u16,
+    prefix: Bytes,
+    polls: u32,
+    instructions: Pairs,
+) -> Result<Seat, AllocError>
+    ensures started { IfOk result (λ seat. progress_of seat ≡ at_rest (silent (started number prefix polls instructions))) }
+    ensures seated { IfOk result IsSeated }
+{
+    Seat::new(Machine::new(alloc, number, prefix, instructions, polls)?)
+}
+
+// The machine whose turn it is, where the turn looks from this number on.
+fn next_in_turn(seats: &[Seat], from: usize) -> Option<usize>
+    ensures { IsNextInTurn seats.now from result }
+{
+    match first_asking(seats, from) {
+        Some(number) => Some(number),
+        None => first_asking(seats, 0),
+    }
+}
+
+/// The first machine, from one on, that asks.
+pub fn first_asking(seats: &[Seat], from: usize) -> Option<usize>
+    ensures { IsFirstAsking seats.now from result }
+{
+    let mut number = from;
+    while number < seats.len() {
+        if seats[number].asks.is_some() {
+            return Some(number);
+        }
+        number += 1;
+    }
+    None
+}
+
+/// Whether the machine of a number asks.
+pub fn asks(seats: &[Seat], number: usize) -> bool
+    ensures { result ≡ asks_at seats.now number }
+{
+    match seats.get(number) {
+        Some(seat) => seat.asks.is_some(),
+        None => false,
     }
 }
 

@@ -6,8 +6,9 @@ ghost use Rattle.line_rules.specs.Printing.{order_line};
 ghost use Rattle.machine_rules.specs.Calls.{item_bytes};
 ghost use Rattle.machine_rules.specs.Runs.{end_line, stack_lines, error_lines};
 ghost use Rattle.line_rules.specs.Inputs.{pair_lines};
-ghost use Rattle.tester_run.specs.Dumps.{newest_pairs, machine_dump};
+ghost use Rattle.tester_run.specs.Dumps.{dump_of, newest_pairs, seat_end, seat_errors, seat_stack};
 
+use crate::seat::Seat;
 use client_core::Core;
 use dump_text::{
     EndWord, Order, write_error_line, write_item_line, write_machine_line, write_order_line,
@@ -18,23 +19,50 @@ use machine_rules::ItemValue;
 use stack_machine::{End, Machine, State};
 use std::alloc::{AllocError, Global};
 
-/// The dump of a machine that has stopped, of the order, and of the pairs of the map at the last version.
-#[tactic(auto, unfolding(crate::specs::Dumps::machine_dump))]
+/// The dump of machines that have stopped, of the order, and of the pairs of the map at the last version.
+#[tactic(auto, unfolding(crate::specs::Dumps::dump_of))]
 pub fn render(
     alloc: Global,
-    machine: &Machine,
+    seats: &[Seat],
     order: &Order,
     core: &Core,
 ) -> Result<Vec<u8>, AllocError>
-    ensures { IfOk result (λ dump. dump.items ≡ machine_dump machine.now.machine order.now (newest_pairs core.now.store)) }
+    ensures { IfOk result (λ dump. dump.items ≡ dump_of seats.now order.now (newest_pairs core.now.store)) }
 {
     let mut dump = Vec::new(alloc);
-    add_end_line(&mut dump, machine)?;
-    add_stack_lines(alloc, &mut dump, machine)?;
-    add_error_lines(&mut dump, machine)?;
+    add_end_lines(&mut dump, seats)?;
+    add_stacks(alloc, &mut dump, seats)?;
+    add_errors(&mut dump, seats)?;
     add_order_lines(&mut dump, order)?;
     add_pair_lines(&mut dump, core)?;
     Ok(dump)
+}
+
+fn add_end_lines(to: &mut Vec<u8>, seats: &[Seat]) -> Result<(), AllocError>
+    ensures { OnOk result (to.new.items ≡ to.old.items ++ flat_map seat_end seats.now) }
+{
+    for seat in seats {
+        add_end_line(to, &seat.machine)?;
+    }
+    Ok(())
+}
+
+fn add_stacks(alloc: Global, to: &mut Vec<u8>, seats: &[Seat]) -> Result<(), AllocError>
+    ensures { OnOk result (to.new.items ≡ to.old.items ++ flat_map seat_stack seats.now) }
+{
+    for seat in seats {
+        add_stack_lines(alloc, to, &seat.machine)?;
+    }
+    Ok(())
+}
+
+fn add_errors(to: &mut Vec<u8>, seats: &[Seat]) -> Result<(), AllocError>
+    ensures { OnOk result (to.new.items ≡ to.old.items ++ flat_map seat_errors seats.now) }
+{
+    for seat in seats {
+        add_error_lines(to, &seat.machine)?;
+    }
+    Ok(())
 }
 
 fn add_end_line(to: &mut Vec<u8>, machine: &Machine) -> Result<(), AllocError>
@@ -64,6 +92,9 @@ fn add_end(to: &mut Vec<u8>, machine: &Machine, end: End) -> Result<(), AllocErr
         }
         End::WaitBound(instruction) => {
             write_machine_line(to, number, EndWord::WaitBound, instruction, prefix)
+        }
+        End::MachineLimit(instruction) => {
+            write_machine_line(to, number, EndWord::MachineLimit, instruction, prefix)
         }
     }
 }

@@ -1,15 +1,18 @@
 //! The top call: from the words and the bytes that come in to the dump that goes out.
 //!
-//! `tester` does all that the program does. It judges the words, reads the source, runs machine 0 over the core,
-//! renders the dump and writes it. Its clauses say what each exit status means; the definitions that they cite
-//! stand in `specs/Outcomes.antt` and, for the run and its dump, in `machine_rules`.
+//! `tester` does all that the program does. It reads the words and the source, runs machine 0 and each machine that is started
+//! over the core, by turns or by the order that a replay is given, renders the dump and writes it. Its clauses say what each
+//! exit status means; the definitions that they cite stand in `specs/Outcomes.antt`, `specs/Faults.antt` and
+//! `specs/Tellings.antt`, and, for the run and its dump, in `machine_rules`.
 #![tactic(auto)]
 
-mod args;
 mod clean;
 mod driving;
 mod dumping;
+mod fault;
+mod replaying;
 mod running;
+mod seat;
 mod telling;
 #[cfg(test)]
 mod tests;
@@ -17,6 +20,6 @@ mod tests;
 mod tests_waits;
 mod top;
 
-pub use args::ArgWords;
 pub use clean::status_over_bytes;
+pub use command_words::ArgWords;
 pub use top::{Outcome, tester};

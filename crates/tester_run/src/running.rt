@@ -1,20 +1,21 @@
-//! The run of machine 0, from the pairs of an input to the dump.
+//! The run of all machines, from the pairs of an input to the dump.
 
-ghost use Rattle.std.specs.Prelude.{◌≡◌, pos, [], ◌∷◌, ◌++◌, ◌<◌, ◌^◌, length, false, if◌then◌else◌, IfOk};
-ghost use Rattle.machine_rules.specs.declared.State.TheVariants.{Running};
-ghost use Rattle.machine_rules.specs.Runs.{has_ended, instructions_in, packed_prefix};
-ghost use Rattle.version_store.specs.Versions.{at, last_of};
+ghost use Rattle.std.specs.Prelude.{◌≡◌, if◌then◌else◌, IfOk};
+ghost use Rattle.std.specs.List.{list_all};
+ghost use Rattle.machine_rules.specs.Runs.{has_ended, AreByTurns};
+ghost use Rattle.tester_run.specs.Driving.{AreFirst};
+ghost use Rattle.tester_run.specs.Dumps.{dump_of, newest_pairs};
 ghost use Rattle.tester_run.specs.Rendered.{Renders};
 
-use crate::driving::{drive, shows_short};
+use crate::driving::{drive, start};
 use crate::dumping::render;
+use crate::seat::Seat;
 use client_core::Core;
+use command_words::RunArgs;
 use dump_text::Order;
-use fdb_tuple::{Elem, pack_element};
-use key_bytes::{Bytes, Key, Pairs};
-use machine_rules::POLLS;
-use outside::ListWords;
-use stack_machine::{End, Machine, State};
+use key_bytes::Pairs;
+use outside::PcgWords;
+use stack_machine::{End, State};
 use std::alloc::{AllocError, Global};
 
 /// Every machine ended after its last instruction.
@@ -31,19 +32,37 @@ pub struct Rendered {
     pub status: u8,
 }
 
-/// Runs machine 0 under a prefix over these pairs, until it has ended, and renders the dump.
-pub fn run(alloc: Global, prefix: &[u8], pairs: Pairs) -> Result<Rendered, AllocError>
-    ensures renders { IfOk result (Renders pairs prefix.now) }
-    ensures short { IfOk result (λ rendered. length rendered.order < 2 ^ 62) }
+/// Runs machine 0 over these pairs as the arguments say, and each machine that is started, by turns, until all have ended,
+/// and renders the dump. The random words are those of the seed.
+pub fn run(alloc: Global, arguments: &RunArgs, pairs: Pairs) -> Result<Rendered, AllocError>
+    ensures renders { IfOk result (Renders pairs arguments.now) }
+    ensures turns { IfOk result (λ rendered. AreByTurns pairs arguments.now rendered.order) }
 {
-    let mut core = Core::load(alloc, pairs)?;
-    let mut machine = start(alloc, &core, prefix)?;
+    let mut core = Core::load(alloc, arguments, pairs)?;
+    let mut seats = first_seats(alloc, arguments, &core)?;
+    let mut words = PcgWords::new(arguments.seed);
     let mut order = Order::new(alloc);
-    let mut words = ListWords::new(alloc, &[])?;
-    drive(&mut core, &mut words, &mut machine, &mut order)?;
-    let dump = render(alloc, &machine, &order, &core)?;
-    let status = status_of(&machine);
-    shows_short(&order);
+    let mut from = 0;
+    drive(
+        alloc, &mut core, &mut words, &mut seats, &mut order, &mut from,
+    )?;
+    rendered_of(alloc, &core, &seats, order)
+}
+
+/// What stands at the end of a run, rendered.
+pub fn rendered_of(
+    alloc: Global,
+    core: &Core,
+    seats: &[Seat],
+    order: Order,
+) -> Result<Rendered, AllocError>
+    ensures order { IfOk result (λ rendered. rendered.order ≡ order) }
+    ensures dump { IfOk result (λ rendered. rendered.dump.items ≡ dump_of seats.now order (newest_pairs core.now.store)) }
+    ensures status { IfOk result (λ rendered. rendered.status
+        ≡ (if list_all (λ seat. has_ended seat.machine.machine.state) seats.now then 0 else 3)) }
+{
+    let dump = render(alloc, seats, &order, core)?;
+    let status = status_of(seats);
     Ok(Rendered {
         dump,
         order,
@@ -51,46 +70,32 @@ pub fn run(alloc: Global, prefix: &[u8], pairs: Pairs) -> Result<Rendered, Alloc
     })
 }
 
-// Machine 0 as it is started: its instructions are the values of the pairs in the range of its prefix.
-fn start(alloc: Global, core: &Core, prefix: &[u8]) -> Result<Machine, AllocError>
-    ensures machine { IfOk result (λ machine. machine.machine ≡ record {
-      number = 0;
-      prefix = prefix.now;
-      instructions = instructions_in (at core.now.store (last_of core.now.store)) prefix.now;
-      next = 0;
-      polls = POLLS;
-      registers = record { name = prefix.now; last_seen = pos 0; stack = []; errors = [] };
-      state = Running;
-    }) }
-    ensures ready { IfOk result (λ machine. machine.is_out_of_memory ≡ false) }
+/// Machine 0 alone, as it is started.
+pub fn first_seats(alloc: Global, arguments: &RunArgs, core: &Core) -> Result<Vec<Seat>, AllocError>
+    ensures { IfOk result (λ seats. AreFirst seats.items arguments.now core.now) }
 {
-    let begin = range_end(alloc, prefix, 0)?;
-    let end = range_end(alloc, prefix, 0xff)?;
-    let instructions = core.pairs_between(&begin, &end)?;
-    let prefix = Bytes::from_slice(alloc, prefix)?;
-    Machine::new(alloc, 0, prefix, instructions, POLLS)
+    let instructions = core.instructions(arguments.prefix.as_slice())?;
+    let prefix = arguments.prefix.copy()?;
+    let first = start(alloc, 0, prefix, arguments.polls, instructions)?;
+    let mut seats = Vec::new(alloc);
+    seats.push(first)?;
+    Ok(seats)
 }
 
-// An end of the range of the tuples that begin with a prefix: the packed prefix, and one byte more.
-fn range_end(alloc: Global, prefix: &[u8], last: u8) -> Result<Key, AllocError>
-    ensures { IfOk result (λ key. key ≡ packed_prefix prefix.now ++ last ∷ []) }
+fn status_of(seats: &[Seat]) -> u8
+    ensures { result ≡ (if list_all (λ seat. has_ended seat.machine.machine.state) seats.now then 0 else 3) }
 {
-    let mut key = packed(alloc, prefix)?;
-    key.extend(&[last])?;
-    Ok(key)
-}
-
-fn packed(alloc: Global, prefix: &[u8]) -> Result<Bytes, AllocError>
-    ensures { IfOk result (λ packed. packed ≡ packed_prefix prefix.now) }
-{
-    pack_element(alloc, &Elem::Bytes(Bytes::from_slice(alloc, prefix)?))
-}
-
-fn status_of(machine: &Machine) -> u8
-    ensures { result ≡ (if has_ended machine.now.machine.state then 0 else 3) }
-{
-    match machine.state() {
-        State::Stopped(End::Ended) => ENDED,
-        _ => CUT_SHORT,
+    for seat in seats {
+        if !has_ended(seat) {
+            return CUT_SHORT;
+        }
     }
+    ENDED
+}
+
+// Whether a machine ended after its last instruction.
+fn has_ended(seat: &Seat) -> bool
+    ensures { result ≡ has_ended seat.now.machine.machine.state }
+{
+    matches!(seat.machine.state(), State::Stopped(End::Ended))
 }

@@ -1,8 +1,10 @@
 //! What is told on err.
 
 ghost use Rattle.std.specs.Prelude.{◌≡◌, ◌++◌, codes, decimal, IfOk, OnOk};
-ghost use Rattle.tester_run.specs.Tellings.{told, IsLineOf, IsWritten};
+ghost use Rattle.tester_run.specs.Faults.{NoRequest, line_in, order_in};
+ghost use Rattle.tester_run.specs.Tellings.{told, fault_text, IsLineOf, IsWritten};
 
+use crate::fault::OrderFault;
 use dump_text::LineFault;
 use itoa::Buffer;
 use outside::{Sink, write_all};
@@ -16,7 +18,7 @@ pub(crate) fn tell<N: Sink>(err: &mut N, bytes: &[u8])
 }
 
 // Adds the digits of a number.
-fn add_number(to: &mut Vec<u8>, number: u32) -> Result<(), AllocError>
+fn add_number(to: &mut Vec<u8>, number: u64) -> Result<(), AllocError>
     ensures { OnOk result (to.new.items ≡ to.old.items ++ decimal number) }
 {
     let mut buffer = Buffer::new();
@@ -24,7 +26,7 @@ fn add_number(to: &mut Vec<u8>, number: u32) -> Result<(), AllocError>
 }
 
 // How each line of a fault begins.
-fn begun(alloc: Global, line: u32) -> Result<Vec<u8>, AllocError>
+fn begun(alloc: Global, line: u64) -> Result<Vec<u8>, AllocError>
     ensures { IfOk result (λ text. text.items ≡ codes "fdbtester: line " ++ decimal line) }
 {
     let mut text = Vec::from_slice(alloc, b"fdbtester: line ")?;
@@ -33,7 +35,7 @@ fn begun(alloc: Global, line: u32) -> Result<Vec<u8>, AllocError>
 }
 
 // The line of a byte that fits no rule.
-fn bad_line(alloc: Global, line: u32, place: u32) -> Result<Vec<u8>, AllocError>
+fn bad_line(alloc: Global, line: u64, place: u64) -> Result<Vec<u8>, AllocError>
     ensures { IfOk result (λ text. text.items
         ≡ told (codes "line " ++ decimal line ++ codes ": bad at " ++ decimal place)) }
 {
@@ -45,7 +47,7 @@ fn bad_line(alloc: Global, line: u32, place: u32) -> Result<Vec<u8>, AllocError>
 }
 
 // The line of what passes a limit.
-fn long_line(alloc: Global, line: u32, ending: &[u8]) -> Result<Vec<u8>, AllocError>
+fn long_line(alloc: Global, line: u64, ending: &[u8]) -> Result<Vec<u8>, AllocError>
     ensures { IfOk result (λ text. text.items ≡ told (codes "line " ++ decimal line ++ ending.now)) }
 {
     let mut text = begun(alloc, line)?;
@@ -54,14 +56,37 @@ fn long_line(alloc: Global, line: u32, ending: &[u8]) -> Result<Vec<u8>, AllocEr
     Ok(text)
 }
 
-// The line of a fault.
-pub(crate) fn fault_line(alloc: Global, fault: LineFault) -> Result<Vec<u8>, AllocError>
-    ensures { IfOk result (λ text. IsLineOf fault text.items) }
+// The line of a fault of a line.
+pub(crate) fn line_fault_line(alloc: Global, fault: LineFault) -> Result<Vec<u8>, AllocError>
+    ensures { IfOk result (λ text. IsLineOf (line_in fault) text.items) }
 {
     match fault {
-        LineFault::BadLine { line, place } => bad_line(alloc, line, place),
-        LineFault::TooLong { line } => long_line(alloc, line, b": too long"),
-        LineFault::TooMany { line } => long_line(alloc, line, b": too many"),
+        LineFault::BadLine { line, place } => { bad_line(alloc, u64::from(line), u64::from(place)) }
+        LineFault::TooLong { line } => long_line(alloc, u64::from(line), b": too long"),
+        LineFault::TooMany { line } => long_line(alloc, u64::from(line), b": too many"),
         LineFault::NoMemory => Err(AllocError),
+    }
+}
+
+// The line of a machine that has no request at a place of the order.
+fn no_request(alloc: Global, place: u64, machine: u64) -> Result<Vec<u8>, AllocError>
+    ensures { IfOk result (λ text. text.items ≡ told (fault_text (NoRequest place machine))) }
+{
+    let mut text = Vec::from_slice(alloc, b"fdbtester: order place ")?;
+    add_number(&mut text, place)?;
+    text.extend_from_slice(b": machine ")?;
+    add_number(&mut text, machine)?;
+    text.extend_from_slice(b" has no request\n")?;
+    Ok(text)
+}
+
+// The line of a fault of an order.
+pub(crate) fn order_fault_line(alloc: Global, fault: OrderFault) -> Result<Vec<u8>, AllocError>
+    ensures { IfOk result (λ text. IsLineOf (order_in fault) text.items) }
+{
+    match fault {
+        OrderFault::NoRequest { place, machine } => no_request(alloc, place, u64::from(machine)),
+        OrderFault::EndsEarly => Vec::from_slice(alloc, b"fdbtester: order ends early\n"),
+        OrderFault::NoMemory => Err(AllocError),
     }
 }

@@ -5,6 +5,9 @@ use std::sync::Wait;
 use std::test::Fail;
 use std::thread::Threads;
 
+mod machines;
+mod replays;
+
 const WORDS: [&str; 3] = ["run", "p", "630"];
 
 // Sets one key and commits.
@@ -94,7 +97,7 @@ fn dash_row() -> Row {
     }
 }
 
-fn rows() -> [Row; 12] {
+fn rows() -> [Row; 15] {
     [
         run_row(b"", 0, 0, b"M 0 ended 0 p\n"),
         run_row(SET_ONE_KEY, 0, 2, ONE_KEY_SET),
@@ -107,6 +110,9 @@ fn rows() -> [Row; 12] {
         word_row(&["run", "p", "620"]),
         word_row(&["run", "p"]),
         word_row(&["run", "-x", "630"]),
+        word_row(&["run", "p", "630", "--polls", "0"]),
+        word_row(&["run", "p", "630", "--seed=1", "--seed=2"]),
+        word_row(&["gen", "3"]),
         word_row(&[]),
     ]
 }
@@ -279,7 +285,6 @@ fn words_stand_in_their_order(rt: HostRuntime) -> Result<(), Fail> {
     let args = args_of(rt.alloc(), &WORDS)?;
     assert!(rt; !args.is_empty());
     assert_eq!(rt; args.len(), 3);
-    assert_eq!(rt; args.prefix(), Some(b"p".as_slice()));
     assert!(rt; args.len() > 2 && args.get(2).as_str() == "630");
     Ok(())
 }

@@ -1,35 +1,61 @@
 //! Waits of a machine with three polls over the core.
 
-use crate::driving::drive;
-use crate::dumping::render;
-use client_core::Core;
-use dump_text::Order;
-use key_bytes::{Bytes, Pair, Pairs};
-use outside::ListWords;
-use stack_machine::Machine;
+use crate::running::run;
+use command_words::RunArgs;
+use key_bytes::{Bytes, Key, Pair, Pairs};
 use std::alloc::{AllocError, Global};
 use std::test::Fail;
 
-// Pairs with these values, and the empty key.
+// How the lines of instructions begin.
+const INSTRUCTION: &[u8] = b"K \\x01p\\x00";
+
+// The key of an instruction of the prefix `p`, of fewer than 256.
+fn key_of(alloc: Global, number: usize) -> Result<Key, AllocError> {
+    let mut key = Bytes::from_slice(alloc, b"\x01p\x00")?;
+    if number == 0 {
+        key.extend(b"\x14")?;
+    } else {
+        key.extend(&[0x15, u8::try_from(number).unwrap_or(0xff)])?;
+    }
+    Ok(key)
+}
+
+// The pairs of these instructions.
 fn pairs_of(alloc: Global, values: &[&[u8]]) -> Result<Pairs, AllocError> {
     let mut pairs = Pairs::new(alloc);
-    for value in values {
-        let key = Bytes::new(alloc);
+    for (number, value) in values.iter().enumerate() {
+        let key = key_of(alloc, number)?;
         let value = Bytes::from_slice(alloc, value)?;
         pairs.push(Pair { key, value })?;
     }
     Ok(pairs)
 }
 
-// The dump of a run of these instructions over an empty database.
+// A text without the lines of instructions.
+fn without_instructions(alloc: Global, text: &[u8]) -> Result<Vec<u8>, AllocError> {
+    let mut kept = Vec::new(alloc);
+    let mut line = Vec::new(alloc);
+    for byte in text {
+        line.push(*byte)?;
+        if *byte == b'\n' {
+            if !line.starts_with(INSTRUCTION) {
+                kept.extend_from_slice(&line)?;
+            }
+            line.clear();
+        }
+    }
+    Ok(kept)
+}
+
+// The dump of a run of these instructions alone, without their lines.
 fn dumped(alloc: Global, instructions: &[&[u8]]) -> Result<Vec<u8>, AllocError> {
-    let mut core = Core::load(alloc, Pairs::new(alloc))?;
-    let prefix = Bytes::from_slice(alloc, b"p")?;
-    let mut machine = Machine::new(alloc, 0, prefix, pairs_of(alloc, instructions)?, 3)?;
-    let mut order = Order::new(alloc);
-    let mut words = ListWords::new(alloc, &[])?;
-    drive(&mut core, &mut words, &mut machine, &mut order)?;
-    render(alloc, &machine, &order, &core)
+    let arguments = RunArgs {
+        prefix: Bytes::from_slice(alloc, b"p")?,
+        seed: 0,
+        polls: 3,
+    };
+    let rendered = run(alloc, &arguments, pairs_of(alloc, instructions)?)?;
+    without_instructions(alloc, &rendered.dump)
 }
 
 // Instructions, and the dump of their run.

@@ -1,32 +1,38 @@
 //! The top call.
 
-ghost use Rattle.std.specs.Prelude.{◌≡◌, ◌≢◌, ◌<◌, ◌≤◌, ◌⊎◌, ◌++◌, ℕ, List, [], None, Ok, codes, length, IfOk, IfErr, IfSome, IsErr};
+ghost use Rattle.std.specs.Prelude.{◌≡◌, ◌≢◌, ◌<◌, ◌≤◌, ◌⊎◌, ◌++◌, ℕ, List, [], None, Ok, codes, length, IfOk, IfErr, IfSome};
 ghost use Rattle.std.specs.Io.KnownBytes.{Appends, IsAtEnd};
 ghost use Rattle.outside.specs.Counts.{Rose};
 ghost use Rattle.outside.specs.Streams.{AppendsFront};
 ghost use Rattle.std.specs.List.{AllByRecursion};
 ghost use Rattle.line_rules.specs.Inputs.{IsSmall};
-ghost use Rattle.line_rules.specs.Reading.{pairs_of, input_limit};
-ghost use Rattle.tester_run.specs.Arguments.{prefix_in};
-ghost use Rattle.tester_run.specs.Outcomes.{usage, bad_input, read_fault, write_fault, out_of_memory, IsFinal, IsLegal, IsSilent, Finishes, BreaksOff};
-ghost use Rattle.tester_run.specs.Inputs.{IsRefusedBy, IsJudged, AreRead, IsReadOut, ReadsWithin};
-ghost use Rattle.tester_run.specs.Tellings.{IsTold, IsWritten, Refuses, Tells};
+ghost use Rattle.line_rules.specs.Reading.{input_limit};
+ghost use Rattle.command_rules.specs.Grammar.{args_of};
+ghost use Rattle.input_rules.specs.Forms.{input_of};
+ghost use Rattle.tester_run.specs.Arguments.{arguments_of, form_of};
+ghost use Rattle.tester_run.specs.Faults.{InputFault, HasFault, IsMisfit, order_in};
+ghost use Rattle.tester_run.specs.Outcomes.{usage, bad_input, read_fault, write_fault, out_of_memory, IsFinal, IsLawful, IsLegal, IsSilent, Finishes, BreaksOff};
+ghost use Rattle.tester_run.specs.Inputs.{IsRefusedBy, IsJudged, IsMade, IsRead, IsReadOut, ReadsWithin};
+ghost use Rattle.tester_run.specs.Rendered.{IsRendered};
+ghost use Rattle.tester_run.specs.Tellings.{IsTold, IsUnasked, IsWritten, Refuses, Tells};
 
-use crate::args::ArgWords;
+use crate::driving::shows_short;
+use crate::fault::OrderFault;
+use crate::replaying::replay;
 use crate::running::{Rendered, run};
-use crate::telling::{fault_line, tell};
-use dump_text::{LineFault, Order, read_lines};
+use crate::telling::{line_fault_line, order_fault_line, tell};
+use command_words::{ArgFault, ArgWords, Args, read_args};
+use dump_text::{Form, Input, LineFault, Order, read_lines};
 use history_laws::runs_are_legal;
-use key_bytes::Pairs;
-use outside::{Gate, Input, Sink, Source, read_all, write_all};
+use outside::{Gate, Input as Bytes, Sink, Source, read_all, write_all};
 use std::alloc::Global;
 use std::sync::Wait;
 use std::thread::Threads;
 
-/// The words are not the three that exist.
+/// The words are no command.
 const USAGE: u8 = 1;
 
-/// A line of the input is not a line of a pair, or passes a limit.
+/// A line of the input fits no rule or passes a limit, or the order of a replay can't be followed.
 const BAD_INPUT: u8 = 2;
 
 /// The source failed.
@@ -48,16 +54,18 @@ pub struct Outcome {
     pub order: Order,
 }
 
-// Why there is no run.
+// Why nothing is rendered.
 #[derive(Debug, Drop)]
 enum Refusal {
     Source,
     Line(LineFault),
+    Order(OrderFault),
     Memory,
 }
 
-/// Does all that the program does: judges the words after the program's name, reads the source to its end, runs
-/// machine 0 over the pairs that it read, and writes the dump to `out`. The clauses say what each status means.
+/// Does all that the program does: reads the words after the program's name and the source to its end, runs machine 0 over
+/// what it read, by turns or by the order that a replay is given, and writes the dump to `out`. The clauses say what each
+/// status means.
 pub fn tester<R: Threads + Wait + Sync, S: Source, K: Sink, N: Sink, G: Gate>(
     _rt: &R,
     alloc: Global,
@@ -67,55 +75,61 @@ pub fn tester<R: Threads + Wait + Sync, S: Source, K: Sink, N: Sink, G: Gate>(
     err: &mut N,
     _gate: &G,
 ) -> Outcome
-    // 1: the words are not the three that exist. Nothing was read.
-    ensures usage { result.status ≡ usage → prefix_in args.now ≡ None }
-    ensures words { prefix_in args.now ≡ None → (result.status ≡ usage) ⊎ (result.status ≡ out_of_memory) }
+    // 1: the words are no command. Nothing was read.
+    ensures usage { result.status ≡ usage → args_of args.now ≡ None }
+    ensures words { args_of args.now ≡ None → (result.status ≡ usage) ⊎ (result.status ≡ out_of_memory) }
     ensures unread { result.status ≡ usage → source.new ≡ source.old }
 
-    // 2: a line has a fault or passes a limit, where the source tells its bytes; it was read to its end or its limit.
-    ensures input { result.status ≡ bad_input → IfSome (S.left source.old) (λ bytes. IsErr (pairs_of bytes)) }
+    // 2: a line has a fault or passes a limit, or the order can't be followed, where the source tells its bytes; it was read
+    // to its end or its limit.
+    ensures input { result.status ≡ bad_input → IfSome (args_of args.now) (λ asked. IfSome (S.left source.old)
+        (λ bytes. (fault : InputFault) × HasFault asked bytes fault)) }
     ensures judged { result.status ≡ bad_input → IsReadOut (S.left source.old) (S.left source.new) }
 
     // 0 and 3: the dump of the complete run of the order was written, and the status is that of the run.
-    ensures finished { IsFinal result.status → IfSome (prefix_in args.now) (λ prefix.
-        Finishes (S.left source.old) prefix result.order result.status (K.written out.old) (K.written out.new)) }
+    ensures finished { IsFinal result.status → IfSome (args_of args.now) (λ asked.
+        Finishes (S.left source.old) asked result.order result.status (K.written out.old) (K.written out.new)) }
     ensures end { IsFinal result.status → IsAtEnd (S.left source.new) }
 
     // In that run each transaction committed with a version would get the same ordinary reads run whole at its commit, unless
     // a write with its conflict range switched off fell between.
-    ensures legal { IsFinal result.status → IfSome (prefix_in args.now) (λ prefix. IsLegal (S.left source.old) prefix result.order) }
+    ensures legal { IsFinal result.status → IfSome (args_of args.now) (λ asked. IsLegal asked result.order) }
 
     // 4 and 5: the source, or out, has counted a fault in this call.
     ensures read { result.status ≡ read_fault → Rose (S.faults source.old) (S.faults source.new) }
     ensures write { result.status ≡ write_fault → Rose (K.faults out.old) (K.faults out.new) }
-    ensures front { result.status ≡ write_fault → IfSome (prefix_in args.now) (λ prefix.
-        BreaksOff (S.left source.old) prefix result.order (K.written out.old) (K.written out.new)) }
+    ensures front { result.status ≡ write_fault → IfSome (args_of args.now) (λ asked.
+        BreaksOff (S.left source.old) asked result.order (K.written out.old) (K.written out.new)) }
 
     // 1, 2, 4 and 6: out is as it was, and there is no order. There is no other status.
     ensures untouched { IsSilent result.status → out.new ≡ out.old }
     ensures no_order { IsSilent result.status → result.order ≡ [] }
     ensures statuses { result.status ≤ out_of_memory }
 
+    // Where the words and the input are lawful and nothing fails, there is a dump, unless memory ran out.
+    ensures complete { IsLawful (args_of args.now) (S.left source.old) (S.faults source.old) (S.faults source.new)
+        (K.faults out.old) (K.faults out.new) → IsFinal result.status ⊎ (result.status ≡ out_of_memory) }
+
     // At each status: no more was read than the limit.
     ensures limit { result.status ≢ usage → ReadsWithin (S.left source.old) (S.left source.new) }
 
-    // 0 and 3: err is as it was. At each other status its line stands behind what err held, at 2 that of the first fault; a
-    // front of the line where err has counted a fault in this call.
+    // 0 and 3: err is as it was. At each other status its line stands behind what err held, at 2 that of the fault; a front of
+    // the line where err has counted a fault in this call.
     ensures quiet { IsFinal result.status → err.new ≡ err.old }
-    ensures told { Tells result.status (S.left source.old) (N.written err.old) (N.written err.new) (N.faults err.old) (N.faults err.new) }
+    ensures told { Tells (args_of args.now) result.status (S.left source.old) (N.written err.old) (N.written err.new)
+        (N.faults err.old) (N.faults err.new) }
 {
-    let Some(prefix) = args.prefix() else {
-        return without_order(alloc, err, USAGE, b"fdbtester: usage\n");
+    let asked = match read_args(alloc, args) {
+        Ok(asked) => asked,
+        Err(fault) => return without_command(alloc, err, fault),
     };
-    match read_pairs(alloc, source) {
+    match rendered(alloc, &asked, source) {
         Err(refusal) => refused(alloc, err, &refusal),
-        Ok(pairs) => match run(alloc, prefix, pairs) {
-            Err(_) => out_of_memory(alloc, err),
-            Ok(rendered) => {
-                runs_are_legal();
-                deliver(out, err, rendered)
-            }
-        },
+        Ok(rendered) => {
+            runs_are_legal();
+            shows_short(&rendered.order);
+            deliver(out, err, rendered)
+        }
     }
 }
 
@@ -138,6 +152,17 @@ fn out_of_memory<N: Sink>(alloc: Global, err: &mut N) -> Outcome
     without_order(alloc, err, OUT_OF_MEMORY, b"fdbtester: out of memory\n")
 }
 
+// Tells why the words are no command.
+fn without_command<N: Sink>(alloc: Global, err: &mut N, fault: ArgFault) -> Outcome
+    ensures order { result.order ≡ [] }
+    ensures told { IsUnasked fault result.status (N.written err.old) (N.written err.new) (N.faults err.old) (N.faults err.new) }
+{
+    match fault {
+        ArgFault::Usage => without_order(alloc, err, USAGE, b"fdbtester: usage\n"),
+        ArgFault::NoMemory => out_of_memory(alloc, err),
+    }
+}
+
 fn source_failed<N: Sink>(alloc: Global, err: &mut N) -> Outcome
     ensures ended { (result.status ≡ read_fault) × (result.order ≡ []) }
     ensures told { IsTold (codes "read fault") (N.written err.old) (N.written err.new) (N.faults err.old) (N.faults err.new) }
@@ -145,56 +170,97 @@ fn source_failed<N: Sink>(alloc: Global, err: &mut N) -> Outcome
     without_order(alloc, err, READ_FAULT, b"fdbtester: read fault\n")
 }
 
-// Tells why there is no run. Where there is no memory for the line of a fault, that is told.
+// Tells why nothing is rendered. Where there is no memory for the line of a fault, that is told.
 fn refused<N: Sink>(alloc: Global, err: &mut N, refusal: &Refusal) -> Outcome
     ensures order { result.order ≡ [] }
     ensures told { Refuses refusal.now result.status (N.written err.old) (N.written err.new) (N.faults err.old) (N.faults err.new) }
 {
-    match refusal {
-        Refusal::Source => source_failed(alloc, err),
-        Refusal::Memory => out_of_memory(alloc, err),
-        Refusal::Line(fault) => match fault_line(alloc, *fault) {
-            Ok(line) => without_order(alloc, err, BAD_INPUT, line.as_slice()),
-            Err(_) => out_of_memory(alloc, err),
+    let line = match refusal {
+        Refusal::Source => return source_failed(alloc, err),
+        Refusal::Memory => return out_of_memory(alloc, err),
+        Refusal::Line(fault) => line_fault_line(alloc, *fault),
+        Refusal::Order(fault) => order_fault_line(alloc, *fault),
+    };
+    match line {
+        Ok(line) => without_order(alloc, err, BAD_INPUT, line.as_slice()),
+        Err(_) => out_of_memory(alloc, err),
+    }
+}
+
+// What is asked, rendered over what the source's bytes say, or why there is nothing.
+fn rendered<S: Source>(alloc: Global, asked: &Args, source: &mut S) -> Result<Rendered, Refusal>
+    ensures made { IfOk result (IsMade asked.now (S.left source.old) (S.left source.new)) }
+    ensures refused { IfErr result (λ refusal. IsRefusedBy asked.now refusal (S.left source.old) (S.left source.new)
+        (S.faults source.old) (S.faults source.new)) }
+    ensures limit { ReadsWithin (S.left source.old) (S.left source.new) }
+{
+    match read_input(alloc, asked, source) {
+        Err(refusal) => Err(refusal),
+        Ok(input) => match make(alloc, asked, input) {
+            Ok(rendered) => Ok(rendered),
+            Err(OrderFault::NoMemory) => Err(Refusal::Memory),
+            Err(fault) => Err(Refusal::Order(fault)),
         },
     }
 }
 
-// The pairs of the source's bytes, which is read to its end, or why there are none.
-fn read_pairs<S: Source>(alloc: Global, source: &mut S) -> Result<Pairs, Refusal>
-    ensures found { IfOk result (AreRead (S.left source.old) (S.left source.new)) }
-    ensures refused { IfErr result (λ refusal. IsRefusedBy refusal (S.left source.old) (S.left source.new) (S.faults source.old) (S.faults source.new)) }
-    ensures limit { ReadsWithin (S.left source.old) (S.left source.new) }
+// What is asked, rendered over an input.
+fn make(alloc: Global, asked: &Args, input: Input) -> Result<Rendered, OrderFault>
+    ensures made { IfOk result (IsRendered asked.now input) }
+    ensures refused { IfErr result (λ fault. IsMisfit fault input.pairs (arguments_of asked.now) input.order) }
 {
-    match read_all(alloc, source, READ_LIMIT) {
-        Input::Whole(bytes) => judge(alloc, &bytes),
-        Input::Full(bytes) => Err(refuse(alloc, &bytes)),
-        Input::Failed => Err(Refusal::Source),
-        Input::NoMemory => Err(Refusal::Memory),
+    match asked {
+        Args::Run(arguments) => Ok(run(alloc, arguments, input.pairs)?),
+        Args::Replay(arguments) => replay(alloc, arguments, input),
     }
 }
 
-// The pairs that these bytes spell, or their first fault.
-fn judge(alloc: Global, bytes: &[u8]) -> Result<Pairs, Refusal>
-    ensures found { IfOk result (λ pairs. pairs_of bytes.now ≡ Ok pairs) }
-    ensures small { IfOk result (AllByRecursion IsSmall) }
-    ensures refused { IfErr result (λ refusal. IsJudged refusal (pairs_of bytes.now)) }
-    ensures past { IfErr result (λ refusal. (rest : List ℕ) → input_limit < length bytes.now
-        → IsJudged refusal (pairs_of (bytes.now ++ rest))) }
+// The form of the input of what is asked.
+fn form_of(asked: &Args) -> Form
+    ensures { result ≡ form_of asked.now }
 {
-    match read_lines(alloc, bytes) {
-        Ok(pairs) => Ok(pairs),
+    match asked {
+        Args::Run(_) => Form::Run,
+        Args::Replay(_) => Form::Replay,
+    }
+}
+
+// What the source's bytes say as the input of what is asked, which are read to their end, or why they say nothing.
+fn read_input<S: Source>(alloc: Global, asked: &Args, source: &mut S) -> Result<Input, Refusal>
+    ensures found { IfOk result (IsRead asked.now (S.left source.old) (S.left source.new)) }
+    ensures refused { IfErr result (λ refusal. IsRefusedBy asked.now refusal (S.left source.old) (S.left source.new)
+        (S.faults source.old) (S.faults source.new)) }
+    ensures limit { ReadsWithin (S.left source.old) (S.left source.new) }
+{
+    match read_all(alloc, source, READ_LIMIT) {
+        Bytes::Whole(bytes) => judge(alloc, asked, &bytes),
+        Bytes::Full(bytes) => Err(refuse(alloc, asked, &bytes)),
+        Bytes::Failed => Err(Refusal::Source),
+        Bytes::NoMemory => Err(Refusal::Memory),
+    }
+}
+
+// What these bytes say, or the first fault of their lines.
+fn judge(alloc: Global, asked: &Args, bytes: &[u8]) -> Result<Input, Refusal>
+    ensures found { IfOk result (λ input. input_of (form_of asked.now) bytes.now ≡ Ok input) }
+    ensures small { IfOk result (λ input. AllByRecursion IsSmall input.pairs) }
+    ensures refused { IfErr result (λ refusal. IsJudged asked.now refusal bytes.now) }
+    ensures past { IfErr result (λ refusal. (rest : List ℕ) → input_limit < length bytes.now
+        → IsJudged asked.now refusal (bytes.now ++ rest)) }
+{
+    match read_lines(alloc, form_of(asked), bytes) {
+        Ok(input) => Ok(input),
         Err(LineFault::NoMemory) => Err(Refusal::Memory),
         Err(fault) => Err(Refusal::Line(fault)),
     }
 }
 
 // The first fault of bytes that are more than an input may have. It is that of all that may stand behind them.
-fn refuse(alloc: Global, bytes: &[u8]) -> Refusal
+fn refuse(alloc: Global, asked: &Args, bytes: &[u8]) -> Refusal
     requires { input_limit < length bytes.now }
-    ensures { (rest : List ℕ) → IsJudged result (pairs_of (bytes.now ++ rest)) }
+    ensures { (rest : List ℕ) → IsJudged asked.now result (bytes.now ++ rest) }
 {
-    match judge(alloc, bytes) {
+    match judge(alloc, asked, bytes) {
         Ok(_) => unreachable!(),
         Err(refusal) => refusal,
     }

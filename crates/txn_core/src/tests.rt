@@ -85,7 +85,12 @@ fn tell(answer: &Answer) -> Told<'_> {
         Reply::Life(life) => Told::Life(*life),
         Reply::Fault(code) => Told::Fault(code.0),
         // no call of a transaction answers these
-        Reply::Stamp(_) | Reply::NotYet | Reply::NoMemory => Told::NoMemory,
+        Reply::Stamp(_)
+        | Reply::NotYet
+        | Reply::Empty
+        | Reply::Started { .. }
+        | Reply::NoMachine
+        | Reply::NoMemory => Told::NoMemory,
     }
 }
 

@@ -45,6 +45,8 @@ pub enum Ask {
     Snapshot(&'static [u8], Say),
     Database(Say),
     Poll(u64),
+    Start(&'static [u8]),
+    Empty(&'static [u8]),
     Log(&'static [u8], &'static [Loaded]),
     LongLog(usize, usize, usize),
     FullLog(&'static [u8], usize),
@@ -289,6 +291,12 @@ pub fn request_of(alloc: Global, ask: Ask) -> Result<Request, AllocError> {
             call: call_of(alloc, say, false)?,
         }),
         Ask::Poll(life) => Ok(Request::PollStamp { life }),
+        Ask::Start(prefix) => Ok(Request::Start {
+            prefix: bytes_of(alloc, prefix)?,
+        }),
+        Ask::Empty(prefix) => Ok(Request::PollEmpty {
+            prefix: bytes_of(alloc, prefix)?,
+        }),
         Ask::Log(prefix, entries) => log_of(alloc, prefix, pairs_of(alloc, entries)?),
         Ask::LongLog(prefix, key, value) => long_log(alloc, prefix, key, value),
         Ask::FullLog(prefix, count) => log_of(alloc, prefix, full_entries(alloc, count)?),

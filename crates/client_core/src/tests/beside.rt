@@ -39,6 +39,16 @@ fn are_same(one: &Reply, other: &Reply) -> bool {
         (Reply::PairsAre(pairs), Reply::PairsAre(others)) => {
             are_same_pairs(pairs.as_slice(), others.as_slice())
         }
+        (
+            Reply::Started {
+                machine,
+                instructions,
+            },
+            Reply::Started {
+                machine: number,
+                instructions: others,
+            },
+        ) => machine == number && are_same_pairs(instructions.as_slice(), others.as_slice()),
         _ => tell(one) == tell(other),
     }
 }
@@ -54,6 +64,8 @@ struct Answers {
     lives: usize,
     stamps: usize,
     undecided: usize,
+    machines: usize,
+    emptied: usize,
     // how many commits rested on a key and were let through beside a commit after their version
     passed: usize,
 }
@@ -70,6 +82,8 @@ impl Answers {
             Reply::Version(1..) => self.versions = self.versions.saturating_add(1),
             Reply::Life(1..) => self.lives = self.lives.saturating_add(1),
             Reply::Stamp(_) => self.stamps = self.stamps.saturating_add(1),
+            Reply::Started { .. } => self.machines = self.machines.saturating_add(1),
+            Reply::Empty => self.emptied = self.emptied.saturating_add(1),
             Reply::NotYet => self.undecided = self.undecided.saturating_add(1),
             _ => {}
         }
@@ -175,6 +189,8 @@ fn compared(alloc: Global) -> Result<(Option<(usize, usize)>, Answers), AllocErr
         lives: 0,
         stamps: 0,
         undecided: 0,
+        machines: 0,
+        emptied: 0,
         passed: 0,
     };
     for list in 0..LISTS {
@@ -208,5 +224,6 @@ fn is_the_plain_program(rt: HostRuntime) -> Result<(), Fail> {
     assert!(rt; answers.values > 0 && answers.keys > 0 && answers.pairs > 0);
     assert!(rt; answers.versions > 0 && answers.lives > 0 && answers.passed > 0);
     assert!(rt; answers.stamps > 0 && answers.undecided > 0);
+    assert!(rt; answers.machines > 0 && answers.emptied > 0);
     Ok(())
 }

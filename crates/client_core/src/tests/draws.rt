@@ -336,7 +336,9 @@ impl Draws {
             6..=25 => Ask::Database(self.say()),
             26..=31 => Ask::Log(self.pick(PREFIXES), self.pairs(ENTRIES)),
             32 => self.long_log(),
-            33..=48 => Ask::Poll(self.below(12)),
+            33..=46 => Ask::Poll(self.below(12)),
+            47 => Ask::Start(self.pick(PREFIXES)),
+            48 => Ask::Empty(self.pick(PREFIXES)),
             _ => self.on(name),
         }
     }

@@ -4,6 +4,7 @@
 use super::plain_fates::{Fate, Fates};
 use super::plain_keys::{Span, alphabet, has_any};
 use super::plain_lives::{Life, Stage};
+use super::plain_machines::{started, watched};
 use super::plain_reads::answer;
 use super::plain_rests::{interval, is_by_snapshot};
 use super::plain_writes::{is_end_outside, is_outside, stamp_of, write_code, write_of};
@@ -23,6 +24,8 @@ pub struct Plain {
     declared: Vec<Vec<Span>>,
     lives: KeyMap<Life>,
     fates: Fates,
+    // how many machines were started
+    machines: usize,
     // how many commits rested on a key and were let through beside a commit after their version
     passed: usize,
 }
@@ -121,6 +124,7 @@ impl Plain {
             declared: first_declared(alloc)?,
             lives: KeyMap::new(alloc),
             fates: Fates::new(alloc),
+            machines: 1,
             passed: 0,
         })
     }
@@ -208,6 +212,14 @@ impl Plain {
                 self.and_commit(&mut life, reply)
             }
             Request::PollStamp { life } => Ok(self.fates.poll(*life)),
+            Request::PollEmpty { prefix } => match self.maps.last() {
+                Some(map) => watched(map, prefix),
+                None => Ok(Reply::Empty),
+            },
+            Request::Start { prefix } => match self.maps.last() {
+                Some(map) => started(self.alloc, &mut self.machines, map, prefix),
+                None => Ok(Reply::NoMachine),
+            },
         }
     }
 

@@ -2,7 +2,7 @@ use Rattle.std.proofs.Common.{◌≡◌, ◌∙◌, Option, Some, None, MatchRes
 use Rattle.clap.specs.Simple.{app_of, subcommand_rows_of}
 use Rattle.command_words.specs.declared.fault.ArgFault.TheVariants.{Usage}
 use Rattle.command_rules.specs.declared.args.Args.{Args}
-use Rattle.command_rules.proofs.Calling.{found_words, refused_words}
+use Rattle.command_laws.proofs.Calling.{found_words, refused_words}
 use Rattle.command_words.proofs.reading.read_args.Goals as goal
 
 pub returns-in-Ok : goal.returns-in-Ok

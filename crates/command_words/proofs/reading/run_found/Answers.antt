@@ -1,6 +1,6 @@
 use Rattle.std.proofs.Common.{◌∙◌, ℕ, List, Option, Some, option_map, Bor, ap, sym}
 use Rattle.clap.specs.Matches.{found_of}
-use Rattle.command_rules.proofs.Calling.{with_all, without_polls, without_prefix, without_seed}
+use Rattle.command_laws.proofs.Calling.{with_all, without_polls, without_prefix, without_seed}
 use Rattle.command_words.proofs.reading.run_found.Goals as goal
 
 abbrev text : Option (Bor (List ℕ)) → Option (List ℕ)

@@ -1,13 +1,12 @@
 use Rattle.tester_run.proofs.driving.drive.Goals as goal
 
-pub returns-in-Stopped-clause-goes_on : goal.returns-in-Stopped-clause-goes_on
-returns-in-Stopped-clause-goes_on g c =
-    λ pairs prefix leads. c.in_ok-turn.ensures.goes_on pairs prefix (c.loop.invariant.goes_on pairs prefix leads)
+pub returns-then-eq-clause-goes_on : goal.returns-then-eq-clause-goes_on
+returns-then-eq-clause-goes_on g c = λ pairs arguments led.
+    c.in_ok-run_until_started.ensures.goes_on pairs arguments (c.loop.invariant.goes_on pairs arguments led)
 
 pub loop-preserved : goal.loop-preserved
 loop-preserved g c = record {
-  goes_on = λ pairs prefix leads. c.in_ok-turn.ensures.goes_on pairs prefix (c.loop.invariant.goes_on pairs prefix leads);
-  ready = c.in_ok-turn.ensures.ready;
-  silent = c.in_ok-turn.ensures.silent;
-  counted = c.in_ok-turn.ensures.counted;
+  goes_on = λ pairs arguments led.
+      c.in_ok-run_until_started.ensures.goes_on pairs arguments (c.loop.invariant.goes_on pairs arguments led);
+  going = c.in_ok-run_until_started.ensures.going;
 }

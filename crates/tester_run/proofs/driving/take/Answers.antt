@@ -1,31 +1,102 @@
-use Rattle.std.proofs.Common.{sym, ◌∙◌, true≢false}
-use Rattle.tester_run.specs.Driving.{with_asked, Takes}
-use Rattle.tester_run.proofs.Leading.{taken_goes_on, taken_item, taken_used}
+use Rattle.std.proofs.Common.{◌≡◌, ◌++◌, [], ◌∷◌, List, Some, Option, refl, sym, ap, subst, ◌∙◌, true≢false}
+use Rattle.std.specs.Prelude.{IfSome, map, option_and_then, option_to_list, slice_get, slice_set}
+use Rattle.std.proofs.lemmas.List.{append-nil, map-append}
+use Rattle.std.proofs.lemmas.Option.{same_Some}
+use Rattle.machine_rules.specs.Machines.{Progress}
+use Rattle.client_core.specs.Stands.{HasStarted}
+use Rattle.machine_rules.specs.Runs.{started_by}
+use Rattle.tester_run.specs.declared.driving.Moved.{Moved}
+use Rattle.tester_run.specs.declared.seat.Seat.{Seat}
+use Rattle.tester_run.specs.Driving.{progress_of, HasMoved, IsGoing, IsSeated}
+use Rattle.tester_run.proofs.Seats.{asks_there, get_within, nearer_moved}
+use Rattle.tester_run.proofs.Leading.{going_more, going_on, taken_goes_on, takes_by}
 use Rattle.tester_run.proofs.driving.take.Goals as goal
 
-pub returns-clause-goes_on : goal.returns-clause-goes_on
-returns-clause-goes_on g c =
-    let machine = c.args.machine.now.machine in
-    let words_after = g.W.Words.words c.apply-reply.new._words in
-    let after = with_asked c.step.new.self.machine c.asked_by.result in
-    let takes : Takes c.args.core.now (g.W.Words.words c.args.words.now) machine c.args.order.now c.args.request.now
-    c.apply-reply.new.self words_after after c.push.new.self = record {
-      given = c.apply-reply.result;
-      is_given = λ e. true≢false (sym (c.is_no_memory.ensures.1 e) ∙ c.if-is_no_memory.false);
-      awaits = c.requires.awaits;
-      answers = c.apply-reply.ensures.step;
-      progress_is = (taken_used c.args.machine.now c.step.new.self c.apply-reply.result c.in_ok-step.field-0 c.asked_by.result
-          c.in_ok-step.ensures.ok (sym c.asked_by.ensures) c.requires.awaits c.requires.item).0;
-      order_is = c.in_ok-push.ensures.ok;
-    } in
-    taken_goes_on c.args.core.now c.apply-reply.new.self (g.W.Words.words c.args.words.now) words_after machine after c.args.order.now
-    c.push.new.self c.args.request.now takes
+pub use_reply-requires-clause-seated : goal.use_reply-requires-clause-seated
+use_reply-requires-clause-seated g c =
+    c.requires.going.seated c.args.number c.index_mut.result.now
+    (get_within c.args.seats.now.items c.args.number c.index_mut.result.now c.requires.within ∙ ap Some (sym c.index_mut.ensures.value))
 
-pub returns-clause-used : goal.returns-clause-used
-returns-clause-used g c =
-    (taken_used c.args.machine.now c.step.new.self c.apply-reply.result c.in_ok-step.field-0 c.asked_by.result c.in_ok-step.ensures.ok
-    (sym c.asked_by.ensures) c.requires.awaits c.requires.item).1
+pub use_reply-requires-clause-asks : goal.use_reply-requires-clause-asks
+use_reply-requires-clause-asks g c =
+    asks_there c.args.seats.now.items c.args.number c.index_mut.result.now
+    (get_within c.args.seats.now.items c.args.number c.index_mut.result.now c.requires.within ∙ ap Some (sym c.index_mut.ensures.value))
+    c.requires.asks
 
-pub returns-clause-item : goal.returns-clause-item
-returns-clause-item g c =
-    taken_item c.args.machine.now c.step.new.self c.apply-reply.result c.in_ok-step.field-0 c.in_ok-step.ensures.ok c.requires.item
+pub returns-in-None-clause-going : goal.returns-in-None-clause-going
+returns-in-None-clause-going g c =
+    let none : started_by c.in_ok-prefix.prefix c.polls-polls.result c.apply-reply.result ≡ [] =
+    sym c.in_ok-seat_started.ensures.started ∙ ap (λ (seat : Option Seat). map progress_of (option_to_list seat)) c.in-None.is in
+    going_on c.args.core.now c.apply-reply.new.self c.args.seats.now.items c.args.order.now c.push.new.self c.args.number c.use_reply.new.self
+    c.in_ok-prefix.prefix c.polls-polls.result c.apply-reply.result c.requires.going c.in_ok-asks_on.ensures.seated c.apply-reply.ensures.applied
+    c.in_ok-push.ensures.ok none (λ e. true≢false (sym (c.is_no_memory.ensures.1 e) ∙ c.if-is_no_memory.false))
+    (subst (λ prefix. HasStarted prefix c.apply-reply.result c.args.core.now.started c.apply-reply.new.self.started)
+    (sym c.in_ok-prefix.ensures) c.apply-reply.ensures.started)
+
+pub returns-in-None-clause-moved : goal.returns-in-None-clause-moved
+returns-in-None-clause-moved g c =
+    let seats = c.args.seats.now.items in
+    let asked = c.index_mut.result.now in
+    let here : slice_get seats c.args.number ≡ Some asked =
+    get_within seats c.args.number asked c.requires.within ∙ ap Some (sym c.index_mut.ensures.value) in
+    subst (λ (moved : Moved). HasMoved moved seats (slice_set seats c.args.number c.use_reply.new.self)) (sym c.moved_by.ensures)
+    (nearer_moved c.in_ok-asks_on.asks_on seats c.args.number asked c.use_reply.new.self here c.in_ok-asks_on.ensures.nearer)
+
+pub returns-in-None-clause-goes_on : goal.returns-in-None-clause-goes_on
+returns-in-None-clause-goes_on g c =
+    let seats = c.args.seats.now.items in
+    let asked = c.index_mut.result.now in
+    let here : slice_get seats c.args.number ≡ Some asked =
+    get_within seats c.args.number asked c.requires.within ∙ ap Some (sym c.index_mut.ensures.value) in
+    let polls_are : c.polls-polls.result ≡ asked.machine.machine.polls =
+    c.polls-polls.ensures ∙ ap (λ (seat : Seat). seat.machine.machine.polls) (same_Some c.index.result.now asked
+    (sym (get_within seats c.args.number c.index.result.now c.requires.within ∙ ap Some (sym c.index.ensures)) ∙ here)) in
+    let none : started_by c.in_ok-prefix.prefix c.polls-polls.result c.apply-reply.result ≡ [] =
+    sym c.in_ok-seat_started.ensures.started ∙ ap (λ (seat : Option Seat). map progress_of (option_to_list seat)) c.in-None.is in
+    taken_goes_on c.args.core.now c.apply-reply.new.self _ _ seats (slice_set seats c.args.number c.use_reply.new.self) c.args.order.now
+    c.push.new.self c.args.number
+    (takes_by c.args.core.now c.apply-reply.new.self _ _ seats (slice_set seats c.args.number c.use_reply.new.self) c.args.order.now
+    c.push.new.self c.args.number asked c.use_reply.new.self c.request_at-request.result.now c.in_ok-prefix.prefix c.polls-polls.result
+    c.apply-reply.result here
+    (ap (λ (all : List Seat). option_and_then (λ (seat : Seat). seat.asks) (slice_get all c.args.number)) (sym c.deref.ensures.value)
+    ∙ c.request_at-request.ensures) polls_are (λ e. true≢false (sym (c.is_no_memory.ensures.1 e) ∙ c.if-is_no_memory.false)) c.apply-reply.ensures.step
+    c.in_ok-asks_on.ensures.rests c.in_ok-prefix.ensures
+    (sym (append-nil (map progress_of (slice_set seats c.args.number c.use_reply.new.self)))
+    ∙ ap (λ (more : List Progress). map progress_of (slice_set seats c.args.number c.use_reply.new.self) ++ more) (sym none))
+    c.in_ok-push.ensures.ok)
+
+pub returns-in_ok-push-in-Some-clause-going : goal.returns-in_ok-push-in-Some-clause-going
+returns-in_ok-push-in-Some-clause-going g c =
+    let one : progress_of c.in-Some.seat ∷ [] ≡ started_by c.in_ok-prefix.prefix c.polls-polls.result c.apply-reply.result =
+    sym (ap (λ (seat : Option Seat). map progress_of (option_to_list seat)) c.in-Some.is) ∙ c.in_ok-seat_started.ensures.started in
+    subst (λ (seats : List Seat). IsGoing c.apply-reply.new.self seats c.push.new.self) (sym c.in_ok-push-in-Some.ensures.items)
+    (going_more c.args.core.now c.apply-reply.new.self c.args.seats.now.items c.args.order.now c.push.new.self c.args.number
+    c.use_reply.new.self c.in-Some.seat c.in_ok-prefix.prefix c.polls-polls.result c.apply-reply.result c.requires.going
+    c.in_ok-asks_on.ensures.seated
+    (subst (λ (seat : Option Seat). IfSome seat IsSeated) c.in-Some.is c.in_ok-seat_started.ensures.seated) c.apply-reply.ensures.applied c.in_ok-push.ensures.ok one
+    (subst (λ prefix. HasStarted prefix c.apply-reply.result c.args.core.now.started c.apply-reply.new.self.started)
+    (sym c.in_ok-prefix.ensures) c.apply-reply.ensures.started))
+
+pub returns-in_ok-push-in-Some-clause-goes_on : goal.returns-in_ok-push-in-Some-clause-goes_on
+returns-in_ok-push-in-Some-clause-goes_on g c =
+    let seats = c.args.seats.now.items in
+    let asked = c.index_mut.result.now in
+    let here : slice_get seats c.args.number ≡ Some asked =
+    get_within seats c.args.number asked c.requires.within ∙ ap Some (sym c.index_mut.ensures.value) in
+    let polls_are : c.polls-polls.result ≡ asked.machine.machine.polls =
+    c.polls-polls.ensures ∙ ap (λ (seat : Seat). seat.machine.machine.polls) (same_Some c.index.result.now asked
+    (sym (get_within seats c.args.number c.index.result.now c.requires.within ∙ ap Some (sym c.index.ensures)) ∙ here)) in
+    let one : progress_of c.in-Some.seat ∷ [] ≡ started_by c.in_ok-prefix.prefix c.polls-polls.result c.apply-reply.result =
+    sym (ap (λ (seat : Option Seat). map progress_of (option_to_list seat)) c.in-Some.is) ∙ c.in_ok-seat_started.ensures.started in
+    let used = slice_set seats c.args.number c.use_reply.new.self in
+    taken_goes_on c.args.core.now c.apply-reply.new.self _ _ seats c.push-in-Some.new.self.items c.args.order.now
+    c.push.new.self c.args.number
+    (takes_by c.args.core.now c.apply-reply.new.self _ _ seats c.push-in-Some.new.self.items c.args.order.now
+    c.push.new.self c.args.number asked c.use_reply.new.self c.request_at-request.result.now c.in_ok-prefix.prefix c.polls-polls.result
+    c.apply-reply.result here
+    (ap (λ (all : List Seat). option_and_then (λ (seat : Seat). seat.asks) (slice_get all c.args.number)) (sym c.deref.ensures.value)
+    ∙ c.request_at-request.ensures) polls_are (λ e. true≢false (sym (c.is_no_memory.ensures.1 e) ∙ c.if-is_no_memory.false)) c.apply-reply.ensures.step
+    c.in_ok-asks_on.ensures.rests c.in_ok-prefix.ensures
+    (ap (map progress_of) c.in_ok-push-in-Some.ensures.items ∙ map-append progress_of used (c.in-Some.seat ∷ [])
+    ∙ ap (λ (more : List Progress). map progress_of used ++ more) one)
+    c.in_ok-push.ensures.ok)

@@ -1,20 +1,42 @@
-use Rattle.tester_run.proofs.Tellings.{refused_by}
-use Rattle.tester_run.proofs.Tops.{delivered, broken_off, kept_legal}
+use Rattle.std.proofs.Common.{ℕ, List, Option, inl, inr, subst, sym}
+use Rattle.std.specs.Prelude.{IfSome}
+use Rattle.command_rules.specs.declared.args.Args.{Args}
+use Rattle.tester_run.specs.Faults.{InputFault, HasFault}
+use Rattle.tester_run.proofs.Tellings.{refused_by, refused_short, told_by_words}
+use Rattle.tester_run.proofs.Tops.{delivered, delivered_lawful, broken_off, made_final}
 use Rattle.tester_run.proofs.top.tester.Goals as goal
 
-pub returns-in-Ok-run-clause-finished : goal.returns-in-Ok-run-clause-finished
-returns-in-Ok-run-clause-finished g c =
-    λ final. delivered _ c.in-Some.prefix.now _ _ _ _ c.in-Ok.pairs c.in-Ok-run.rendered _ _ c.in-Some.ensures c.in-Ok.ensures.found c.in-Ok-run.ensures.renders c.deliver.ensures.order c.deliver.ensures.status c.deliver.ensures.written final
+pub returns-in-Err-rendered-clause-input : goal.returns-in-Err-rendered-clause-input
+returns-in-Err-rendered-clause-input g c = λ bad.
+    let refused = refused_by c.in-Ok.asked c.in-Err-rendered.refusal c.refused.result.status _ _ _ _ _ _ _ _ c.in-Err-rendered.ensures.refused
+    c.refused.ensures.told in
+    subst (λ (words : Option Args). IfSome words (λ asked. IfSome (g.S.Source.left c.args.source.now)
+    (λ bytes. (fault : InputFault) × HasFault asked bytes fault)))
+    (sym c.in-Ok.ensures) (refused.input bad)
 
-pub returns-in-Ok-run-clause-front : goal.returns-in-Ok-run-clause-front
-returns-in-Ok-run-clause-front g c =
-    λ failed. broken_off _ c.in-Some.prefix.now _ _ _ _ c.in-Ok.pairs c.in-Ok-run.rendered _ c.in-Some.ensures c.in-Ok.ensures.found c.in-Ok-run.ensures.renders c.deliver.ensures.order (c.deliver.ensures.front failed)
+pub returns-in-Err-rendered-clause-complete : goal.returns-in-Err-rendered-clause-complete
+returns-in-Err-rendered-clause-complete g c = λ lawful.
+    let refused = refused_by c.in-Ok.asked c.in-Err-rendered.refusal c.refused.result.status _ _ _ _ _ _ _ _ c.in-Err-rendered.ensures.refused
+    c.refused.ensures.told in
+    inr (refused_short _ c.in-Ok.asked c.refused.result.status _ _ _ _ _ _ _ _ _ _ c.in-Ok.ensures refused lawful)
 
-pub returns-in-Ok-run-clause-legal : goal.returns-in-Ok-run-clause-legal
-returns-in-Ok-run-clause-legal g c =
-    λ final. kept_legal _ c.in-Some.prefix.now _ c.in-Ok-run.rendered _ c.in-Some.ensures c.deliver.ensures.order c.in-Ok-run.ensures.short
-    c.runs_are_legal.ensures
+pub returns-in-Err-rendered-clause-told : goal.returns-in-Err-rendered-clause-told
+returns-in-Err-rendered-clause-told g c =
+    let refused = refused_by c.in-Ok.asked c.in-Err-rendered.refusal c.refused.result.status _ _ _ _ _ _ _ _ c.in-Err-rendered.ensures.refused
+    c.refused.ensures.told in
+    told_by_words _ c.in-Ok.asked c.refused.result.status _ _ _ _ _ c.in-Ok.ensures refused.tells
 
-pub returns-in-Err-clause-told : goal.returns-in-Err-clause-told
-returns-in-Err-clause-told g c =
-    (refused_by c.in-Err.refusal c.refused.result.status _ _ _ _ _ _ _ _ c.in-Err.ensures.refused c.refused.ensures.told).tells
+pub returns-clause-finished : goal.returns-clause-finished
+returns-clause-finished g c = λ final.
+    delivered _ c.in-Ok.asked _ _ _ _ c.in-Ok-rendered.rendered c.deliver.result.order c.deliver.result.status c.in-Ok.ensures
+    c.in-Ok-rendered.ensures.made c.deliver.ensures.order c.deliver.ensures.status c.deliver.ensures.written final
+
+pub returns-clause-front : goal.returns-clause-front
+returns-clause-front g c = λ failed.
+    broken_off _ c.in-Ok.asked _ _ _ _ c.in-Ok-rendered.rendered c.deliver.result.order c.in-Ok.ensures c.in-Ok-rendered.ensures.made
+    c.deliver.ensures.order (c.deliver.ensures.front failed)
+
+pub returns-clause-complete : goal.returns-clause-complete
+returns-clause-complete g c = λ lawful.
+    inl (delivered_lawful _ _ c.in-Ok-rendered.rendered.status c.deliver.result.status _ _ _ _
+    (made_final c.in-Ok.asked _ _ c.in-Ok-rendered.rendered c.in-Ok-rendered.ensures.made) c.deliver.ensures.status c.deliver.ensures.cause lawful)

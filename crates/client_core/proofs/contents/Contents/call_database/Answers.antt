@@ -4,14 +4,14 @@ use Rattle.machine_rules.specs.Worlds.{World, fresh_at_last, next_life, called_a
 use Rattle.fdb_calls.specs.Calling.{called}
 use Rattle.client_core.specs.Contents.{model_of}
 use Rattle.client_core.specs.Lives.{drawn_in}
-use Rattle.client_core.specs.Stands.{StandsFor}
+use Rattle.client_core.specs.Stands.{KeepsWorld}
 use Rattle.client_core.specs.Sound.{TookApart}
 use Rattle.client_core.proofs.Databases.{few_between}
 use Rattle.client_core.proofs.contents.Contents.call_database.Goals as goal
 use Rattle.client_core.proofs.contents.Contents.call_database.Goals.{In_ok-reply}
 
 -- what the first call left, in each world for which the core stood
-first_call_took : (c : In_ok-reply) (world : World) → StandsFor (model_of c.args.self.now) world
+first_call_took : (c : In_ok-reply) (world : World) → KeepsWorld (model_of c.args.self.now) world
     → TookApart c.in_ok-reply.reply c.call_apart.new.transaction (model_of c.call_apart.new.self) (drawn_in world) (fresh_at_last world)
     (called (drawn_in world).setting (next_life (drawn_in world)) (fresh_at_last world) c.args.call.now)
 first_call_took c world stands =

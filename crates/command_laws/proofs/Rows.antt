@@ -1,0 +1,134 @@
+-- The grammar, computed on command lines.
+use Rattle.std.proofs.Common.{◌≡◌, [], ◌∷◌, Some, None, replicate, codes, refl, true}
+use Rattle.clap.specs.Words.{is_simple_and_free}
+use Rattle.command_rules.specs.Grammar.{args_of}
+use Rattle.command_laws.specs.Program.{program}
+use Rattle.command_rules.specs.declared.args.Args.TheVariants.{Run, Replay}
+
+run_plain : args_of (codes "run" ∷ codes "t" ∷ codes "630" ∷ []) ≡ Some (Run (record { prefix = codes "t"; seed = 0; polls = 10000 }))
+run_plain = refl
+
+replay_plain : args_of (codes "replay" ∷ codes "t" ∷ codes "630" ∷ []) ≡ Some (Replay (record { prefix = codes "t"; seed = 0; polls = 10000 }))
+replay_plain = refl
+
+options_joined : args_of (codes "run" ∷ codes "--seed=7" ∷ codes "t" ∷ codes "--polls=1" ∷ codes "630" ∷ []) ≡ Some (Run (record { prefix = codes "t"; seed = 7; polls = 1 }))
+options_joined = refl
+
+options_apart : args_of (codes "replay" ∷ codes "t" ∷ codes "630" ∷ codes "--polls" ∷ codes "100000" ∷ codes "--seed" ∷ codes "18446744073709551615" ∷ []) ≡ Some (Replay (record { prefix = codes "t"; seed = 18446744073709551615; polls = 100000 }))
+options_apart = refl
+
+hyphen_alone_is_a_prefix : args_of (codes "run" ∷ codes "-" ∷ codes "630" ∷ []) ≡ Some (Run (record { prefix = codes "-"; seed = 0; polls = 10000 }))
+hyphen_alone_is_a_prefix = refl
+
+empty_prefix : args_of (codes "run" ∷ codes "" ∷ codes "630" ∷ []) ≡ Some (Run (record { prefix = codes ""; seed = 0; polls = 10000 }))
+empty_prefix = refl
+
+separator_is_dropped : args_of (codes "run" ∷ codes "--seed" ∷ codes "0" ∷ codes "--" ∷ codes "t" ∷ codes "630" ∷ []) ≡ Some (Run (record { prefix = codes "t"; seed = 0; polls = 10000 }))
+separator_is_dropped = refl
+
+behind_the_separator_words_are_positional : args_of (codes "run" ∷ codes "--" ∷ codes "--seed=1" ∷ codes "630" ∷ []) ≡ Some (Run (record { prefix = codes "--seed=1"; seed = 0; polls = 10000 }))
+behind_the_separator_words_are_positional = refl
+
+second_separator_is_positional : args_of (codes "run" ∷ codes "--" ∷ codes "--" ∷ codes "630" ∷ []) ≡ Some (Run (record { prefix = codes "--"; seed = 0; polls = 10000 }))
+second_separator_is_positional = refl
+
+separator_last : args_of (codes "run" ∷ codes "t" ∷ codes "630" ∷ codes "--" ∷ []) ≡ Some (Run (record { prefix = codes "t"; seed = 0; polls = 10000 }))
+separator_last = refl
+
+no_words : args_of ([]) ≡ None
+no_words = refl
+
+no_command : args_of (codes "--" ∷ []) ≡ None
+no_command = refl
+
+unknown_command : args_of (codes "start" ∷ codes "t" ∷ codes "630" ∷ []) ≡ None
+unknown_command = refl
+
+gen_is_no_command_yet : args_of (codes "gen" ∷ codes "5" ∷ []) ≡ None
+gen_is_no_command_yet = refl
+
+command_behind_the_separator : args_of (codes "--" ∷ codes "run" ∷ codes "t" ∷ codes "630" ∷ []) ≡ None
+command_behind_the_separator = refl
+
+option_before_the_command : args_of (codes "--seed=1" ∷ codes "run" ∷ codes "t" ∷ codes "630" ∷ []) ≡ None
+option_before_the_command = refl
+
+no_places : args_of (codes "run" ∷ []) ≡ None
+no_places = refl
+
+no_api : args_of (codes "run" ∷ codes "t" ∷ []) ≡ None
+no_api = refl
+
+other_api : args_of (codes "run" ∷ codes "t" ∷ codes "500" ∷ []) ≡ None
+other_api = refl
+
+third_place : args_of (codes "run" ∷ codes "t" ∷ codes "630" ∷ codes "x" ∷ []) ≡ None
+third_place = refl
+
+unknown_option : args_of (codes "run" ∷ codes "t" ∷ codes "630" ∷ codes "--window=1" ∷ []) ≡ None
+unknown_option = refl
+
+beginning_of_an_option : args_of (codes "run" ∷ codes "t" ∷ codes "630" ∷ codes "--see=1" ∷ []) ≡ None
+beginning_of_an_option = refl
+
+longer_than_an_option : args_of (codes "run" ∷ codes "t" ∷ codes "630" ∷ codes "--seeds=1" ∷ []) ≡ None
+longer_than_an_option = refl
+
+short_option : args_of (codes "run" ∷ codes "t" ∷ codes "630" ∷ codes "-s" ∷ []) ≡ None
+short_option = refl
+
+help : args_of (codes "run" ∷ codes "--help" ∷ []) ≡ None
+help = refl
+
+help_word : args_of (codes "help" ∷ []) ≡ None
+help_word = refl
+
+version : args_of (codes "--version" ∷ []) ≡ None
+version = refl
+
+twice : args_of (codes "run" ∷ codes "--seed=1" ∷ codes "t" ∷ codes "630" ∷ codes "--seed" ∷ codes "1" ∷ []) ≡ None
+twice = refl
+
+value_missing : args_of (codes "run" ∷ codes "t" ∷ codes "630" ∷ codes "--polls" ∷ []) ≡ None
+value_missing = refl
+
+value_is_the_separator : args_of (codes "run" ∷ codes "t" ∷ codes "630" ∷ codes "--polls" ∷ codes "--" ∷ codes "1" ∷ []) ≡ None
+value_is_the_separator = refl
+
+value_is_a_hyphen : args_of (codes "run" ∷ codes "t" ∷ codes "630" ∷ codes "--seed" ∷ codes "-" ∷ []) ≡ None
+value_is_a_hyphen = refl
+
+value_is_an_option : args_of (codes "run" ∷ codes "t" ∷ codes "630" ∷ codes "--seed" ∷ codes "--polls=1" ∷ []) ≡ None
+value_is_an_option = refl
+
+value_is_empty : args_of (codes "run" ∷ codes "t" ∷ codes "630" ∷ codes "--seed=" ∷ []) ≡ None
+value_is_empty = refl
+
+value_has_a_sign : args_of (codes "run" ∷ codes "t" ∷ codes "630" ∷ codes "--seed=+1" ∷ []) ≡ None
+value_has_a_sign = refl
+
+value_is_negative : args_of (codes "run" ∷ codes "t" ∷ codes "630" ∷ codes "--seed=-1" ∷ []) ≡ None
+value_is_negative = refl
+
+value_has_a_leading_zero : args_of (codes "run" ∷ codes "t" ∷ codes "630" ∷ codes "--polls=01" ∷ []) ≡ None
+value_has_a_leading_zero = refl
+
+seed_too_big : args_of (codes "run" ∷ codes "t" ∷ codes "630" ∷ codes "--seed=18446744073709551616" ∷ []) ≡ None
+seed_too_big = refl
+
+no_polls : args_of (codes "run" ∷ codes "t" ∷ codes "630" ∷ codes "--polls=0" ∷ []) ≡ None
+no_polls = refl
+
+too_many_polls : args_of (codes "run" ∷ codes "t" ∷ codes "630" ∷ codes "--polls=100001" ∷ []) ≡ None
+too_many_polls = refl
+
+-- a prefix has at most 1,000 bytes
+longest_prefix : args_of (codes "run" ∷ replicate 1000 97 ∷ codes "630" ∷ []) ≡ Some (Run (record { prefix = replicate 1000 97; seed = 0; polls = 10000 }))
+longest_prefix = refl
+
+longer_prefix : args_of (codes "run" ∷ replicate 1001 97 ∷ codes "630" ∷ []) ≡ None
+longer_prefix = refl
+
+-- the command is one of which `clap` states what it answers
+program_is_simple : is_simple_and_free program ≡ true
+program_is_simple = refl

@@ -1,0 +1,12 @@
+use Rattle.std.proofs.Common.{◌≡◌, ℕ, ◌-◌, ◌<◌, ◌≤◌, false, length}
+use Rattle.tester_run.specs.Driving.{asks_at}
+use Rattle.tester_run.proofs.driving.first_asking.Given as goal
+
+abbrev pub invariant-loop-number : goal.invariant-loop-number
+invariant-loop-number l = record {
+  onward : l.fn.from ≤ l.number;
+  none : (other : ℕ) → l.fn.from ≤ other → other < l.number → asks_at l.fn.seats other ≡ false;
+}
+
+abbrev pub decreases-loop-number : goal.decreases-loop-number
+decreases-loop-number l = length l.fn.seats - l.number

@@ -1,0 +1,15 @@
+use Rattle.std.proofs.Common.{◌≡◌, length}
+use Rattle.tester_run.specs.Driving.{work_of, GoesOnByTurns, IsGoing}
+use Rattle.tester_run.proofs.driving.run_until_started.Given as goal
+
+abbrev pub invariant-loop-pause : goal.invariant-loop-pause
+invariant-loop-pause g l = record {
+  goes_on : GoesOnByTurns l.fn.core (g.W.Words.words l.fn.words) l.fn.seats.items l.fn.order l.fn.from
+      l.core (g.W.Words.words l.words) l.seats.items l.order l.from;
+  going : IsGoing l.core l.seats.items l.order;
+  same : length l.seats.items ≡ length l.fn.seats.items;
+}
+
+-- the instructions that all machines have left
+abbrev pub decreases-loop-pause : goal.decreases-loop-pause
+decreases-loop-pause g l = work_of l.seats.items

@@ -1,0 +1,20 @@
+-- How far an order was followed.
+use Rattle.std.specs.Prelude.{◌≡◌, ℕ, ◌+◌, false, List, ◌∷◌, ◌++◌, length, Option, Some, None}
+use Rattle.tester_run.specs.declared.fault.OrderFault.{OrderFault}
+use Rattle.tester_run.specs.declared.fault.OrderFault.TheVariants as order
+use Rattle.tester_run.specs.declared.seat.Seat.{Seat}
+use Rattle.tester_run.specs.Driving.{asks_at}
+
+-- to a place at which the machine that it names asks nothing
+pub record Stops (given order : List ℕ) (seats : List Seat) (place machine : ℕ) : Type 0 where
+  pub rest : List ℕ
+  pub given_is : given ≡ order ++ machine ∷ rest
+  pub place_is : place ≡ length order + 1
+  pub none : asks_at seats machine ≡ false
+
+-- to its end, or up to such a place
+abbrev pub HasFollowed : Option OrderFault → (given order : List ℕ) → List Seat → Type 0
+HasFollowed None given its_order seats = its_order ≡ given
+HasFollowed (Some (order.NoRequest place machine)) given its_order seats = Stops given its_order seats place machine
+HasFollowed (Some order.EndsEarly) given its_order seats = ⊥
+HasFollowed (Some order.NoMemory) given its_order seats = ⊥

@@ -1,0 +1,78 @@
+//! A run by an order that is given.
+
+ghost use Rattle.std.specs.Prelude.{◌≡◌, [], IfOk, IfErr, OnOk};
+ghost use Rattle.tester_run.specs.Driving.{GoesOn, IsGoing};
+ghost use Rattle.tester_run.specs.Following.{HasFollowed};
+ghost use Rattle.tester_run.specs.Faults.{IsMisfit};
+ghost use Rattle.tester_run.specs.Rendered.{Renders};
+
+use crate::driving::{asks, first_asking, take};
+use crate::fault::OrderFault;
+use crate::running::{Rendered, first_seats, rendered_of};
+use crate::seat::Seat;
+use client_core::Core;
+use command_words::RunArgs;
+use dump_text::{Input, Order};
+use outside::{PcgWords, Words};
+use std::alloc::{AllocError, Global};
+
+/// Runs machine 0 over the pairs of an input as the arguments say, and each machine that is started, by the order of the
+/// input, and renders the dump. It is refused where the machine that the order names at a place has no request there, where a
+/// machine has one at its end, and for want of memory.
+pub fn replay(alloc: Global, arguments: &RunArgs, input: Input) -> Result<Rendered, OrderFault>
+    ensures renders { IfOk result (Renders input.pairs arguments.now) }
+    ensures order { IfOk result (λ rendered. rendered.order ≡ input.order) }
+    ensures refused { IfErr result (λ fault. IsMisfit fault input.pairs arguments.now input.order) }
+{
+    let Input {
+        order: given,
+        pairs,
+    } = input;
+    let mut core = Core::load(alloc, arguments, pairs)?;
+    let mut seats = first_seats(alloc, arguments, &core)?;
+    let mut words = PcgWords::new(arguments.seed);
+    let mut order = Order::new(alloc);
+    let stopped = follow(
+        alloc,
+        &mut core,
+        &mut words,
+        &mut seats,
+        &mut order,
+        given.as_slice(),
+    )?;
+    if let Some(fault) = stopped {
+        return Err(fault);
+    }
+    if first_asking(&seats, 0).is_some() {
+        return Err(OrderFault::EndsEarly);
+    }
+    Ok(rendered_of(alloc, &core, &seats, order)?)
+}
+
+// Takes the requests of the machines that an order names, one after the other, up to one that has none: why it stopped there.
+fn follow<W: Words>(
+    alloc: Global,
+    core: &mut Core,
+    words: &mut W,
+    seats: &mut Vec<Seat>,
+    order: &mut Order,
+    given: &[u16],
+) -> Result<Option<OrderFault>, AllocError>
+    requires going { IsGoing core.old seats.old.items order.old }
+    requires begins { order.old ≡ [] }
+    ensures goes_on { OnOk result (GoesOn core.old (W.words words.old) seats.old.items order.old
+        core.new (W.words words.new) seats.new.items order.new) }
+    ensures going { OnOk result (IsGoing core.new seats.new.items order.new) }
+    ensures followed { IfOk result (λ stopped. HasFollowed stopped given.now order.new seats.new.items) }
+{
+    for machine in given {
+        let number = usize::from(*machine);
+        if !asks(seats, number) {
+            let place = order.len() as u64 + 1;
+            let machine = *machine;
+            return Ok(Some(OrderFault::NoRequest { place, machine }));
+        }
+        take(alloc, core, words, seats, order, number)?;
+    }
+    Ok(None)
+}

@@ -1,0 +1,71 @@
+//! A machine by itself, run over the replies that it gets.
+
+ghost use Rattle.std.specs.Prelude.{◌≡◌, ◌≢◌, ◌≤◌, false, Some, IsSome, IfOk, OnOk};
+ghost use Rattle.fdb_calls.specs.declared.Reply.TheVariants.{NoMemory};
+ghost use Rattle.machine_rules.specs.Machines.{silent, resumed};
+ghost use Rattle.machine_rules.specs.Runs.{at_rest};
+ghost use Rattle.machine_rules.specs.Laws.{is_awaiting};
+ghost use Rattle.tester_run.specs.Driving.{progress_of, with_asked, work_left, IsNearer, IsSeated};
+
+use fdb_calls::{Reply, Request};
+use stack_machine::{Machine, Step};
+use std::alloc::AllocError;
+
+/// A machine that has come to rest, and what it asks; nothing where it has stopped.
+#[derive(Debug, Drop)]
+pub struct Seat {
+    pub machine: Machine,
+    pub asks: Option<Request>,
+}
+
+impl Seat {
+    /// Lets a machine that awaits no reply run on, until it asks or has stopped. It is refused for want of memory alone.
+    pub fn new(machine: Machine) -> Result<Seat, AllocError>
+        requires ready { machine.is_out_of_memory ≡ false }
+        requires silent { is_awaiting machine.machine.state ≡ false }
+        ensures rests { IfOk result (λ seat. progress_of seat ≡ at_rest (silent machine.machine)) }
+        ensures seated { IfOk result IsSeated }
+    {
+        let mut machine = machine;
+        let asks = run_on(&mut machine)?;
+        Ok(Seat { machine, asks })
+    }
+
+    /// Gives the machine the reply to what it asked, and lets it run on. The answer is whether it asks on within the same
+    /// instruction. It is refused for want of memory alone, and nothing is said of the machine then.
+    pub fn use_reply(&mut self, reply: &Reply) -> Result<bool, AllocError>
+        requires seated { IsSeated self.old }
+        requires asks { IsSome self.old.asks }
+        requires memory { reply.now ≢ NoMemory }
+        ensures rests { OnOk result (progress_of self.new ≡ at_rest (resumed self.old.machine.machine reply.now)) }
+        ensures seated { OnOk result (IsSeated self.new) }
+        ensures nearer { IfOk result (λ asks_on. IsNearer asks_on self.old.machine.machine self.new.machine.machine) }
+    {
+        match self.machine.step(Some(reply))? {
+            Step::Ask(request) => {
+                self.asks = Some(request);
+                return Ok(true);
+            }
+            Step::Again => self.asks = run_on(&mut self.machine)?,
+            Step::Stopped(_) => self.asks = None,
+        }
+        Ok(false)
+    }
+}
+
+// Lets a machine that awaits no reply run on, until it asks or has stopped: what it asks.
+fn run_on(machine: &mut Machine) -> Result<Option<Request>, AllocError>
+    requires ready { machine.old.is_out_of_memory ≡ false }
+    requires silent { is_awaiting machine.old.machine.state ≡ false }
+    ensures rests { IfOk result (λ asks. with_asked machine.new.machine asks ≡ at_rest (silent machine.old.machine)) }
+    ensures seated { IfOk result (λ asks. IsSeated (record { machine = machine.new; asks = asks })) }
+    ensures nearer { OnOk result (work_left machine.new.machine ≤ work_left machine.old.machine) }
+{
+    loop {
+        match machine.step(None)? {
+            Step::Ask(request) => return Ok(Some(request)),
+            Step::Again => {}
+            Step::Stopped(_) => return Ok(None),
+        }
+    }
+}

@@ -1,0 +1,88 @@
+//! Several machines by turns.
+
+use super::*;
+use dump_text::{EndWord, write_machine_line, write_order_line};
+
+// Each machine starts one more under the same prefix.
+const STARTS_ITSELF: &[u8] = b"K \\x01p\\x00\\x14\\=\\x02PUSH\\x00\\x01p\\x00\n\
+K \\x01p\\x00\\x15\\x01\\=\\x02START_THREAD\\x00\n";
+
+// The dump of its run: the last of 64 machines may start none.
+fn all_started(alloc: Global) -> Result<Vec<u8>, AllocError> {
+    let mut dump = Vec::new(alloc);
+    for number in 0..63 {
+        write_machine_line(&mut dump, number, EndWord::Ended, 2, b"p")?;
+    }
+    write_machine_line(&mut dump, 63, EndWord::MachineLimit, 1, b"p")?;
+    for number in 0..64 {
+        write_order_line(&mut dump, number)?;
+    }
+    dump.extend_from_slice(STARTS_ITSELF)?;
+    Ok(dump)
+}
+
+#[test]
+fn machines_start_machines_up_to_64(rt: HostRuntime) -> Result<(), Fail> {
+    let report = ran(&rt, rt.alloc(), &WORDS, STARTS_ITSELF)?;
+    assert_eq!(rt; (report.status, report.places), (3, 64));
+    let wanted = all_started(rt.alloc())?;
+    assert_eq!(rt; report.written.as_slice(), wanted.as_slice());
+    Ok(())
+}
+
+// Machine 0 starts machine 1, and waits until it has cleared a key.
+const WAITS_FOR_IT: &[u8] = b"K \\x01p\\x00\\x14\\=\\x02PUSH\\x00\\x01q\\x00\n\
+K \\x01p\\x00\\x15\\x01\\=\\x02START_THREAD\\x00\n\
+K \\x01p\\x00\\x15\\x02\\=\\x02PUSH\\x00\\x01w\\x00\n\
+K \\x01p\\x00\\x15\\x03\\=\\x02WAIT_EMPTY\\x00\n\
+K \\x01q\\x00\\x14\\=\\x02GET_READ_VERSION\\x00\n\
+K \\x01q\\x00\\x15\\x01\\=\\x02PUSH\\x00\\x01w1\\x00\n\
+K \\x01q\\x00\\x15\\x02\\=\\x02CLEAR_DATABASE\\x00\n\
+K w1\\=x\n";
+
+const WAITED: &[u8] = b"M 0 ended 4 p\n\
+M 1 ended 3 q\n\
+S 0 0 3 \\x01WAITED_FOR_EMPTY\\x00\n\
+S 1 0 0 \\x01GOT_READ_VERSION\\x00\n\
+S 1 1 2 \\x01RESULT_NOT_PRESENT\\x00\n\
+O 0\n\
+O 1\n\
+O 0\n\
+O 1\n\
+O 0\n\
+K \\x01p\\x00\\x14\\=\\x02PUSH\\x00\\x01q\\x00\n\
+K \\x01p\\x00\\x15\\x01\\=\\x02START_THREAD\\x00\n\
+K \\x01p\\x00\\x15\\x02\\=\\x02PUSH\\x00\\x01w\\x00\n\
+K \\x01p\\x00\\x15\\x03\\=\\x02WAIT_EMPTY\\x00\n\
+K \\x01q\\x00\\x14\\=\\x02GET_READ_VERSION\\x00\n\
+K \\x01q\\x00\\x15\\x01\\=\\x02PUSH\\x00\\x01w1\\x00\n\
+K \\x01q\\x00\\x15\\x02\\=\\x02CLEAR_DATABASE\\x00\n";
+
+#[test]
+fn a_machine_waits_for_another(rt: HostRuntime) -> Result<(), Fail> {
+    let report = ran(&rt, rt.alloc(), &WORDS, WAITS_FOR_IT)?;
+    assert_eq!(rt; (report.status, report.places), (0, 5));
+    assert_eq!(rt; report.written.as_slice(), WAITED);
+    Ok(())
+}
+
+// Nothing clears the key: the wait ends with its second poll.
+#[test]
+fn a_machine_waits_for_so_many_polls(rt: HostRuntime) -> Result<(), Fail> {
+    let words = ["run", "q", "630", "--polls", "2"];
+    let report = ran(
+        &rt,
+        rt.alloc(),
+        &words,
+        b"K \\x01q\\x00\\x14\\=\\x02PUSH\\x00\\x01w\\x00\n\
+K \\x01q\\x00\\x15\\x01\\=\\x02WAIT_EMPTY\\x00\n\
+K w\\=x\n",
+    )?;
+    assert_eq!(rt; (report.status, report.places), (3, 2));
+    assert!(rt;
+        report
+            .written
+            .starts_with(b"M 0 wait-bound 1 q\nO 0\nO 0\n")
+    );
+    Ok(())
+}
