@@ -1,0 +1,4 @@
+pub mod Heads
+pub mod Pairs
+pub mod Orders
+pub mod Rows

@@ -1,0 +1,9 @@
+use Rattle.line_laws.proofs.Pairs.{pair_places}
+use Rattle.line_laws.proofs.Orders.{order_places}
+use Rattle.line_laws.proofs.bad_places_are_longest_fronts.Goals as goal
+
+pub returns-clause-pairs : goal.returns-clause-pairs
+returns-clause-pairs c = pair_places
+
+pub returns-clause-orders : goal.returns-clause-orders
+returns-clause-orders c = order_places
