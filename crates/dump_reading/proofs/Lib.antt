@@ -1,0 +1,11 @@
+pub mod DumpSteps
+pub mod FieldSteps
+pub mod PairLines
+pub mod Rows
+pub mod Spellings
+pub mod Texts
+pub mod Numbers
+pub mod FieldLaws
+pub mod LineLaws
+pub mod LinesAgain
+pub mod DumpLaws
