@@ -9,7 +9,7 @@ pub struct Script {
 }
 
 /// All of them.
-pub const SCRIPTS: [Script; 27] = [
+pub const SCRIPTS: [Script; 28] = [
     Script {
         input: "first.kv",
         words: &["run", "p", "630"],
@@ -171,5 +171,11 @@ pub const SCRIPTS: [Script; 27] = [
         words: &["replay", "p", "630"],
         status: 0,
         dump: "replayed.dump",
+    },
+    Script {
+        input: "waits_by_order.kv",
+        words: &["replay", "p", "630"],
+        status: 0,
+        dump: "waits_by_order.dump",
     },
 ];
