@@ -23,3 +23,6 @@ pub fn steps_are_legal()
     ensures keeps { AreStepsReached }
     ensures legal { AreReachedLegal }
 {}
+
+#[cfg(test)]
+mod tests;

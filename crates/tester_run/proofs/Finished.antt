@@ -1,5 +1,5 @@
 -- Where no machine asks the run has ended: what is rendered is its dump and its status.
-use Rattle.std.proofs.Common.{◌≡◌, ℕ, zero, suc, Bool, true, false, ◌&&◌, cond, List, [], ◌∷◌, ◌++◌, length, Option, Some, None, Result, Ok, Err, refl, sym, ap, subst, ◌∙◌, arith}
+use Rattle.std.proofs.Common.{◌≡◌, ℕ, zero, suc, true, false, cond, List, [], ◌∷◌, ◌++◌, length, Some, Result, Ok, Err, refl, sym, ap, subst, ◌∙◌, arith}
 use Rattle.std.specs.Prelude.{IfOk, is_some, map}
 use Rattle.std.specs.declared.alloc.AllocError.{AllocError}
 use Rattle.std.specs.List.{flat_map, list_all}
@@ -19,11 +19,11 @@ use Rattle.command_rules.specs.declared.args.RunArgs.{RunArgs}
 use Rattle.machine_rules.specs.Worlds.{World, HasWords, begun, instruction_pairs, newest}
 use Rattle.machine_rules.specs.Machines.{Progress, silent}
 use Rattle.machine_rules.specs.Laws.{is_awaiting}
-use Rattle.machine_rules.specs.Runs.{AreByTurns, Run, at_rest, started, run_from, is_running, has_stopped, has_ended, status_of, end_line, stack_lines, error_lines, dump}
+use Rattle.machine_rules.specs.Runs.{AreByTurns, at_rest, started, run_from, is_running, has_stopped, has_ended, end_line, stack_lines, error_lines, dump}
 use Rattle.tester_run.specs.declared.seat.Seat.{Seat}
 use Rattle.tester_run.specs.declared.running.Rendered.{Rendered}
 use Rattle.tester_run.specs.Driving.{asks_at, progress_of, AreFirst, AreSeated, IsGoing, IsSeated, Leads, LeadsByTurns}
-use Rattle.tester_run.specs.Dumps.{dump_of, newest_pairs, seat_end, seat_errors, seat_stack}
+use Rattle.tester_run.specs.Dumps.{dump_of, newest_pairs}
 use Rattle.tester_run.specs.Rendered.{Renders}
 use Rattle.tester_run.proofs.Turns.{none_behind}
 

@@ -1,6 +1,6 @@
 -- A request that is taken leads a run on.
 use Rattle.std.proofs.Common.{◌≡◌, ◌≢◌, ℕ, ◌+◌, ◌≤◌, List, [], ◌∷◌, ◌++◌, length, Option, Some, None, refl, sym, ap, subst, ◌∙◌, length-append}
-use Rattle.std.proofs.lemmas.List.{append-nil, length-set, map-set}
+use Rattle.std.proofs.lemmas.List.{length-set, map-set}
 use Rattle.std.specs.Prelude.{map, option_and_then, option_map, slice_get, slice_set}
 use Rattle.std.proofs.lemmas.Option.{slice_get-map}
 use Rattle.fdb_calls.specs.declared.Request.{Request}
@@ -13,7 +13,7 @@ use Rattle.machine_rules.specs.Runs.{AreByTurns, HasTurn, Run, at_rest, replied,
 use Rattle.machine_rules.specs.declared.TheConstants.{MACHINES}
 use Rattle.machine_rules.specs.Laws.{run_from-append}
 use Rattle.tester_run.specs.declared.seat.Seat.{Seat}
-use Rattle.tester_run.specs.Driving.{progress_of, GoesOn, GoesOnByTurns, IsGoing, IsNextInTurn, IsSeated, Leads}
+use Rattle.tester_run.specs.Driving.{progress_of, GoesOn, GoesOnByTurns, IsGoing, IsNextInTurn, IsSeated}
 use Rattle.tester_run.proofs.Seats.{has_turn, seated_more, seated_set}
 use Rattle.tester_run.proofs.Turns.{turns_longer, turn_after-longer}
 

@@ -1,7 +1,6 @@
 -- What a machine comes to that runs on, or uses the reply to what it asked.
 use Rattle.std.proofs.Common.{◌≡◌, ◌≢◌, ℕ, ◌+◌, ◌-◌, ◌<◌, ◌≤◌, Bool, true, false, cond}
 use Rattle.std.proofs.Common.{List, length, Option, Some, None, IsSome, refl, sym, ap, subst, ◌∙◌, arith}
-use Rattle.std.specs.Prelude.{is_some}
 use Rattle.fdb_calls.specs.declared.Request.{Request}
 use Rattle.fdb_calls.specs.declared.Reply.{Reply}
 use Rattle.stack_machine.specs.MachineModel.{MachineModel}

@@ -1,5 +1,5 @@
 -- How the core and the machines stand to a run while it goes on.
-use Rattle.std.specs.Prelude.{◌≡◌, ◌≢◌, ℕ, ◌+◌, ◌-◌, ◌<◌, ◌≤◌, ◌⊎◌, Bool, true, false, cond, List, [], ◌∷◌, ◌++◌, length, map, Option, Some, None, MatchOption, is_some, option_and_then, slice_get, ⊤}
+use Rattle.std.specs.Prelude.{◌≡◌, ℕ, ◌+◌, ◌-◌, ◌<◌, ◌≤◌, ◌⊎◌, Bool, true, false, cond, List, [], ◌∷◌, length, map, Option, Some, None, MatchOption, is_some, option_and_then, slice_get, ⊤}
 use Rattle.std.specs.List.{sum_by}
 use Rattle.fdb_calls.specs.declared.Request.{Request}
 use Rattle.command_rules.specs.declared.args.RunArgs.{RunArgs}
@@ -10,7 +10,7 @@ use Rattle.machine_rules.specs.declared.TheConstants.{MACHINES}
 use Rattle.machine_rules.specs.Worlds.{World, HasWords, instruction_pairs}
 use Rattle.version_store.specs.Versions.{at, last_of}
 use Rattle.machine_rules.specs.Machines.{Machine, Progress, silent}
-use Rattle.machine_rules.specs.Runs.{Run, AreByTurns, at_rest, start, started, run_from, turn_after, is_running, has_stopped}
+use Rattle.machine_rules.specs.Runs.{AreByTurns, at_rest, start, started, run_from, turn_after, is_running, has_stopped}
 use Rattle.machine_rules.specs.Laws.{HasItsItemIn, effort_in, is_awaiting}
 use Rattle.tester_run.specs.declared.seat.Seat.{Seat}
 use Rattle.tester_run.specs.declared.driving.Moved.{Moved}

@@ -1,7 +1,10 @@
 //! Several machines by turns.
 
 use super::*;
+use client_core::Core;
+use command_words::RunArgs;
 use dump_text::{EndWord, write_machine_line, write_order_line};
+use key_bytes::{Bytes, Pair, Pairs};
 
 // Each machine starts one more under the same prefix.
 const STARTS_ITSELF: &[u8] = b"K \\x01p\\x00\\x14\\=\\x02PUSH\\x00\\x01p\\x00\n\
@@ -84,5 +87,49 @@ K w\\=x\n",
             .written
             .starts_with(b"M 0 wait-bound 1 q\nO 0\nO 0\n")
     );
+    Ok(())
+}
+
+// Pairs of a key and a value: two instructions of `q`, and what is beside them.
+const UNDER_Q: &[(&[u8], &[u8])] = &[
+    (b"\x01q\x00\x14", b"first "),
+    (b"\x01q\x00\x15\x01", b"second"),
+    (b"\x01q\x00\xff", b"no"),
+    (b"\x01r\x00\x14", b"no"),
+];
+
+fn pair_of(alloc: Global, key: &[u8], value: &[u8]) -> Result<Pair, AllocError> {
+    let key = Bytes::from_slice(alloc, key)?;
+    let value = Bytes::from_slice(alloc, value)?;
+    Ok(Pair { key, value })
+}
+
+fn core_of(alloc: Global, loaded: &[(&[u8], &[u8])]) -> Result<Core, AllocError> {
+    let mut pairs = Pairs::new(alloc);
+    for (key, value) in loaded {
+        pairs.push(pair_of(alloc, key, value)?)?;
+    }
+    let arguments = RunArgs {
+        prefix: Bytes::from_slice(alloc, b"q")?,
+        seed: 0,
+        polls: 1,
+    };
+    Core::load(alloc, &arguments, pairs)
+}
+
+// The values of the instructions of `q`, one after the other.
+fn values_of_q(alloc: Global) -> Result<Vec<u8>, AllocError> {
+    let core = core_of(alloc, UNDER_Q)?;
+    let mut values = Vec::new(alloc);
+    for pair in core.instructions(b"q")?.as_slice() {
+        values.extend_from_slice(pair.value.as_slice())?;
+    }
+    Ok(values)
+}
+
+#[test]
+fn instructions_are_those_of_a_prefix(rt: HostRuntime) -> Result<(), Fail> {
+    let values = values_of_q(rt.alloc())?;
+    assert_eq!(rt; values.as_slice(), b"first second".as_slice());
     Ok(())
 }

@@ -1,4 +1,4 @@
-use Rattle.std.proofs.Common.{◌≡◌, List, Some, subst, sym, ◌∙◌}
+use Rattle.std.proofs.Common.{List, Some, subst, ◌∙◌}
 use Rattle.tester_run.specs.declared.seat.Seat.{Seat}
 use Rattle.tester_run.specs.declared.driving.Moved.{Moved}
 use Rattle.tester_run.specs.declared.driving.Moved.TheVariants.{AsksOn}

@@ -1,7 +1,6 @@
-use Rattle.std.proofs.Common.{◌≡◌, ◌<◌, ◌⊎◌, List, length, subst, sym, ◌∙◌}
+use Rattle.std.proofs.Common.{◌≡◌, ◌<◌, ◌⊎◌, length, subst, ◌∙◌}
 use Rattle.tester_run.specs.declared.driving.Pause.{Pause}
 use Rattle.tester_run.specs.declared.driving.Pause.TheVariants.{Ended, Finished}
-use Rattle.tester_run.specs.declared.seat.Seat.{Seat}
 use Rattle.tester_run.specs.Driving.{HasPaused}
 use Rattle.tester_run.proofs.Seats.{paused_otherwise}
 use Rattle.tester_run.proofs.driving.run_until_started.Goals as goal

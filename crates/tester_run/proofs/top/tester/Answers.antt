@@ -1,4 +1,4 @@
-use Rattle.std.proofs.Common.{ℕ, List, Option, inl, inr, subst, sym}
+use Rattle.std.proofs.Common.{Option, inl, inr, subst, sym}
 use Rattle.std.specs.Prelude.{IfSome}
 use Rattle.command_rules.specs.declared.args.Args.{Args}
 use Rattle.tester_run.specs.Faults.{InputFault, HasFault}
