@@ -6,6 +6,7 @@ use Rattle.std.proofs.lemmas.List.{append-nil}
 use Rattle.outside.specs.Counts.{Rose}
 use Rattle.outside.specs.Streams.{AppendsFront}
 use Rattle.command_rules.specs.declared.args.Args.{Args}
+use Rattle.command_rules.specs.declared.args.Args.TheVariants as args
 use Rattle.dump_text.specs.declared.fault.LineFault.{LineFault}
 use Rattle.dump_text.specs.declared.fault.LineFault.TheVariants as line
 use Rattle.dump_text.specs.Reading.{Fails}
@@ -21,7 +22,7 @@ use Rattle.machine_rules.specs.Runs.{Run, RunsTo, dump, has_ended}
 use Rattle.tester_run.specs.declared.fault.OrderFault.{OrderFault}
 use Rattle.tester_run.specs.declared.fault.OrderFault.TheVariants as order
 use Rattle.tester_run.specs.Arguments.{arguments_of, form_of}
-use Rattle.tester_run.specs.Faults.{InputFault, IsFaultOf, IsMisfit, line_in, order_in}
+use Rattle.tester_run.specs.Faults.{InputFault, IsFaultOf, IsMisfitOf, line_in, order_in}
 use Rattle.tester_run.specs.Inputs.{IsFaulty, IsJudged, IsMade, IsRead, IsRefusedBy, read_limit}
 use Rattle.tester_run.specs.Outcomes.{write_fault, IsFinal, IsLawful, IsLegal, HasRun, Finishes, BreaksOff}
 use Rattle.tester_run.specs.Rendered.{IsOrderOf}
@@ -72,20 +73,21 @@ refused_full asked refusal.Memory left after faults faults_after items judged ex
 
 -- an order that can't be followed is a fault of the input that it was read from
 misfit_of : (asked : Args) (fault : OrderFault) (input : Input) (bytes : List ℕ) → fault ≢ order.NoMemory
-    → input_of (form_of asked) bytes ≡ Ok input → IsMisfit fault input.pairs (arguments_of asked) input.order
+    → input_of (form_of asked) bytes ≡ Ok input → IsMisfitOf asked fault input
     → IsFaultOf asked (order_in fault) bytes
-misfit_of asked (order.NoRequest place machine) input bytes some read misfit = (input, read, misfit)
-misfit_of asked order.EndsEarly input bytes some read misfit = (input, read, misfit)
-misfit_of asked order.NoMemory input bytes some read misfit = absurd (some refl)
+misfit_of (args.Run arguments) fault input bytes some read misfit = absurd (some misfit)
+misfit_of (args.Replay arguments) (order.NoRequest place machine) input bytes some read misfit = (input, read, misfit)
+misfit_of (args.Replay arguments) order.EndsEarly input bytes some read misfit = (input, read, misfit)
+misfit_of (args.Replay arguments) order.NoMemory input bytes some read misfit = absurd (some refl)
 
 misfit_in : (asked : Args) (fault : OrderFault) (input : Input) (left : Option (List ℕ)) → fault ≢ order.NoMemory
-    → IfSome left (λ bytes. input_of (form_of asked) bytes ≡ Ok input) → IsMisfit fault input.pairs (arguments_of asked) input.order
+    → IfSome left (λ bytes. input_of (form_of asked) bytes ≡ Ok input) → IsMisfitOf asked fault input
     → IfSome left (IsFaultOf asked (order_in fault))
 misfit_in asked fault input None some read misfit = tt
 misfit_in asked fault input (Some bytes) some read misfit = misfit_of asked fault input bytes some read misfit
 
 pub misfit_refused : (asked : Args) (fault : OrderFault) (input : Input) (left after : Option (List ℕ)) → fault ≢ order.NoMemory
-    → IsRead asked left after input → IsMisfit fault input.pairs (arguments_of asked) input.order
+    → IsRead asked left after input → IsMisfitOf asked fault input
     → IsFaulty asked (order_in fault) left after
 misfit_refused asked fault input left after some read misfit = record {
   fault_is = misfit_in asked fault input left some read.input_is misfit;

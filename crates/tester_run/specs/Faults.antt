@@ -2,15 +2,17 @@
 use Rattle.std.specs.Prelude.{◌≡◌, ℕ, ◌+◌, true, false, List, ◌∷◌, ◌++◌, length, Option, Some, None, MatchOption, Ok, Err}
 use Rattle.command_rules.specs.declared.args.RunArgs.{RunArgs}
 use Rattle.command_rules.specs.declared.args.Args.{Args}
+use Rattle.command_rules.specs.declared.args.Args.TheVariants as args
 use Rattle.dump_text.specs.declared.fault.LineFault.{LineFault}
 use Rattle.dump_text.specs.declared.fault.LineFault.TheVariants as line
+use Rattle.input_rules.specs.declared.input.Form.TheVariants as form
 use Rattle.input_rules.specs.declared.input.Input.{Input}
 use Rattle.input_rules.specs.Forms.{input_of}
 use Rattle.line_rules.specs.Reading.{Fault, BadLine, TooLong, TooMany}
 use Rattle.machine_rules.specs.Runs.{Run, has_request, run_from, start}
 use Rattle.tester_run.specs.declared.fault.OrderFault.{OrderFault}
 use Rattle.tester_run.specs.declared.fault.OrderFault.TheVariants as order
-use Rattle.tester_run.specs.Arguments.{arguments_of, form_of}
+use Rattle.tester_run.specs.Arguments.{form_of}
 
 pub data InputFault : Type 0 where
   -- the first fault of its lines
@@ -37,13 +39,15 @@ pub record StopsShort (pairs : List (List ℕ × List ℕ)) (arguments : RunArgs
   pub machine : ℕ
   pub asks : has_request run machine ≡ true
 
--- bytes have this fault as the input of what is asked
+-- bytes have this fault as the input of what is asked; the faults of an order are a replay's alone
 abbrev pub HasFault : (asked : Args) → (bytes : List ℕ) → InputFault → Type 0
 HasFault asked bytes (InLine fault) = input_of (form_of asked) bytes ≡ Err fault
-HasFault asked bytes (NoRequest place machine) = (input : Input) × (input_of (form_of asked) bytes ≡ Ok input)
-    × LacksRequest input.pairs (arguments_of asked) input.order place machine
-HasFault asked bytes EndsEarly = (input : Input) × (input_of (form_of asked) bytes ≡ Ok input)
-    × StopsShort input.pairs (arguments_of asked) input.order
+HasFault (args.Run arguments) bytes (NoRequest place machine) = ⊥
+HasFault (args.Replay arguments) bytes (NoRequest place machine) = (input : Input) × (input_of form.Replay bytes ≡ Ok input)
+    × LacksRequest input.pairs arguments input.order place machine
+HasFault (args.Run arguments) bytes EndsEarly = ⊥
+HasFault (args.Replay arguments) bytes EndsEarly = (input : Input) × (input_of form.Replay bytes ≡ Ok input)
+    × StopsShort input.pairs arguments input.order
 
 -- the fault of the code; want of memory is none
 abbrev pub line_in : LineFault → Option InputFault
@@ -66,3 +70,8 @@ abbrev pub IsMisfit : OrderFault → (pairs : List (List ℕ × List ℕ)) → R
 IsMisfit (order.NoRequest place machine) pairs arguments given = LacksRequest pairs arguments given place machine
 IsMisfit order.EndsEarly pairs arguments given = StopsShort pairs arguments given
 IsMisfit order.NoMemory pairs arguments given = Unit {0}
+
+-- what was asked was refused for; a run is refused for want of memory alone
+abbrev pub IsMisfitOf : (asked : Args) → OrderFault → Input → Type 0
+IsMisfitOf (args.Run arguments) fault input = fault ≡ order.NoMemory
+IsMisfitOf (args.Replay arguments) fault input = IsMisfit fault input.pairs arguments input.order

@@ -9,8 +9,8 @@ ghost use Rattle.line_rules.specs.Inputs.{IsSmall};
 ghost use Rattle.line_rules.specs.Reading.{input_limit};
 ghost use Rattle.command_rules.specs.Grammar.{args_of};
 ghost use Rattle.input_rules.specs.Forms.{input_of};
-ghost use Rattle.tester_run.specs.Arguments.{arguments_of, form_of};
-ghost use Rattle.tester_run.specs.Faults.{InputFault, HasFault, IsMisfit, order_in};
+ghost use Rattle.tester_run.specs.Arguments.{form_of};
+ghost use Rattle.tester_run.specs.Faults.{InputFault, HasFault, IsMisfitOf, order_in};
 ghost use Rattle.tester_run.specs.Outcomes.{usage, bad_input, read_fault, write_fault, out_of_memory, IsFinal, IsLawful, IsLegal, IsSilent, Finishes, BreaksOff};
 ghost use Rattle.tester_run.specs.Inputs.{IsRefusedBy, IsJudged, IsMade, IsRead, IsReadOut, ReadsWithin};
 ghost use Rattle.tester_run.specs.Rendered.{IsRendered};
@@ -207,7 +207,7 @@ fn rendered<S: Source>(alloc: Global, asked: &Args, source: &mut S) -> Result<Re
 // What is asked, rendered over an input.
 fn make(alloc: Global, asked: &Args, input: Input) -> Result<Rendered, OrderFault>
     ensures made { IfOk result (IsRendered asked.now input) }
-    ensures refused { IfErr result (λ fault. IsMisfit fault input.pairs (arguments_of asked.now) input.order) }
+    ensures refused { IfErr result (λ fault. IsMisfitOf asked.now fault input) }
 {
     match asked {
         Args::Run(arguments) => Ok(run(alloc, arguments, input.pairs)?),
