@@ -3,11 +3,12 @@
 ghost use Rattle.std.specs.Prelude.{◌≡◌, IfOk, IsErr};
 ghost use Rattle.stack_machine.specs.Acts.{polls_for, refusal_of};
 
+use crate::asked::Asked;
 use fdb_calls::Request;
 use key_bytes::Bytes;
 use machine_rules::{Awaits, End, Wait};
 use stack_items::StackFault;
-use std::alloc::AllocError;
+use std::alloc::{AllocError, Global};
 
 /// What an instruction, or the reply that it awaited, comes to.
 #[derive(Debug, Drop)]
@@ -17,19 +18,19 @@ pub enum Act {
     /// It stops the machine.
     Stops(End),
     /// It asks a request, whose reply it awaits.
-    Asks(Request, Awaits),
+    Asks(Asked, Awaits),
 }
 
 /// What an instruction of this number that was refused comes to: it stops the machine, or polls for the item that waits. Want
 /// of memory is no act.
-pub fn refused(number: u64, fault: StackFault) -> Result<Act, AllocError>
+pub fn refused(alloc: Global, number: u64, fault: StackFault) -> Result<Act, AllocError>
     ensures refused { IfOk result (λ act. act ≡ refusal_of fault number) }
     ensures memory { fault ≡ StackFault.NoMemory → IsErr result }
 {
     match fault {
         StackFault::Underflow => Ok(Act::Stops(End::Underflow(number))),
         StackFault::Operand => Ok(Act::Stops(End::BadInstruction(number))),
-        StackFault::Waits { life } => Ok(poll(life)),
+        StackFault::Waits { life } => poll(alloc, life),
         StackFault::NoMemory => Err(AllocError),
     }
 }
@@ -41,14 +42,16 @@ pub fn ask_empty(prefix: &Bytes, polled: u32) -> Result<Act, AllocError>
     let request = Request::PollEmpty {
         prefix: prefix.copy()?,
     };
+    let asked = Asked::new(prefix.allocator(), request)?;
     let prefix = prefix.copy()?;
-    Ok(Act::Asks(request, Awaits::Empty { prefix, polled }))
+    Ok(Act::Asks(asked, Awaits::Empty { prefix, polled }))
 }
 
 // The first poll for a life.
-fn poll(life: u64) -> Act
-    ensures { result ≡ polls_for life }
+fn poll(alloc: Global, life: u64) -> Result<Act, AllocError>
+    ensures { IfOk result (λ act. act ≡ polls_for life) }
 {
     let wait = Wait { life, polled: 0 };
-    Act::Asks(Request::PollStamp { life }, Awaits::Stamp(wait))
+    let asked = Asked::new(alloc, Request::PollStamp { life })?;
+    Ok(Act::Asks(asked, Awaits::Stamp(wait)))
 }

@@ -5,6 +5,7 @@
 #![tactic(auto)]
 
 mod act;
+mod asked;
 mod call;
 mod errors;
 mod instruction;
@@ -16,6 +17,7 @@ mod registers;
 mod replies;
 mod requests;
 
+pub use asked::Asked;
 pub use errors::Errors;
 pub use machine::{Machine, Step};
 pub use machine_rules::{End, ErrorNote, State};

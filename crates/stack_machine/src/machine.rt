@@ -7,10 +7,11 @@ ghost use Rattle.stack_machine.specs.Pushes.{PushesAnElement};
 ghost use Rattle.stack_machine.specs.Acts.{act_with};
 
 use crate::act::Act;
+use crate::asked::Asked;
 use crate::errors::Errors;
 use crate::instruction::instruction_of;
 use crate::registers::Registers;
-use fdb_calls::{Reply, Request};
+use fdb_calls::Reply;
 use key_bytes::{Bytes, Pairs};
 use machine_rules::{Awaits, End, Instruction, State};
 use stack_items::Stack;
@@ -21,7 +22,7 @@ use std::marker::Model;
 #[derive(Debug, Drop)]
 pub enum Step {
     /// The machine asks this, and awaits the reply.
-    Ask(Request),
+    Ask(Asked),
     /// It ran an instruction, or used the reply, and is ready to go on.
     Again,
     /// It has stopped.
@@ -271,9 +272,9 @@ impl Machine {
         match act {
             Act::Does => self.finish(),
             Act::Stops(end) => self.stop(end),
-            Act::Asks(request, awaits) => {
+            Act::Asks(asked, awaits) => {
                 self.state = State::Awaiting(awaits);
-                Step::Ask(request)
+                Step::Ask(asked)
             }
         }
     }

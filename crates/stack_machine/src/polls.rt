@@ -9,6 +9,7 @@ ghost use Rattle.stack_machine.specs.Acts.{act_with, polled_act, PollsOn};
 ghost use Rattle.stack_machine.specs.Pushes.{PushesAnElement};
 
 use crate::act::{Act, ask_empty};
+use crate::asked::Asked;
 use crate::errors::{digits_of, error_item};
 use crate::registers::Registers;
 use fdb_calls::{Code, Reply, Request};
@@ -102,7 +103,8 @@ impl Registers {
             Polled::Known => self.run(number, instruction),
             Polled::NotYet(wait) => {
                 let request = Request::PollStamp { life: wait.life };
-                Ok(Act::Asks(request, Awaits::Stamp(wait)))
+                let asked = Asked::new(self.alloc(), request)?;
+                Ok(Act::Asks(asked, Awaits::Stamp(wait)))
             }
             Polled::Bound => Ok(Act::Stops(End::WaitBound(number))),
             Polled::Other => Ok(Act::Does),
@@ -125,8 +127,9 @@ impl Registers {
             Polled::Known => self.log_on(prefix),
             Polled::NotYet(wait) => {
                 let request = Request::PollStamp { life: wait.life };
+                let asked = Asked::new(self.alloc(), request)?;
                 let prefix = prefix.copy()?;
-                Ok(Act::Asks(request, Awaits::LoggedStamp { prefix, wait }))
+                Ok(Act::Asks(asked, Awaits::LoggedStamp { prefix, wait }))
             }
             Polled::Bound => Ok(Act::Stops(End::WaitBound(number))),
             Polled::Other => Ok(Act::Does),

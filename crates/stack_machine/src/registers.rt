@@ -12,6 +12,7 @@ ghost use Rattle.stack_machine.specs.Acts.{act_with};
 ghost use Rattle.stack_machine.specs.Pushes.{PushesAnElement};
 
 use crate::act::{Act, ask_empty, refused};
+use crate::asked::Asked;
 use crate::call::call_of;
 use crate::errors::Errors;
 use crate::requests::{awaits_of, request_of};
@@ -151,7 +152,7 @@ impl Registers {
     {
         match self.stack.operate(operation, number) {
             Ok(()) => Ok(Act::Does),
-            Err(fault) => refused(number, fault),
+            Err(fault) => refused(self.alloc, number, fault),
         }
     }
 
@@ -164,7 +165,7 @@ impl Registers {
                 self.name = name;
                 Ok(Act::Does)
             }
-            Err(fault) => refused(number, fault),
+            Err(fault) => refused(self.alloc, number, fault),
         }
     }
 
@@ -182,8 +183,11 @@ impl Registers {
         let request = request_of(&mut operands, self.alloc, operation, name, self.last_seen);
         let popped = operands.popped();
         match self.stack.settle(popped, request) {
-            Ok(request) => Ok(Act::Asks(request, awaits_of(operation))),
-            Err(fault) => refused(number, fault),
+            Ok(request) => {
+                let asked = Asked::new(self.alloc, request)?;
+                Ok(Act::Asks(asked, awaits_of(operation)))
+            }
+            Err(fault) => refused(self.alloc, number, fault),
         }
     }
 
@@ -200,21 +204,21 @@ impl Registers {
         let call = call_of(&mut operands, self.alloc, operation, scope);
         let popped = operands.popped();
         match self.stack.settle(popped, call) {
-            Ok((call, awaits)) => Ok(Act::Asks(self.request_in(scope, call)?, awaits)),
-            Err(fault) => refused(number, fault),
+            Ok((call, awaits)) => Ok(Act::Asks(self.asked_in(scope, call)?, awaits)),
+            Err(fault) => refused(self.alloc, number, fault),
         }
     }
 
     // The request that makes a call in this scope.
-    fn request_in(&self, scope: Scope, call: TxnCall) -> Result<Request, AllocError>
-        ensures { IfOk result (λ request. request ≡ request_in scope self.now.name call) }
+    fn asked_in(&self, scope: Scope, call: TxnCall) -> Result<Asked, AllocError>
+        ensures { IfOk result (λ asked. asked ≡ request_in scope self.now.name call) }
     {
         match scope {
             Scope::Transaction | Scope::Snapshot => {
                 let name = self.name.copy()?;
-                Ok(Request::On { name, call })
+                Asked::new(self.alloc, Request::On { name, call })
             }
-            Scope::Database => Ok(Request::Database { call }),
+            Scope::Database => Asked::new(self.alloc, Request::Database { call }),
         }
     }
 
@@ -224,7 +228,7 @@ impl Registers {
     {
         match self.stack.pop_bytes() {
             Ok(prefix) => self.log_on(&prefix),
-            Err(fault) => refused(number, fault),
+            Err(fault) => refused(self.alloc, number, fault),
         }
     }
 
@@ -233,8 +237,11 @@ impl Registers {
         ensures { IfOk result (λ act. act_with self.new act ≡ asks number self.old Awaits.Start (start_request self.old.stack)) }
     {
         match self.stack.pop_bytes() {
-            Ok(prefix) => Ok(Act::Asks(Request::Start { prefix }, Awaits::Start)),
-            Err(fault) => refused(number, fault),
+            Ok(prefix) => {
+                let asked = Asked::new(self.alloc, Request::Start { prefix })?;
+                Ok(Act::Asks(asked, Awaits::Start))
+            }
+            Err(fault) => refused(self.alloc, number, fault),
         }
     }
 
@@ -244,7 +251,7 @@ impl Registers {
     {
         match self.stack.pop_bytes() {
             Ok(prefix) => ask_empty(&prefix, 0),
-            Err(fault) => refused(number, fault),
+            Err(fault) => refused(self.alloc, number, fault),
         }
     }
 
@@ -267,18 +274,17 @@ impl Registers {
         let copy = prefix.copy()?;
         if let Some(life) = self.stack.batch_life() {
             let wait = Wait { life, polled: 0 };
-            let request = Request::PollStamp { life };
-            return Ok(Act::Asks(request, Awaits::LoggedStamp { prefix: copy, wait }));
+            let asked = Asked::new(self.alloc, Request::PollStamp { life })?;
+            return Ok(Act::Asks(asked, Awaits::LoggedStamp { prefix: copy, wait }));
         }
         let entries = self.stack.take_log()?;
         let prefix = prefix.copy()?;
-        Ok(Act::Asks(
-            Request::Log {
-                prefix: copy,
-                entries,
-            },
-            Awaits::Logged { prefix },
-        ))
+        let request = Request::Log {
+            prefix: copy,
+            entries,
+        };
+        let asked = Asked::new(self.alloc, request)?;
+        Ok(Act::Asks(asked, Awaits::Logged { prefix }))
     }
 
     // The uppermost item that waits is this element from now on.

@@ -3,6 +3,7 @@ ghost use Rattle.machine_rules.specs.declared.State.TheVariants.{Running};
 
 use super::*;
 use Course::{Asks, Bad, Under};
+use fdb_calls::{Request, TxnCall};
 use fdb_tuple::{Elem, pack_element};
 use key_bytes::{Bytes, Pair, Pairs};
 use std::alloc::{AllocError, Global};
@@ -115,9 +116,29 @@ fn stays_as_made(alloc: Global) -> Result<bool, AllocError> {
     Ok(is_as_made(&machine) && matches!(machine.state(), State::Stopped(End::BadInstruction(0))))
 }
 
+fn is_commit_of_p(request: &Request) -> bool {
+    match request {
+        Request::On {
+            name,
+            call: TxnCall::Commit,
+        } => name.as_slice() == b"p".as_slice(),
+        _ => false,
+    }
+}
+
+// Whether COMMIT asks for the commit of the transaction under the machine's prefix.
+fn asks_to_commit(alloc: Global) -> Result<bool, AllocError> {
+    let mut machine = machine_with(alloc, b"COMMIT")?;
+    match machine.step(None)? {
+        Step::Ask(asked) => Ok(is_commit_of_p(asked.request())),
+        _ => Ok(false),
+    }
+}
+
 #[test]
 fn a_name_asks_or_stops(rt: HostRuntime) -> Result<(), Fail> {
     assert_eq!(rt; first_other_name(rt.alloc())?, None);
     assert!(rt; stays_as_made(rt.alloc())?);
+    assert!(rt; asks_to_commit(rt.alloc())?);
     Ok(())
 }

@@ -242,14 +242,19 @@ fn snapshot_of(call: &TxnCall) -> Option<bool> {
 // Whether an act asks a read, by snapshot or not, and on the transaction `p` or on one of its own.
 fn is_read(act: &Act, is_by_snapshot: bool, is_named: bool) -> bool {
     match act {
-        Act::Asks(Request::On { name, call }, _) => {
+        Act::Asks(asked, _) => is_read_request(asked.request(), is_by_snapshot, is_named),
+        _ => false,
+    }
+}
+
+fn is_read_request(request: &Request, is_by_snapshot: bool, is_named: bool) -> bool {
+    match request {
+        Request::On { name, call } => {
             is_named
                 && name.as_slice() == b"p".as_slice()
                 && snapshot_of(call) == Some(is_by_snapshot)
         }
-        Act::Asks(Request::Database { call }, _) => {
-            !is_named && snapshot_of(call) == Some(is_by_snapshot)
-        }
+        Request::Database { call } => !is_named && snapshot_of(call) == Some(is_by_snapshot),
         _ => false,
     }
 }
@@ -289,7 +294,7 @@ fn reads_are_by_snapshot_where_their_name_says_so(rt: HostRuntime) -> Result<(),
 
 // A call on the transaction `p` that was asked.
 #[derive(Clone, Copy)]
-enum Asked {
+enum Wanted {
     ReadVersion,
     SetReadVersion(i64),
     CommittedVersion,
@@ -302,23 +307,23 @@ fn is_range(range: &KeyRange, begin: &[u8], end: &[u8]) -> bool {
     range.begin.as_slice() == begin && range.end.as_slice() == end
 }
 
-fn is_call(call: &TxnCall, asked: Asked) -> bool {
+fn is_call(call: &TxnCall, asked: Wanted) -> bool {
     match (call, asked) {
-        (TxnCall::ReadVersion, Asked::ReadVersion) => true,
-        (TxnCall::SetReadVersion { version }, Asked::SetReadVersion(wanted)) => *version == wanted,
-        (TxnCall::CommittedVersion, Asked::CommittedVersion) => true,
-        (TxnCall::NoWriteConflict, Asked::NoWriteConflict) => true,
-        (TxnCall::ReadConflict { range }, Asked::ReadConflict(begin, end)) => is_range(
+        (TxnCall::ReadVersion, Wanted::ReadVersion) => true,
+        (TxnCall::SetReadVersion { version }, Wanted::SetReadVersion(wanted)) => *version == wanted,
+        (TxnCall::CommittedVersion, Wanted::CommittedVersion) => true,
+        (TxnCall::NoWriteConflict, Wanted::NoWriteConflict) => true,
+        (TxnCall::ReadConflict { range }, Wanted::ReadConflict(begin, end)) => is_range(
             range, begin, end,
         ),
-        (TxnCall::WriteConflict { range }, Asked::WriteConflict(begin, end)) => is_range(
+        (TxnCall::WriteConflict { range }, Wanted::WriteConflict(begin, end)) => is_range(
             range, begin, end,
         ),
         _ => false,
     }
 }
 
-fn is_asked(request: &Request, asked: Asked) -> bool {
+fn is_asked(request: &Request, asked: Wanted) -> bool {
     match request {
         Request::On { name, call } => { name.as_slice() == b"p".as_slice() && is_call(call, asked) }
         _ => false,
@@ -326,9 +331,9 @@ fn is_asked(request: &Request, asked: Asked) -> bool {
 }
 
 // The reply that a call has.
-fn reply_to(asked: Asked) -> Reply {
+fn reply_to(asked: Wanted) -> Reply {
     match asked {
-        Asked::ReadVersion | Asked::CommittedVersion => Reply::Version(7),
+        Wanted::ReadVersion | Wanted::CommittedVersion => Reply::Version(7),
         _ => Reply::Done,
     }
 }
@@ -337,7 +342,7 @@ fn reply_to(asked: Asked) -> Reply {
 type Work = (
     &'static [Lying],
     TransactionOperation,
-    Asked,
+    Wanted,
     Option<&'static [u8]>,
 );
 
@@ -350,9 +355,9 @@ fn is_left(registers: &Registers, text: Option<&[u8]>) -> bool {
 }
 
 // Uses the reply to an act's request, if it asks this; whether it does.
-fn replies(registers: &mut Registers, act: &Act, asked: Asked) -> Result<bool, AllocError> {
+fn replies(registers: &mut Registers, act: &Act, asked: Wanted) -> Result<bool, AllocError> {
     match act {
-        Act::Asks(request, awaits) if is_asked(request, asked) => {
+        Act::Asks(request, awaits) if is_asked(request.request(), asked) => {
             let _act = registers.use_reply(RUN, awaits, &reply_to(asked))?;
             Ok(true)
         }
@@ -371,39 +376,39 @@ const WORKS: &[Work] = &[
     (
         &[],
         GetReadVersion,
-        Asked::ReadVersion,
+        Wanted::ReadVersion,
         Some(b"GOT_READ_VERSION"),
     ),
-    (&[], SetReadVersion, Asked::SetReadVersion(0), None),
+    (&[], SetReadVersion, Wanted::SetReadVersion(0), None),
     (
         &[],
         GetCommittedVersion,
-        Asked::CommittedVersion,
+        Wanted::CommittedVersion,
         Some(b"GOT_COMMITTED_VERSION"),
     ),
-    (&[], DisableWriteConflict, Asked::NoWriteConflict, None),
+    (&[], DisableWriteConflict, Wanted::NoWriteConflict, None),
     (
         &[Str(b"e"), Str(b"b")],
         ReadConflictRange,
-        Asked::ReadConflict(b"b", b"e"),
+        Wanted::ReadConflict(b"b", b"e"),
         Some(b"SET_CONFLICT_RANGE"),
     ),
     (
         &[Str(b"e"), Str(b"b")],
         WriteConflictRange,
-        Asked::WriteConflict(b"b", b"e"),
+        Wanted::WriteConflict(b"b", b"e"),
         Some(b"SET_CONFLICT_RANGE"),
     ),
     (
         &[K],
         ReadConflictKey,
-        Asked::ReadConflict(b"k", b"k\x00"),
+        Wanted::ReadConflict(b"k", b"k\x00"),
         Some(b"SET_CONFLICT_KEY"),
     ),
     (
         &[K],
         WriteConflictKey,
-        Asked::WriteConflict(b"k", b"k\x00"),
+        Wanted::WriteConflict(b"k", b"k\x00"),
         Some(b"SET_CONFLICT_KEY"),
     ),
 ];
@@ -428,7 +433,7 @@ fn hands_on(
     let mut registers = registers_with(alloc, &[])?;
     let _act = registers.use_reply(RUN, awaits, reply)?;
     let act = registers.run(RUN, Some(Instruction::OnTransaction(SetReadVersion)))?;
-    replies(&mut registers, &act, Asked::SetReadVersion(version))
+    replies(&mut registers, &act, Wanted::SetReadVersion(version))
 }
 
 #[test]
@@ -525,9 +530,9 @@ fn entry_count(request: &Request) -> usize {
 // How many entries an act's request has, 0 where there is none, and what its reply comes to.
 fn logged(registers: &mut Registers, act: Act, reply: &Reply) -> Result<(usize, Act), AllocError> {
     match act {
-        Act::Asks(request, awaits) => {
+        Act::Asks(asked, awaits) => {
             let next = registers.use_reply(RUN, &awaits, reply)?;
-            Ok((entry_count(&request), next))
+            Ok((entry_count(asked.request()), next))
         }
         _ => Ok((0, act)),
     }

@@ -145,29 +145,28 @@ finishes pairs arguments core words seats rendered leads seated none dump_is sta
 }
 
 -- what was rendered of the seats and of the order
-pub rendered_finishes : (pairs : List (List ℕ × List ℕ)) (arguments : RunArgs) (core : CoreModel) (words : ℕ → ℕ) (seats slice : List Seat)
+pub rendered_finishes : (pairs : List (List ℕ × List ℕ)) (arguments : RunArgs) (core : CoreModel) (words : ℕ → ℕ) (seats : List Seat)
     (order : List ℕ) (rendered : Rendered)
-    → Leads pairs arguments core words seats order → AreSeated seats → ((number : ℕ) → asks_at seats number ≡ false) → slice ≡ seats
-    → rendered.order ≡ order → rendered.dump.items ≡ dump_of slice order (newest_pairs core.store)
-    → rendered.status ≡ cond (list_all (λ (seat : Seat). has_ended seat.machine.machine.state) slice) 0 3
+    → Leads pairs arguments core words seats order → AreSeated seats → ((number : ℕ) → asks_at seats number ≡ false)
+    → rendered.order ≡ order → rendered.dump.items ≡ dump_of seats order (newest_pairs core.store)
+    → rendered.status ≡ cond (list_all (λ (seat : Seat). has_ended seat.machine.machine.state) seats) 0 3
     → Renders pairs arguments rendered
-rendered_finishes pairs arguments core words seats slice order rendered leads seated none same order_is dump_is status_is =
+rendered_finishes pairs arguments core words seats order rendered leads seated none order_is dump_is status_is =
     finishes pairs arguments core words seats rendered
     (subst (λ (o : List ℕ). Leads pairs arguments core words seats o) (sym order_is) leads) seated none
-    (dump_is ∙ (λ i. dump_of (same i) (sym order_is i) (newest_pairs core.store)))
-    (status_is ∙ ap (λ (all : List Seat). cond (list_all (λ (seat : Seat). has_ended seat.machine.machine.state) all) 0 3) same)
+    (dump_is ∙ ap (λ (o : List ℕ). dump_of seats o (newest_pairs core.store)) (sym order_is)) status_is
 
 -- and so where memory may have run out
-pub run_renders : (pairs : List (List ℕ × List ℕ)) (arguments : RunArgs) (core : CoreModel) (words : ℕ → ℕ) (seats slice : List Seat)
+pub run_renders : (pairs : List (List ℕ × List ℕ)) (arguments : RunArgs) (core : CoreModel) (words : ℕ → ℕ) (seats : List Seat)
     (order : List ℕ) (result : Result Rendered AllocError)
-    → Leads pairs arguments core words seats order → AreSeated seats → ((number : ℕ) → asks_at seats number ≡ false) → slice ≡ seats
+    → Leads pairs arguments core words seats order → AreSeated seats → ((number : ℕ) → asks_at seats number ≡ false)
     → IfOk result (λ rendered. rendered.order ≡ order)
-    → IfOk result (λ rendered. rendered.dump.items ≡ dump_of slice order (newest_pairs core.store))
-    → IfOk result (λ rendered. rendered.status ≡ cond (list_all (λ (seat : Seat). has_ended seat.machine.machine.state) slice) 0 3)
+    → IfOk result (λ rendered. rendered.dump.items ≡ dump_of seats order (newest_pairs core.store))
+    → IfOk result (λ rendered. rendered.status ≡ cond (list_all (λ (seat : Seat). has_ended seat.machine.machine.state) seats) 0 3)
     → IfOk result (Renders pairs arguments)
-run_renders pairs arguments core words seats slice order (Ok rendered) leads seated none same order_is dump_is status_is =
-    rendered_finishes pairs arguments core words seats slice order rendered leads seated none same order_is dump_is status_is
-run_renders pairs arguments core words seats slice order (Err short) leads seated none same order_is dump_is status_is = tt
+run_renders pairs arguments core words seats order (Ok rendered) leads seated none order_is dump_is status_is =
+    rendered_finishes pairs arguments core words seats order rendered leads seated none order_is dump_is status_is
+run_renders pairs arguments core words seats order (Err short) leads seated none order_is dump_is status_is = tt
 
 pub run_turns : (pairs : List (List ℕ × List ℕ)) (arguments : RunArgs) (order : List ℕ) (result : Result Rendered AllocError)
     → AreByTurns pairs arguments order → IfOk result (λ rendered. rendered.order ≡ order)

@@ -168,7 +168,7 @@ fn request_at(seats: &[Seat], number: usize) -> &Request
     requires asks { asks_at seats.now number ≡ true }
     ensures { option_and_then (λ seat. seat.asks) (slice_get seats.now number) ≡ Some result.now }
 {
-    seats[number].asks.as_ref().unwrap()
+    seats[number].asks.as_ref().unwrap().request()
 }
 
 // The prefix under which a request starts a machine, if it starts one.

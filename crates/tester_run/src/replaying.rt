@@ -46,7 +46,7 @@ pub fn replay(alloc: Global, arguments: &RunArgs, input: Input) -> Result<Render
     if first_asking(&seats, 0).is_some() {
         return Err(OrderFault::EndsEarly);
     }
-    Ok(rendered_of(alloc, &core, &seats, order)?)
+    Ok(rendered_of(alloc, core, seats, order)?)
 }
 
 // Takes the requests of the machines that an order names, one after the other, up to one that has none: why it stopped there.

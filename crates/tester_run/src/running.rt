@@ -17,6 +17,7 @@ use key_bytes::Pairs;
 use outside::PcgWords;
 use stack_machine::{End, State};
 use std::alloc::{AllocError, Global};
+use std::mem::forget;
 
 /// Every machine ended after its last instruction.
 const ENDED: u8 = 0;
@@ -46,23 +47,26 @@ pub fn run(alloc: Global, arguments: &RunArgs, pairs: Pairs) -> Result<Rendered,
     drive(
         alloc, &mut core, &mut words, &mut seats, &mut order, &mut from,
     )?;
-    rendered_of(alloc, &core, &seats, order)
+    rendered_of(alloc, core, seats, order)
 }
 
-/// What stands at the end of a run, rendered.
+/// What stands at the end of a run, rendered. The memory of the core and of the machines isn't given back then, which would be
+/// a walk through all of it: the program is about to end.
 pub fn rendered_of(
     alloc: Global,
-    core: &Core,
-    seats: &[Seat],
+    core: Core,
+    seats: Vec<Seat>,
     order: Order,
 ) -> Result<Rendered, AllocError>
     ensures order { IfOk result (λ rendered. rendered.order ≡ order) }
-    ensures dump { IfOk result (λ rendered. rendered.dump.items ≡ dump_of seats.now order (newest_pairs core.now.store)) }
+    ensures dump { IfOk result (λ rendered. rendered.dump.items ≡ dump_of seats.items order (newest_pairs core.store)) }
     ensures status { IfOk result (λ rendered. rendered.status
-        ≡ (if list_all (λ seat. has_ended seat.machine.machine.state) seats.now then 0 else 3)) }
+        ≡ (if list_all (λ seat. has_ended seat.machine.machine.state) seats.items then 0 else 3)) }
 {
-    let dump = render(alloc, seats, &order, core)?;
-    let status = status_of(seats);
+    let dump = render(alloc, &seats, &order, &core)?;
+    let status = status_of(&seats);
+    forget(core);
+    forget(seats);
     Ok(Rendered {
         dump,
         order,

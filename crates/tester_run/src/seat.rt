@@ -7,15 +7,15 @@ ghost use Rattle.machine_rules.specs.Runs.{at_rest};
 ghost use Rattle.machine_rules.specs.Laws.{is_awaiting};
 ghost use Rattle.tester_run.specs.Driving.{progress_of, with_asked, work_left, IsNearer, IsSeated};
 
-use fdb_calls::{Reply, Request};
-use stack_machine::{Machine, Step};
+use fdb_calls::Reply;
+use stack_machine::{Asked, Machine, Step};
 use std::alloc::AllocError;
 
 /// A machine that has come to rest, and what it asks; nothing where it has stopped.
 #[derive(Debug, Drop)]
 pub struct Seat {
     pub machine: Machine,
-    pub asks: Option<Request>,
+    pub asks: Option<Asked>,
 }
 
 impl Seat {
@@ -54,7 +54,7 @@ impl Seat {
 }
 
 // Lets a machine that awaits no reply run on, until it asks or has stopped: what it asks.
-fn run_on(machine: &mut Machine) -> Result<Option<Request>, AllocError>
+fn run_on(machine: &mut Machine) -> Result<Option<Asked>, AllocError>
     requires ready { machine.old.is_out_of_memory ≡ false }
     requires silent { is_awaiting machine.old.machine.state ≡ false }
     ensures rests { IfOk result (λ asks. with_asked machine.new.machine asks ≡ at_rest (silent machine.old.machine)) }

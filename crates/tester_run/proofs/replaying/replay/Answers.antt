@@ -41,9 +41,9 @@ returns-clause-renders c =
     let first = leads_first c.args.input.pairs c.args.arguments.now c.in_ok-core.core _ c.in_ok-seats.seats.items c.new-order.result
     c.in_ok-core.ensures.begun c.new-words.ensures.to_come c.in_ok-seats.ensures c.new-order.ensures in
     let leads = c.in_ok-stopped.ensures.goes_on c.args.input.pairs c.args.arguments.now first.leads in
-    rendered_finishes c.args.input.pairs c.args.arguments.now c.follow.new.core _ c.follow.new.seats.items c.deref-2.result.now
+    rendered_finishes c.args.input.pairs c.args.arguments.now c.follow.new.core _ c.follow.new.seats.items
     c.follow.new.order c.in_ok-rendered_of.field-0 leads c.in_ok-stopped.ensures.going.seated
     (none_asks c.first_asking.result c.follow.new.seats.items
     (subst (λ (seats : List Seat). IsFirstAsking seats 0 c.first_asking.result) c.deref.ensures.value c.first_asking.ensures)
     (sym c.is_some.ensures ∙ c.if-is_some.false))
-    c.deref-2.ensures.value c.in_ok-rendered_of.ensures.order c.in_ok-rendered_of.ensures.dump c.in_ok-rendered_of.ensures.status
+    c.in_ok-rendered_of.ensures.order c.in_ok-rendered_of.ensures.dump c.in_ok-rendered_of.ensures.status

@@ -11,8 +11,8 @@ returns-clause-renders c =
     let first = leads_first c.args.pairs c.args.arguments.now c.in_ok-core.core _ c.in_ok-seats.seats.items c.new-order.result
     c.in_ok-core.ensures.begun c.new-words.ensures.to_come c.in_ok-seats.ensures c.new-order.ensures in
     let last = c.in_ok-drive.ensures.goes_on c.args.pairs c.args.arguments.now first in
-    run_renders c.args.pairs c.args.arguments.now c.drive.new.core _ c.drive.new.seats.items c.deref.result.now c.drive.new.order
-    c.rendered_of.result last.leads c.in_ok-drive.ensures.going.seated c.in_ok-drive.ensures.ended c.deref.ensures.value
+    run_renders c.args.pairs c.args.arguments.now c.drive.new.core _ c.drive.new.seats.items c.drive.new.order
+    c.rendered_of.result last.leads c.in_ok-drive.ensures.going.seated c.in_ok-drive.ensures.ended
     c.rendered_of.ensures.order c.rendered_of.ensures.dump c.rendered_of.ensures.status
 
 pub returns-clause-turns : goal.returns-clause-turns
