@@ -1,6 +1,6 @@
 -- What a walk meets first in a segment of keys that mutations treat alike.
-use Rattle.std.proofs.Common.{◌≡◌, ℕ, Bool, true, false, cond, not, ◌⊎◌, inl, inr, List, Option, Some, None, refl, sym, ap, subst, ◌∙◌, true≢false}
-use Rattle.std.proofs.lemmas.Bool.{not-true}
+use Rattle.std.proofs.Common.{◌≡◌, ℕ, Bool, true, false, cond, not, ◌&&◌, ◌⊎◌, inl, inr, List, Option, Some, None, IfSome, refl, sym, ap, subst, ◌∙◌, true≢false}
+use Rattle.std.proofs.lemmas.Bool.{and_parts, not-true}
 use Rattle.std.proofs.lemmas.Option.{none-some}
 use Rattle.std.specs.FinMap as finite
 use Rattle.std.specs.Option.{option_map}
@@ -17,8 +17,8 @@ use Rattle.database_rules.specs.States.{KeyState, Unmodified, Decided, Depends, 
 use Rattle.edge_map.specs.Edges.{IsBelowEdge}
 use Rattle.range_read.specs.Walks.{is_onward}
 use Rattle.range_read.proofs.Walks.{Entry}
-use Rattle.ryw_view.specs.Segments.{IsSegment}
-use Rattle.ryw_view.specs.Walks.{meets_first, is_inside, inside_of, IsFirstMet}
+use Rattle.ryw_view.specs.Segments.{IsSegment, AreBare, is_bare}
+use Rattle.ryw_view.specs.Walks.{meets_first, is_inside, inside_of, IsFirstMet, MeetsFirst}
 use Rattle.write_map.specs.Pending.{AreAlike, IsBare, is_single_state}
 use Rattle.ryw_view.proofs.Firsts.{not_first_itself, which_first}
 use Rattle.ryw_view.proofs.Passed.{last_below}
@@ -162,6 +162,10 @@ same_key a b low high = elim (which_first false a b) [
   | inr (inr above) ↦ absurd (true≢false (sym above ∙ not-true (key_lt b a) low))
 ]
 
+below_edge : (edge : Option (List ℕ)) (q : List ℕ) → is_inside edge false q ≡ true → IsBelowEdge q edge
+below_edge None q inside = tt
+below_edge (Some edge) q inside = inside
+
 -- from a key up to the edge above it
 pub segment_up : (mutations : List Mutation) (edges : List (List ℕ)) (from : List ℕ) (edge : Option (List ℕ))
     → edge ≡ first (filter (key_lt from) edges)
@@ -170,7 +174,7 @@ pub segment_up : (mutations : List Mutation) (edges : List (List ℕ)) (from : L
 segment_up mutations edges from edge is alike single = record {
   onward = ap not (irreflexive from);
   inside = inside edge (sym is);
-  alike = λ q is_on inside. alike q is_on (below edge q inside);
+  alike = λ q is_on inside. alike q is_on (below_edge edge q inside);
   single = λ is q is_on inside. same_key q from
       (sym (lt_after q from) ∙ subst (λ edge. is_inside edge false q ≡ true) (single is) inside) is_on;
 }
@@ -178,10 +182,6 @@ segment_up mutations edges from edge is alike single = record {
     inside : (edge : Option (List ℕ)) → first (filter (key_lt from) edges) ≡ edge → is_inside edge false from ≡ true
     inside None is = refl
     inside (Some edge) is = first_passes (key_lt from) edges edge is
-
-    below : (edge : Option (List ℕ)) (q : List ℕ) → is_inside edge false q ≡ true → IsBelowEdge q edge
-    below None q inside = tt
-    below (Some edge) q inside = inside
 
 -- below a key down to the edge below it
 pub segment_down : (mutations : List Mutation) (edges : List (List ℕ)) (until edge : List ℕ)
@@ -197,10 +197,71 @@ segment_down mutations edges until edge is alike single = record {
       (sym (lt_after q edge) ∙ lt_le q until (after edge) is_on (not-true (key_lt (after edge) until) (single is))) inside;
 }
 
--- where no key below this one has a mutation, what is stored there is what is met first
-pub bare_met : (mutations : List Mutation) (stored : Database) (until : List ℕ)
-    → ((q : List ℕ) → key_lt q until ≡ true → IsBare mutations q) → (pair : Option Entry) → IsFirstMet stored until true None pair
-    → IsFirstMet (seen mutations stored) until true None pair
-bare_met mutations stored until bare pair met =
-    stored_met (seen mutations stored) stored until true None
-    (λ q is_on inside. let here = bare q is_on in seen_readable mutations stored q Unmodified here.readable here.unmodified) pair met
+-- ---- untouched keys
+
+unmodified_is : (state : KeyState) → is_unmodified state ≡ true → state ≡ Unmodified
+unmodified_is Unmodified is = refl
+unmodified_is (Decided value) is = absurd (true≢false (sym is))
+unmodified_is (Depends operations) is = absurd (true≢false (sym is))
+
+pub tells_bare : (mutations : List Mutation) (q : List ℕ) → IsBare mutations q → is_bare mutations q ≡ true
+tells_bare mutations q bare i = is_unmodified (bare.unmodified i) && not (bare.readable i)
+
+bare_told : (mutations : List Mutation) (q : List ℕ) → is_bare mutations q ≡ true → IsBare mutations q
+bare_told mutations q is =
+    let parts = and_parts (is_unmodified (state_under mutations q)) (not (covers (unreadable mutations) q)) is in record {
+      unmodified = unmodified_is (state_under mutations q) parts.0;
+      readable = not-true (covers (unreadable mutations) q) parts.1;
+    }
+
+-- a key that is alike to an untouched one is untouched
+bare_alike : (mutations : List Mutation) (key q : List ℕ) → IsStateUnder mutations key shown.Unmodified → AreAlike mutations key q
+    → is_bare mutations q ≡ true
+bare_alike mutations key q under alike = tells_bare mutations q record {
+  unmodified = sym alike.states ∙ under.1;
+  readable = sym alike.readable ∙ under.0;
+}
+
+-- from an untouched key up to the edge above it
+pub bare_up : (mutations : List Mutation) (from : List ℕ) (edge : Option (List ℕ)) → IsStateUnder mutations from shown.Unmodified
+    → ((q : List ℕ) → key_le from q ≡ true → IsBelowEdge q edge → AreAlike mutations from q) → AreBare mutations from false edge
+bare_up mutations from edge under alike q is_on inside = bare_alike mutations from q under (alike q is_on (below_edge edge q inside))
+
+-- from an untouched edge up to a key above it
+pub bare_down : (mutations : List Mutation) (until edge : List ℕ) → IsStateUnder mutations edge shown.Unmodified
+    → ((q : List ℕ) → key_le edge q ≡ true → key_lt q until ≡ true → AreAlike mutations edge q)
+    → AreBare mutations edge false (Some until)
+bare_down mutations until edge under alike q is_on inside = bare_alike mutations edge q under (alike q is_on inside)
+
+-- where no mutation touches the keys of a segment, what is met first there of what is stored is what is met first
+pub bare_met : (mutations : List Mutation) (stored : Database) (from : List ℕ) (down : Bool) (edge : Option (List ℕ))
+    → AreBare mutations from down edge → (pair : Option Entry) → IsFirstMet stored from down edge pair
+    → IsFirstMet (seen mutations stored) from down edge pair
+bare_met mutations stored from down edge bare pair met = stored_met (seen mutations stored) stored from down edge same pair met
+  where
+    same : (q : List ℕ) → is_onward from down q ≡ true → is_inside edge down q ≡ true
+        → finite.get (seen mutations stored) q ≡ finite.get stored q
+    same q is_on inside =
+        let here = bare_told mutations q (bare q is_on inside) in seen_readable mutations stored q Unmodified here.readable here.unmodified
+
+-- and where it is met there, it is the first of all
+pub bare_first : (mutations : List Mutation) (stored : Database) (from : List ℕ) (down : Bool) (edge : Option (List ℕ))
+    → AreBare mutations from down edge → (pair : Option Entry) → IsFirstMet stored from down edge pair
+    → IfSome pair (MeetsFirst (seen mutations stored) from down)
+bare_first mutations stored from down edge bare None none = tt
+bare_first mutations stored from down edge bare (Some pair) met = (bare_met mutations stored from down edge bare (Some pair) met).0
+
+-- of untouched keys, those from one of them on
+pub untouched_up : (mutations : List Mutation) (low key : List ℕ) (high : Option (List ℕ)) → AreBare mutations low false high
+    → key_le low key ≡ true → AreBare mutations key false high
+untouched_up mutations low key high bare is q is_on inside = bare q (ap not (by (key_lt q low) refl)) inside
+  where
+    by : (b : Bool) → key_lt q low ≡ b → b ≡ false
+    by true below = absurd
+        (true≢false (sym (le_lt key q low (not-true (key_lt q key) is_on) below) ∙ not-true (key_lt key low) is))
+    by false below = refl
+
+-- and those below a key that is not above them
+pub untouched_down : (mutations : List Mutation) (low key : List ℕ) (high : Option (List ℕ)) → AreBare mutations low false high
+    → ((q : List ℕ) → key_lt q key ≡ true → is_inside high false q ≡ true) → AreBare mutations key true (Some low)
+untouched_down mutations low key high bare is q is_on inside = bare q inside (is q is_on)

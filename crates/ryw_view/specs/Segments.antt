@@ -1,10 +1,10 @@
 -- Keys that pending mutations treat alike, on the way of a walk.
-use Rattle.std.specs.Prelude.{◌≡◌, ℕ, Bool, true, false, List, Option, Some}
+use Rattle.std.specs.Prelude.{◌≡◌, ℕ, Bool, true, false, not, ◌&&◌, List, Option, Some}
 use Rattle.std.specs.List.{filter}
 use Rattle.key_bytes.specs.Keys.{key_le, key_lt}
 use Rattle.key_map.specs.Ends.{first}
 use Rattle.database_rules.specs.Databases.{Mutation}
-use Rattle.database_rules.specs.States.{state_under}
+use Rattle.database_rules.specs.States.{covers, is_unmodified, state_under, unreadable}
 use Rattle.range_read.specs.Walks.{is_onward}
 use Rattle.write_map.specs.declared.state.KeyState.{KeyState as Shown}
 use Rattle.write_map.specs.declared.state.KeyState.TheVariants as shown
@@ -30,6 +30,15 @@ pub record IsEdgeBelow (pending : Pending) (from end edge : List ℕ) : Type 0 w
   pub is : first (filter (key_lt from) pending.edges) ≡ Some edge
   pub below : key_lt edge end ≡ true
   pub alike : AreAlikeUpTo pending.mutations from edge
+
+-- no mutation touches a key
+abbrev pub is_bare : List Mutation → List ℕ → Bool
+is_bare mutations key = is_unmodified (state_under mutations key) && not (covers (unreadable mutations) key)
+
+-- none touches the keys that a walk meets from one on, up to an edge
+abbrev pub AreBare : List Mutation → (from : List ℕ) → (down : Bool) → (edge : Option (List ℕ)) → Type 0
+AreBare mutations from down edge =
+    (q : List ℕ) → is_onward from down q ≡ true → is_inside edge down q ≡ true → is_bare mutations q ≡ true
 
 -- a key with this answer is unreadable
 abbrev pub is_hidden : Shown → Bool

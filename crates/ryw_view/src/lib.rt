@@ -10,10 +10,12 @@
 //!
 //! The database that it shows is never built. All keys between two edges of the mutations have one state, so a walk asks
 //! the mutations once for each edge on its way: a segment has its own value, or none, or what the store has there.
+//! A `NearView` remembers the untouched keys at the near end of a walk, so that a step among them asks the store alone.
 #![tactic(auto)]
 
 mod applying;
 mod fault;
+mod near;
 mod stored;
 mod undecided;
 mod view;
@@ -21,6 +23,7 @@ mod walking;
 
 pub use applying::applied;
 pub use fault::ViewFault;
+pub use near::NearView;
 pub use undecided::{add_undecided, hides};
 pub use view::View;
 

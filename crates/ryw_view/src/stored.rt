@@ -67,7 +67,7 @@ fn inside<'a>(
 }
 
 // Whether a walk that comes to a key is still in the segment with this edge.
-fn is_inside(key: &Key, edge: Option<&Key>, down: bool) -> bool
+pub(crate) fn is_inside(key: &Key, edge: Option<&Key>, down: bool) -> bool
     ensures { result ≡ is_inside (option_copied edge.entry) down key.now }
 {
     match edge {

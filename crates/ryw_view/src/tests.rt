@@ -9,6 +9,7 @@ use write_map::WriteMap;
 
 mod beside;
 mod large;
+mod near;
 mod plain;
 
 fn key_of(alloc: Global, text: &[u8]) -> Result<Key, AllocError> {

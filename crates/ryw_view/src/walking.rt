@@ -18,7 +18,7 @@ use std::alloc::AllocError;
 use write_map::KeyState;
 
 // A copy of a pair.
-fn copied(found: Option<(&Key, &Bytes)>) -> Result<Option<Pair>, AllocError>
+pub(crate) fn copied(found: Option<(&Key, &Bytes)>) -> Result<Option<Pair>, AllocError>
     ensures { IfOk result (λ pair. option_map entry_of pair ≡ option_map deref_pair found.entry) }
 {
     match found {

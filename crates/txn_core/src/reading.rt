@@ -20,7 +20,7 @@ use database_rules::{Code, FUTURE_VERSION, Mode, Selector};
 use fdb_calls::TrFault;
 use key_bytes::{Bytes, Key, KeyRange, Pairs, is_below};
 use range_read::{RangeFault, all, lacks_limit, resolve};
-use ryw_view::{View, ViewFault};
+use ryw_view::{NearView, View, ViewFault};
 use std::alloc::AllocError;
 use version_store::Store;
 
@@ -76,15 +76,20 @@ impl Txn {
         }
     }
 
-    // The pairs of a range that it sees.
+    // The pairs of a range that it sees: a walk from the one end of the range to the other.
     fn pairs(&self, store: &Store, range: &KeyRange, manner: Manner) -> Result<Pairs, AllocError>
         requires { lacks_limit manner.mode manner.limit ≡ false }
         ensures { IfOk result (λ pairs. pairs ≡ slice (seen_by self.now store.now) range.now.begin range.now.end manner.limit manner.reverse) }
     {
-        let alloc = self.allocator();
+        let begin = if manner.reverse {
+            &range.end
+        } else {
+            &range.begin
+        };
+        let view = NearView::new(self.view(store), begin, manner.reverse)?;
         match all(
-            alloc,
-            &self.view(store),
+            self.allocator(),
+            &view,
             range,
             manner.limit,
             manner.reverse,

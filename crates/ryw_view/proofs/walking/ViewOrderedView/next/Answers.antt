@@ -1,5 +1,4 @@
-use Rattle.std.proofs.Common.{◌≡◌, ℕ, List, Option, false, None, Some, option_copied, sym, ap, subst, ◌∙◌}
-use Rattle.std.specs.Option.{option_map}
+use Rattle.std.proofs.Common.{false, None, Some, option_copied, sym, ap, subst, ◌∙◌}
 use Rattle.key_bytes.specs.Entries.{entry_of}
 use Rattle.key_bytes.specs.Keys.{key_lt}
 use Rattle.range_read.proofs.Rising.{first_passes}

@@ -1,4 +1,4 @@
-use Rattle.std.proofs.Common.{true, Some, refl, sym, ◌∙◌}
+use Rattle.std.proofs.Common.{true, Some, None, refl, sym, ◌∙◌}
 use Rattle.std.proofs.lemmas.Result.{IfOk-weaker}
 use Rattle.std.specs.Map.Iter.{deref_pair}
 use Rattle.std.specs.Option.{option_map}
@@ -6,7 +6,7 @@ use Rattle.key_bytes.specs.Entries.{entry_of}
 use Rattle.ryw_view.specs.Views.{seen_of, stored_of}
 use Rattle.ryw_view.proofs.Firsts.{met_last}
 use Rattle.ryw_view.proofs.Passed.{passed_segment, met_behind, met_to_the_end, fewer_below, last_below}
-use Rattle.ryw_view.proofs.Segments.{segment_down, bare_met}
+use Rattle.ryw_view.proofs.Segments.{segment_down, tells_bare, bare_met}
 use Rattle.ryw_view.proofs.walking.ViewOrderedView.prev.Goals as goal
 
 pub last_in-requires : goal.last_in-requires
@@ -40,6 +40,7 @@ returns c =
     (λ copy same. same
     ∙ met_last view key pair
     (met_to_the_end view key until true c.loop-edge.invariant pair
-    (bare_met self.edits.now.mutations (stored_of self) until ((c.in_default.ensures {u = tt}).bare refl) pair
+    (bare_met self.edits.now.mutations (stored_of self) until true None
+    (λ q is_on inside. tells_bare self.edits.now.mutations q ((c.in_default.ensures {u = tt}).bare refl q is_on)) pair
     c.last_stored.ensures)))
     c.copied.ensures

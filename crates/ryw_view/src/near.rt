@@ -1,0 +1,165 @@
+//! The view for a walk that begins at a key: a step among the keys around that one which no mutation touches takes one
+//! search of the store alone.
+
+ghost use Rattle.std.specs.Prelude.{◌≡◌, ℕ, List, true, false, IfOk, IfSome, option_copied, option_map};
+ghost use Rattle.std.specs.Map.Iter.{deref_pair};
+ghost use Rattle.std.specs.Option.{ForSome};
+ghost use Rattle.key_bytes.specs.Keys.{key_lt};
+ghost use Rattle.database_rules.specs.States.{seen};
+ghost use Rattle.version_store.specs.Versions.{at};
+ghost use Rattle.ryw_view.specs.Segments.{AreBare};
+ghost use Rattle.ryw_view.specs.Views.{seen_of};
+ghost use Rattle.ryw_view.specs.Walks.{is_inside, MeetsFirst};
+
+use crate::stored::is_inside;
+use crate::view::View;
+use crate::walking::copied;
+use key_bytes::{Bytes, Key, Pair};
+use range_read::OrderedView;
+use std::alloc::AllocError;
+use write_map::KeyState;
+
+/// A view for a walk that begins at a key. It shows the same database as the view that it was made of, and remembers keys
+/// around that one which no mutation touches.
+#[derive(Drop)]
+pub struct NearView<'a> {
+    /// The view that it was made of.
+    pub view: View<'a>,
+    // No mutation touches the keys from `low` on, below `high` where there is one. Without `low` none is remembered.
+    low: Option<Key>,
+    high: Option<Key>,
+    ghost untouched: { ForSome low (λ low. AreBare view.edits.now.mutations low false high) },
+}
+
+// A copy of the edge of a segment.
+fn copied_edge(edge: Option<&Key>) -> Result<Option<Key>, AllocError>
+    ensures { IfOk result (λ copy. copy ≡ option_copied edge.entry) }
+{
+    match edge {
+        None => Ok(None),
+        Some(edge) => Ok(Some(edge.copy()?)),
+    }
+}
+
+// Whether the keys below a key are below the edge of a segment.
+fn is_up_to(key: &Key, edge: Option<&Key>) -> bool
+    ensures { result ≡ true → (q : List ℕ) → key_lt q key.now ≡ true
+        → is_inside (option_copied edge.entry) false q ≡ true }
+{
+    match edge {
+        None => true,
+        Some(edge) => !edge.cmp(key).is_lt(),
+    }
+}
+
+impl<'a> NearView<'a> {
+    /// A view for a walk up from a key, or down from it. It remembers the keys from there up to the first edge above, or
+    /// down to the last edge below, where no mutation touches them. An error where memory runs out.
+    pub fn new(view: View<'a>, key: &Key, down: bool) -> Result<NearView<'a>, AllocError>
+        ensures { IfOk result (λ near. seen near.view.edits.now.mutations (at near.view.store.now near.view.version)
+            ≡ seen view.entry.edits.now.mutations (at view.entry.store.now view.entry.version)) }
+    {
+        if down {
+            NearView::below(view, key)
+        } else {
+            NearView::above(view, key)
+        }
+    }
+
+    // Remembers the keys from one on, up to the first edge above it.
+    fn above(view: View<'a>, key: &Key) -> Result<NearView<'a>, AllocError>
+        ensures { IfOk result (λ near. seen_of near.view ≡ seen_of view.entry) }
+    {
+        let (state, edge) = view.edits.around(key);
+        match state {
+            KeyState::Unmodified => NearView::knowing(view, key, edge),
+            _ => Ok(NearView::knowing_none(view)),
+        }
+    }
+
+    // Remembers the keys below one, down to the last edge below it.
+    fn below(view: View<'a>, key: &Key) -> Result<NearView<'a>, AllocError>
+        ensures { IfOk result (λ near. seen_of near.view ≡ seen_of view.entry) }
+    {
+        let Some(edge) = view.edits.prev_edge(key) else {
+            let lowest = Bytes::new(key.allocator());
+            return NearView::knowing(view, &lowest, Some(key));
+        };
+        match view.edits.at(edge) {
+            KeyState::Unmodified => NearView::knowing(view, edge, Some(key)),
+            _ => Ok(NearView::knowing_none(view)),
+        }
+    }
+
+    // Remembers these keys.
+    fn knowing(view: View<'a>, low: &Key, high: Option<&Key>) -> Result<NearView<'a>, AllocError>
+        requires { AreBare view.edits.now.mutations low.now false (option_copied high) }
+        ensures { IfOk result (λ near. seen_of near.view ≡ seen_of view.entry) }
+    {
+        let low = low.copy()?;
+        let high = copied_edge(high)?;
+        Ok(NearView {
+            view,
+            low: Some(low),
+            high,
+        })
+    }
+
+    // Remembers no key.
+    fn knowing_none(view: View<'a>) -> NearView<'a>
+        ensures { seen_of result.view ≡ seen_of view.entry }
+    {
+        NearView {
+            view,
+            low: None,
+            high: None,
+        }
+    }
+
+    // The first pair from a remembered key on, where its own key is remembered. It takes no memory.
+    fn next_near(&self, key: &Key) -> Option<(&'a Key, &'a Bytes)>
+        ensures { IfSome (option_map deref_pair result) (MeetsFirst (seen_of self.now.view) key.now false) }
+    {
+        let Some(low) = &self.low else {
+            return None;
+        };
+        let high = self.high.as_ref();
+        if is_inside(key, Some(low), true) && is_inside(key, high, false) {
+            self.view.first_stored(key, high)
+        } else {
+            None
+        }
+    }
+
+    // The last pair below a key, where the keys below it are remembered, and that of the pair is. It takes no memory.
+    fn prev_near(&self, key: &Key) -> Option<(&'a Key, &'a Bytes)>
+        ensures { IfSome (option_map deref_pair result) (MeetsFirst (seen_of self.now.view) key.now true) }
+    {
+        let Some(low) = &self.low else {
+            return None;
+        };
+        if low.cmp(key).is_lt() && is_up_to(key, self.high.as_ref()) {
+            self.view.last_stored(key, Some(low))
+        } else {
+            None
+        }
+    }
+}
+
+impl<'a> OrderedView for NearView<'a> {
+    ghost map = { λ near. seen near.view.edits.now.mutations (at near.view.store.now near.view.version) };
+
+    fn next(&self, key: &Key) -> Result<Option<Pair>, AllocError> {
+        match self.next_near(key) {
+            Some(pair) => copied(Some(pair)),
+            None => self.view.next(key),
+        }
+    }
+
+    fn prev(&self, key: &Key) -> Result<Option<Pair>, AllocError> {
+        match self.prev_near(key) {
+            Some(pair) => copied(Some(pair)),
+            None => self.view.prev(key),
+        }
+    }
+}

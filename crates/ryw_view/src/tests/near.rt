@@ -1,0 +1,83 @@
+//! Views for a walk beside the view that they were made of: begun at each key, and asked at each key.
+
+use super::*;
+
+// In rising order: keys with a mutation and without one, stored and not.
+const KEYS: [&'static [u8]; 13] = [
+    b"", b"a", b"b", b"c", b"c\0", b"d", b"e", b"f", b"g", b"h", b"i", b"j", b"\xff",
+];
+
+const SIX: &[Given] = &[
+    (b"a", &[31]),
+    (b"c", b"3"),
+    (b"d", b"4"),
+    (b"f", &[255]),
+    (b"h", b"8"),
+    (b"i", b"9"),
+];
+
+// A key in an untouched stretch is set, one cleared and one added to, and a range is cleared.
+const MIXED: &[Edit] = &[
+    Edit::Set(b"b", b"2"),
+    Edit::Clear(b"d"),
+    Edit::Atomic(AtomicOp::Add, b"f", &[1, 0]),
+    Edit::ClearRange(b"g", b"i"),
+];
+
+// Untouched keys lie between two cleared ranges alone.
+const CLEARED: &[Edit] = &[Edit::ClearRange(b"", b"b"), Edit::ClearRange(b"f", b"\xff")];
+
+const TABLE: &[&[Edit]] = &[&[], MIXED, CLEARED, ADDED, HIDDEN, DECIDED];
+
+fn is_same(pair: &Option<Pair>, other: &Option<Pair>) -> bool {
+    match (pair, other) {
+        (None, None) => true,
+        (Some(pair), Some(other)) => pair.key == other.key && pair.value == other.value,
+        _ => false,
+    }
+}
+
+// Whether both have the same pairs beside a key.
+fn is_alike(near: &NearView<'_>, view: &View<'_>, key: &Key) -> Result<bool, AllocError> {
+    Ok(is_same(&near.next(key)?, &view.next(key)?) && is_same(&near.prev(key)?, &view.prev(key)?))
+}
+
+// Whether a view for a walk from a key is the view itself, asked at each key.
+fn is_view(alloc: Global, view: View<'_>, begin: &[u8], down: bool) -> Result<bool, AllocError> {
+    let near = NearView::new(view, &key_of(alloc, begin)?, down)?;
+    for key in KEYS {
+        if !is_alike(&near, &view, &key_of(alloc, key)?)? {
+            return Ok(false);
+        }
+    }
+    Ok(true)
+}
+
+// The first key from which a walk differs.
+fn first_begin(alloc: Global, edits: &[Edit]) -> Result<Option<usize>, AllocError> {
+    let store = store_of(alloc, SIX)?;
+    let edits = edits_of(alloc, edits)?;
+    let view = view_of(&edits, &store, 1);
+    for (place, begin) in KEYS.iter().enumerate() {
+        if !is_view(alloc, view, begin, false)? || !is_view(alloc, view, begin, true)? {
+            return Ok(Some(place));
+        }
+    }
+    Ok(None)
+}
+
+// The first mutations under which a walk differs, and the key from which it does.
+fn first_other(alloc: Global) -> Result<Option<(usize, usize)>, AllocError> {
+    for (place, edits) in TABLE.iter().enumerate() {
+        if let Some(begin) = first_begin(alloc, edits)? {
+            return Ok(Some((place, begin)));
+        }
+    }
+    Ok(None)
+}
+
+#[test]
+fn a_near_view_is_the_view(rt: HostRuntime) -> Result<(), Fail> {
+    assert!(rt; first_other(rt.alloc())?.is_none());
+    Ok(())
+}
