@@ -1,3 +1,4 @@
+pub mod Names
 pub mod Again
 pub mod Elements
 pub mod Forms

@@ -1,6 +1,8 @@
 //! Instructions as values of the database.
 
-ghost use Rattle.std.specs.Prelude.{◌≡◌, [], IfOk, IfSome, option_to_list};
+ghost use Rattle.std.specs.Prelude.{◌≡◌, [], ◌∷◌, Some, Ok, IfOk, IfSome, option_to_list};
+ghost use Rattle.fdb_tuple.specs.Reading.{read_tuple};
+ghost use Rattle.fdb_tuple.specs.Tuples.{Empty, Single, Text};
 ghost use Rattle.machine_rules.specs.Operands.{bytes_of};
 ghost use Rattle.machine_rules.specs.Instructions.{stack_operation, transaction_operation, database_operation};
 ghost use Rattle.machine_rules.specs.Instructions.{bare_instruction, named_instruction, instruction_in, instruction_of};
@@ -21,10 +23,57 @@ pub fn instruction_of(alloc: Global, value: &[u8]) -> Result<Option<Instruction>
     ensures instruction { IfOk result (λ instruction. instruction ≡ instruction_of value.now) }
     ensures element { IfOk result PushesAnElement }
 {
+    if let Some(name) = lone_name(value) {
+        return Ok(bare_instruction(name));
+    }
+    if let Some(element) = pushed_element(alloc, value)? {
+        return Ok(Some(Instruction::Push(element)));
+    }
     match unpack(alloc, value) {
         Ok(tuple) => Ok(instruction_in(tuple.into_vec())),
         Err(UnpackFault::NoMemory) => Err(AllocError),
         Err(_) => Ok(None),
+    }
+}
+
+// The name where the value packs a Unicode string alone, without a zero in it, as most instructions do. It takes no memory.
+fn lone_name(value: &[u8]) -> Option<&[u8]>
+    ensures { IfSome result (λ name. read_tuple value.now ≡ Ok (Single (Text name.now) Empty)) }
+{
+    let name = value.strip_prefix(&[0x02])?.strip_suffix(&[0x00])?;
+    if name.contains(&0) {
+        return None;
+    }
+    match str::from_utf8(name) {
+        Ok(_) => Some(name),
+        Err(_) => None,
+    }
+}
+
+// The element that the value pushes, where it packs PUSH as a Unicode string and one element.
+fn pushed_element(alloc: Global, value: &[u8]) -> Result<Option<Elem>, AllocError>
+    ensures pushes { IfOk result (λ element. IfSome element (λ element. instruction_of value.now ≡ Some (Instruction.Push element))) }
+    ensures element { IfOk result (λ element. IfSome element IsElement) }
+{
+    let Some(rest) = value.strip_prefix(b"\x02PUSH\x00") else {
+        return Ok(None);
+    };
+    match unpack(alloc, rest) {
+        Ok(tuple) => Ok(only_element(tuple.into_vec())),
+        Err(UnpackFault::NoMemory) => Err(AllocError),
+        Err(_) => Ok(None),
+    }
+}
+
+// The element that is the only one.
+fn only_element(elements: Vec<Elem>) -> Option<Elem>
+    ensures { IfSome result (λ element. elements.items ≡ element ∷ []) }
+{
+    let mut elements = elements;
+    if elements.len() == 1 {
+        elements.pop()
+    } else {
+        None
     }
 }
 

@@ -2,7 +2,7 @@ ghost use Rattle.std.specs.Prelude.{◌≡◌, false, IfOk};
 ghost use Rattle.machine_rules.specs.declared.State.TheVariants.{Running};
 
 use super::*;
-use Course::{Asks, Bad, Under};
+use Course::{Asks, Bad, Other, Under};
 use fdb_calls::{Request, TxnCall};
 use fdb_tuple::{Elem, pack_element};
 use key_bytes::{Bytes, Pair, Pairs};
@@ -12,23 +12,33 @@ use std::test::Fail;
 // How many polls a wait has in these tests.
 const POLLS: u32 = 10_000;
 
-// An instruction that is this name alone, under the empty key.
-fn instruction(alloc: Global, name: &[u8]) -> Result<Pair, AllocError> {
-    let name = Elem::Bytes(Bytes::from_slice(alloc, name)?);
-    let value = pack_element(alloc, &name)?;
-    let key = Bytes::new(alloc);
-    Ok(Pair { key, value })
-}
-
-// A machine under the prefix `p` whose one instruction is this name alone.
-fn machine_with(alloc: Global, name: &[u8]) -> Result<Machine, AllocError>
+// A machine under the prefix `p` whose one instruction has this value, under the empty key.
+fn machine_of(alloc: Global, value: Bytes) -> Result<Machine, AllocError>
     ensures ready { IfOk result (λ machine. machine.is_out_of_memory ≡ false) }
     ensures running { IfOk result (λ machine. machine.machine.state ≡ Running) }
 {
     let mut instructions = Pairs::new(alloc);
-    instructions.push(instruction(alloc, name)?)?;
+    let key = Bytes::new(alloc);
+    instructions.push(Pair { key, value })?;
     let prefix = Bytes::from_slice(alloc, b"p")?;
     Machine::new(alloc, 0, prefix, instructions, POLLS)
+}
+
+// The same of an instruction that is this name alone, a byte string.
+fn machine_with(alloc: Global, name: &[u8]) -> Result<Machine, AllocError>
+    ensures ready { IfOk result (λ machine. machine.is_out_of_memory ≡ false) }
+    ensures running { IfOk result (λ machine. machine.machine.state ≡ Running) }
+{
+    let name = Elem::Bytes(Bytes::from_slice(alloc, name)?);
+    machine_of(alloc, pack_element(alloc, &name)?)
+}
+
+// The value of an instruction that is this name alone, a Unicode string.
+fn value_of_text(alloc: Global, name: &[u8]) -> Result<Bytes, AllocError> {
+    let mut value = Bytes::from_slice(alloc, &[0x02])?;
+    value.extend(name)?;
+    value.extend(&[0x00])?;
+    Ok(value)
 }
 
 // How an instruction goes on: it asks, or the instruction or an operand is bad, or one is missing.
@@ -51,6 +61,11 @@ fn course_of(step: &Step) -> Course {
 
 fn first_course(alloc: Global, name: &[u8]) -> Result<Course, AllocError> {
     let mut machine = machine_with(alloc, name)?;
+    Ok(course_of(&machine.step(None)?))
+}
+
+fn course_of_value(alloc: Global, value: Bytes) -> Result<Course, AllocError> {
+    let mut machine = machine_of(alloc, value)?;
     Ok(course_of(&machine.step(None)?))
 }
 
@@ -90,10 +105,40 @@ const NAMES: &[(&[u8], Course)] = &[
     (b"", Bad),
 ];
 
-// The first of the names that goes on in another way.
+// The first of the names that goes on in another way, as a byte string or as a Unicode string.
 fn first_other_name(alloc: Global) -> Result<Option<usize>, AllocError> {
     for (place, row) in NAMES.iter().enumerate() {
-        if first_course(alloc, row.0)? != row.1 {
+        let text = value_of_text(alloc, row.0)?;
+        if first_course(alloc, row.0)? != row.1 || course_of_value(alloc, text)? != row.1 {
+            return Ok(Some(place));
+        }
+    }
+    Ok(None)
+}
+
+// Values that are near to a name alone, and to PUSH with one element; those that push go on.
+const VALUES: &[(&[u8], Course)] = &[
+    (b"\x02COMMIT\x00", Asks),
+    (b"\x02COMMIT\x00\x00", Bad),
+    (b"\x02COM\x00\xFFMIT\x00", Bad),
+    (b"\x02COMMIT", Bad),
+    (b"\x02\xC3\x00", Bad),
+    (b"\x02", Bad),
+    (b"", Bad),
+    (b"\x02PUSH\x00", Bad),
+    (b"\x02PUSH\x00\x00", Other),
+    (b"\x02PUSH\x00\x15\x01", Other),
+    (b"\x01PUSH\x00\x15\x01", Other),
+    (b"\x02PUSH\x00\x02a\x00", Other),
+    (b"\x02PUSH\x00\x15\x01\x15\x02", Bad),
+    (b"\x02PUSH\x00\xFFA\x00", Bad),
+    (b"\x02PUSH\x00\x15", Bad),
+];
+
+// The first of the values that goes on in another way.
+fn first_other_value(alloc: Global) -> Result<Option<usize>, AllocError> {
+    for (place, row) in VALUES.iter().enumerate() {
+        if course_of_value(alloc, Bytes::from_slice(alloc, row.0)?)? != row.1 {
             return Ok(Some(place));
         }
     }
@@ -138,6 +183,7 @@ fn asks_to_commit(alloc: Global) -> Result<bool, AllocError> {
 #[test]
 fn a_name_asks_or_stops(rt: HostRuntime) -> Result<(), Fail> {
     assert_eq!(rt; first_other_name(rt.alloc())?, None);
+    assert_eq!(rt; first_other_value(rt.alloc())?, None);
     assert!(rt; stays_as_made(rt.alloc())?);
     assert!(rt; asks_to_commit(rt.alloc())?);
     Ok(())
