@@ -7,3 +7,4 @@ pub mod Finished
 pub mod Replayed
 pub mod Tops
 pub mod Tellings
+pub mod Rows
