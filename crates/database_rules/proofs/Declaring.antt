@@ -5,7 +5,7 @@ use Rattle.std.proofs.lemmas.List.{append-nil}
 use Rattle.database_rules.specs.Databases.{Mutation}
 use Rattle.database_rules.specs.States.{filled}
 use Rattle.database_rules.specs.Reads.{Read, Answer}
-use Rattle.database_rules.specs.Histories.{Script, Wrote, HasRead, written, write_range, declared_by, silent_by}
+use Rattle.database_rules.specs.Histories.{Script, Wrote, HasRead, Granted, written, write_range, declared_by, silent_by}
 
 -- ---- two scripts, one after the other
 
@@ -13,6 +13,7 @@ pub written-append : (first second : Script) → written (first ++ second) ≡ w
 written-append [] second = refl
 written-append (Wrote mutation declares ∷ first) second = ap (λ list. mutation ∷ list) (written-append first second)
 written-append (HasRead read answer ∷ first) second = written-append first second
+written-append (Granted space number from ∷ first) second = written-append first second
 
 pub declared-append : (stamp : List ℕ) (first second : Script)
     → declared_by stamp (first ++ second) ≡ declared_by stamp first ++ declared_by stamp second
@@ -21,6 +22,7 @@ declared-append stamp (Wrote mutation true ∷ first) second =
     ap (λ list. write_range (filled stamp mutation) ∷ list) (declared-append stamp first second)
 declared-append stamp (Wrote mutation false ∷ first) second = declared-append stamp first second
 declared-append stamp (HasRead read answer ∷ first) second = declared-append stamp first second
+declared-append stamp (Granted space number from ∷ first) second = declared-append stamp first second
 
 pub silent-append : (stamp : List ℕ) (first second : Script)
     → silent_by stamp (first ++ second) ≡ silent_by stamp first ++ silent_by stamp second
@@ -29,6 +31,7 @@ silent-append stamp (Wrote mutation true ∷ first) second = silent-append stamp
 silent-append stamp (Wrote mutation false ∷ first) second =
     ap (λ list. write_range (filled stamp mutation) ∷ list) (silent-append stamp first second)
 silent-append stamp (HasRead read answer ∷ first) second = silent-append stamp first second
+silent-append stamp (Granted space number from ∷ first) second = silent-append stamp first second
 
 -- ---- one write more
 
@@ -61,3 +64,18 @@ declared_read stamp script read answer =
 pub silent_read : (stamp : List ℕ) (script : Script) (read : Read) (answer : Answer)
     → silent_by stamp (script ++ HasRead read answer ∷ []) ≡ silent_by stamp script
 silent_read stamp script read answer = silent-append stamp script (HasRead read answer ∷ []) ∙ append-nil (silent_by stamp script)
+
+-- ---- nor does a number that was granted
+
+pub written_granted : (script : Script) (space : List ℕ) (number from : ℕ) → written (script ++ Granted space number from ∷ []) ≡ written script
+written_granted script space number from = written-append script (Granted space number from ∷ []) ∙ append-nil (written script)
+
+pub declared_granted : (stamp : List ℕ) (script : Script) (space : List ℕ) (number from : ℕ)
+    → declared_by stamp (script ++ Granted space number from ∷ []) ≡ declared_by stamp script
+declared_granted stamp script space number from =
+    declared-append stamp script (Granted space number from ∷ []) ∙ append-nil (declared_by stamp script)
+
+pub silent_granted : (stamp : List ℕ) (script : Script) (space : List ℕ) (number from : ℕ)
+    → silent_by stamp (script ++ Granted space number from ∷ []) ≡ silent_by stamp script
+silent_granted stamp script space number from =
+    silent-append stamp script (Granted space number from ∷ []) ∙ append-nil (silent_by stamp script)

@@ -12,10 +12,12 @@ use Rattle.database_rules.specs.Reads.{Read, Answer}
 -- ---- scripts
 
 -- what a transaction did: a write that was accepted, and whether it declares the keys that it writes, which a commit is
--- judged by; or an ordinary read with its answer
+-- judged by; an ordinary read with its answer; or the end of a call of the prefix allocator on the subspace of this prefix,
+-- which granted a number, and whose entries are those from this place of the script on
 pub data Entry : Type 0 where
   Wrote : (mutation : Mutation) (declares : Bool) → Entry
   HasRead : (read : Read) (answer : Answer) → Entry
+  Granted : (space : List ℕ) (number from : ℕ) → Entry
 
 -- what a transaction did, in its order
 abbrev pub Script : Type 0
@@ -26,6 +28,7 @@ abbrev pub written : Script → List Mutation
 written [] = []
 written (Wrote mutation declares ∷ script) = mutation ∷ written script
 written (HasRead read answer ∷ script) = written script
+written (Granted space number from ∷ script) = written script
 
 -- the keys that a mutation writes
 abbrev pub write_range : Mutation → KeyRange
@@ -40,6 +43,7 @@ declared_by stamp [] = []
 declared_by stamp (Wrote mutation true ∷ script) = write_range (filled stamp mutation) ∷ declared_by stamp script
 declared_by stamp (Wrote mutation false ∷ script) = declared_by stamp script
 declared_by stamp (HasRead read answer ∷ script) = declared_by stamp script
+declared_by stamp (Granted space number from ∷ script) = declared_by stamp script
 
 -- the keys that they write without declaring them
 abbrev pub silent_by : (stamp : List ℕ) → Script → List KeyRange
@@ -47,6 +51,7 @@ silent_by stamp [] = []
 silent_by stamp (Wrote mutation true ∷ script) = silent_by stamp script
 silent_by stamp (Wrote mutation false ∷ script) = write_range (filled stamp mutation) ∷ silent_by stamp script
 silent_by stamp (HasRead read answer ∷ script) = silent_by stamp script
+silent_by stamp (Granted space number from ∷ script) = silent_by stamp script
 
 -- ---- the history
 

@@ -15,7 +15,7 @@ use Rattle.database_rules.specs.Databases.{Database, Mutation, Set, Clear, Clear
 use Rattle.database_rules.specs.States.{has_room, seen, stamped, stamped_bytes, unreadable}
 use Rattle.database_rules.specs.Intervals.{any_meet, interval}
 use Rattle.database_rules.specs.Reads.{Read, Get, GetKey, GetKeyRange, GetRange, Answer}
-use Rattle.database_rules.specs.Histories.{Script, Wrote, HasRead, written, declared_by, conflicts, Setting, at, last}
+use Rattle.database_rules.specs.Histories.{Script, Wrote, HasRead, Granted, written, declared_by, conflicts, Setting, at, last}
 
 pub record Transaction : Type 0 where
   -- the number of its life
@@ -199,6 +199,11 @@ with_read false read answer ranges transaction = record transaction {
   script = transaction.script ++ HasRead read answer ∷ [];
   read_ranges = transaction.read_ranges ++ ranges;
 }
+
+-- the transaction after a call of the prefix allocator that granted a number, whose entries are those from a place of the
+-- script on
+abbrev pub with_granted : Transaction → (space : List ℕ) → (number from : ℕ) → Transaction
+with_granted transaction space number from = record transaction { script = transaction.script ++ Granted space number from ∷ [] }
 
 -- ---- writing
 

@@ -1,9 +1,9 @@
 //! The calls of a transaction by their names, for layers that work over any transaction.
 
-ghost use Rattle.std.specs.Prelude.{◌≡◌, ℕ, Bool, true, false};
+ghost use Rattle.std.specs.Prelude.{◌≡◌, ℕ, Bool, true, false, List};
 ghost use Rattle.database_rules.specs.Histories.{Setting};
 ghost use Rattle.database_rules.specs.Reads as read;
-ghost use Rattle.database_rules.specs.Transactions.{Transaction};
+ghost use Rattle.database_rules.specs.Transactions.{Transaction, with_granted};
 ghost use Rattle.database_rules.specs.declared.AtomicOp.{AtomicOp as AnyOp};
 ghost use Rattle.database_rules.specs.declared.AtomicOp.TheVariants as atomic;
 ghost use Rattle.fdb_calls.specs.declared.Reply.TheVariants as reply;
@@ -94,4 +94,8 @@ pub trait Tr {
     ghost same_itself: { (one : Self) → same one one };
 
     ghost same_still: { (one two three : Self) → same one two → same two three → same one three };
+
+    // nothing that it keeps tells that the prefix allocator granted a number
+    ghost granted_still: { (one : Self) (setting : Setting) (t : Transaction) (space : List ℕ) (number from : ℕ)
+        → stands one setting t → stands one setting (with_granted t space number from) };
 }

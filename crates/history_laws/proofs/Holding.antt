@@ -8,7 +8,7 @@ use Rattle.key_bytes.specs.declared.range.KeyRange.{KeyRange}
 use Rattle.database_rules.specs.declared.Phase.{Phase}
 use Rattle.database_rules.specs.declared.Phase.TheVariants as phase
 use Rattle.database_rules.specs.Databases.{Mutation}
-use Rattle.database_rules.specs.Histories.{History, Script, Setting, Wrote, HasRead, after_commits, at, last, written}
+use Rattle.database_rules.specs.Histories.{History, Script, Setting, Wrote, HasRead, Granted, after_commits, at, last, written}
 use Rattle.database_rules.specs.Intervals.{added}
 use Rattle.database_rules.specs.Reads.{Read, Answer, answer}
 use Rattle.key_bytes.specs.Ranges.{has}
@@ -32,6 +32,7 @@ each_weaker before [] weaker each = tt
 each_weaker before (Wrote mutation declares ∷ script) weaker each = each_weaker (before ++ mutation ∷ []) script weaker each
 each_weaker before (HasRead read given ∷ script) weaker each =
     (weaker before read given each.0, each_weaker before script weaker each.1)
+each_weaker before (Granted space number from ∷ script) weaker each = each_weaker before script weaker each
 
 -- it holds of each read of two scripts, the second after the writes of the first
 pub each-append : (P : List Mutation → Read → Answer → Type 0) (before : List Mutation) (first second : Script)
@@ -41,6 +42,7 @@ each-append P before (Wrote mutation declares ∷ first) second each other =
     each-append P (before ++ mutation ∷ []) first second each
     (subst (λ writes. EachRead P writes second) (sym (append_assoc before (mutation ∷ []) (written first))) other)
 each-append P before (HasRead read given ∷ first) second each other = (each.0, each-append P before first second each.1 other)
+each-append P before (Granted space number from ∷ first) second each other = each-append P before first second each other
 
 -- ---- what a read was answered
 

@@ -5,7 +5,7 @@ use Rattle.std.specs.List.{AllByRecursion}
 use Rattle.std.specs.FinMap as finite
 use Rattle.key_bytes.specs.Keys.{key_cmp, key_lt, top}
 use Rattle.database_rules.specs.Databases.{Database, Mutation, do_all}
-use Rattle.database_rules.specs.Histories.{Script, Wrote, HasRead, Commit, History, after_commits, at, conflicts}
+use Rattle.database_rules.specs.Histories.{Script, Wrote, HasRead, Granted, Commit, History, after_commits, at, conflicts}
 use Rattle.database_rules.specs.Intervals.{added, interval}
 use Rattle.database_rules.specs.Reads.{Read, Answer, answer}
 use Rattle.database_rules.specs.States.{seen}
@@ -121,6 +121,8 @@ each_whole first done commit before (HasRead read given ∷ script) stands judge
   read_whole first done commit before read given stands judged none answered.0,
   each_whole first done commit before script stands judged none answered.1,
 )
+each_whole first done commit before (Granted space number from ∷ script) stands judged none answered =
+    each_whole first done commit before script stands judged none answered
 
 -- a commit gets its reads run whole, or a silent write fell between
 commit_legal : (first : Commit) (done : List Commit) (commit : Commit) → StandsBefore first done → IsSound (first ∷ done) commit

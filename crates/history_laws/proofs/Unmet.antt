@@ -7,7 +7,7 @@ use Rattle.std.proofs.lemmas.Bool.{both_ways, false_from_ne_true, or_cases, or_p
 use Rattle.key_bytes.specs.declared.range.KeyRange.{KeyRange}
 use Rattle.key_bytes.specs.Ranges.{has}
 use Rattle.database_rules.specs.Databases.{Database, Mutation, Set, Clear, ClearRange, Atomic, do_all}
-use Rattle.database_rules.specs.Histories.{Script, Wrote, HasRead, written, write_range, declared_by, silent_by, Commit, History, after_commits}
+use Rattle.database_rules.specs.Histories.{Script, Wrote, HasRead, Granted, written, write_range, declared_by, silent_by, Commit, History, after_commits}
 use Rattle.database_rules.specs.Intervals.{any_meet}
 use Rattle.database_rules.specs.KeyByKey.{made_of, at_keys}
 use Rattle.database_rules.specs.States.{covers, filled, all_filled, touches}
@@ -45,6 +45,7 @@ covers_written stamp (Wrote mutation false ∷ script) key =
     ∙ ap (λ b. has range key || b) (sym (covers-append (declared_by stamp script) (silent_by stamp script) key))
     ∙ (λ i. has_write_range (filled stamp mutation) key i || covers_written stamp script key i)
 covers_written stamp (HasRead read answer ∷ script) key = covers_written stamp script key
+covers_written stamp (Granted space number from ∷ script) key = covers_written stamp script key
 
 -- so each key that its writes touch is among them
 pub written_covered : (stamp : List ℕ) (script : Script) (key : List ℕ)

@@ -4,7 +4,7 @@ use Rattle.std.specs.Prelude.{◌≡◌, ◌⊎◌, ◌<◌, ◌^◌, ℕ, ⊤, 
 use Rattle.std.specs.List.{AllByRecursion, list_any}
 use Rattle.std.specs.FinMap as finite
 use Rattle.database_rules.specs.Databases.{Database, Mutation, do_all}
-use Rattle.database_rules.specs.Histories.{Script, Wrote, HasRead, Commit, History, after_commits, at, last}
+use Rattle.database_rules.specs.Histories.{Script, Wrote, HasRead, Granted, Commit, History, after_commits, at, last}
 use Rattle.database_rules.specs.Intervals.{any_meet}
 use Rattle.database_rules.specs.Reads.{Read, Answer, answer}
 use Rattle.database_rules.specs.States.{seen}
@@ -17,6 +17,7 @@ abbrev pub EachRead : (List Mutation → Read → Answer → Type 0) → List Mu
 EachRead holds before [] = ⊤
 EachRead holds before (Wrote mutation declares ∷ script) = EachRead holds (before ++ mutation ∷ []) script
 EachRead holds before (HasRead read given ∷ script) = holds before read given × EachRead holds before script
+EachRead holds before (Granted space number from ∷ script) = EachRead holds before script
 
 -- run whole over a database, a script gets its answers: each of its reads the one that it has there, after its writes before it
 abbrev pub RunsWhole : Database → Script → Type 0

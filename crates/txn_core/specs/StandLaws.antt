@@ -1,7 +1,7 @@
 -- What is kept of a transaction stands for it.
 use Rattle.std.specs.Prelude.{◌≡◌, ℕ, Bool, true, false, List, [], ◌∷◌, ◌++◌, refl}
 use Rattle.database_rules.specs.States.{covers, filled, all_filled}
-use Rattle.database_rules.specs.Histories.{Script, Wrote, HasRead, written, write_range, declared_by}
+use Rattle.database_rules.specs.Histories.{Script, Wrote, HasRead, Granted, written, write_range, declared_by}
 use Rattle.database_rules.specs.Transactions.{Transaction, writes_of}
 use Rattle.txn_core.specs.Stands.{Kept, StandsFor, declared_among}
 
@@ -10,12 +10,14 @@ abbrev pub declaring : Script → List Bool
 declaring [] = []
 declaring (Wrote mutation declares ∷ script) = declares ∷ declaring script
 declaring (HasRead read answer ∷ script) = declaring script
+declaring (Granted space number from ∷ script) = declaring script
 
 declared_same : (stamp : List ℕ) (script : Script) → declared_among (all_filled stamp (written script)) (declaring script) ≡ declared_by stamp script
 declared_same stamp [] = refl
 declared_same stamp (Wrote mutation true ∷ script) = λ i. write_range (filled stamp mutation) ∷ declared_same stamp script i
 declared_same stamp (Wrote mutation false ∷ script) = declared_same stamp script
 declared_same stamp (HasRead read answer ∷ script) = declared_same stamp script
+declared_same stamp (Granted space number from ∷ script) = declared_same stamp script
 
 -- all that the code keeps of a transaction
 abbrev pub kept_of : Transaction → Kept

@@ -207,6 +207,7 @@ impl TxnOn<'_> {
 
 impl Tr for TxnOn<'_> {
     ghost use Rattle.std.proofs.Common.{refl, ◌∙◌};
+    ghost use Rattle.txn_core.proofs.Standing.{stands_granted};
 
     ghost stands = { λ on setting t. StandsFor on.txn.now t × Keeps on.store.now on.index.now setting };
 
@@ -262,4 +263,7 @@ impl Tr for TxnOn<'_> {
     ghost same_itself = { λ one. (refl, refl, refl) };
 
     ghost same_still = { λ one two three first second. (first.0 ∙ second.0, first.1 ∙ second.1, first.2 ∙ second.2) };
+
+    ghost granted_still = { λ on setting t space number from stands.
+        (stands_granted on.txn.now t space number from stands.0, stands.1) };
 }
