@@ -11,10 +11,10 @@ use Rattle.database_rules.specs.Databases.{Mutation}
 use Rattle.database_rules.specs.Reads.{Read, Answer, answer}
 use Rattle.database_rules.specs.States.{covers, filled, all_filled}
 use Rattle.database_rules.specs.Histories.{Setting, write_range, declared_by}
-use Rattle.database_rules.specs.Transactions.{Transaction, writes_of, declared_of, is_tried, grown, mutation_size, range_size, with_range, version_in, with_version, with_read, with_granted, with_mutation, with_read_range, with_write_range, silenced, with_phase, cancelled}
+use Rattle.database_rules.specs.Transactions.{Transaction, writes_of, declared_of, is_tried, grown, mutation_size, range_size, with_range, version_in, with_version, with_read, with_mutation, with_read_range, with_write_range, silenced, with_phase, cancelled}
 use Rattle.database_rules.proofs.States.{covers-append, filled-append}
 use Rattle.database_rules.proofs.Ranges.{covers_with_range}
-use Rattle.database_rules.proofs.Declaring.{written_wrote, written_read, written_granted, declared_wrote, declared_read, declared_granted}
+use Rattle.database_rules.proofs.Declaring.{written_wrote, written_read, declared_wrote, declared_read}
 use Rattle.txn_core.specs.Stands.{Kept, SameMutations, StandsFor, declared_among}
 use Rattle.txn_core.specs.Accesses.{StandsWritten}
 use Rattle.txn_core.proofs.States.{same_more}
@@ -182,24 +182,6 @@ stands_read false read answer ranges kept t stands noted = record {
   life = stands.life;
   version = stands.version;
   reads = λ key. noted key ∙ sym (covers-append t.read_ranges ranges key);
-  size = stands.size;
-  silenced = stands.silenced;
-  phase = stands.phase;
-}
-
--- ---- a number that was granted
-
-pub stands_granted : (kept : Kept) (t : Transaction) (space : List ℕ) (number from : ℕ) → StandsFor kept t
-    → StandsFor kept (with_granted t space number from)
-stands_granted kept t space number from stands = record {
-  mutations = subst (λ list. SameMutations kept.mutations list) (sym (written_granted t.script space number from)) stands.mutations;
-  writes =
-      stands.writes ∙ ap (λ list. nat_lt (length list) 1 && nat_lt (length t.write_ranges) 1) (sym (written_granted t.script space number from));
-  declared = λ stamp key ten.
-      stands.declared stamp key ten ∙ ap (λ list. covers (list ++ t.write_ranges) key) (sym (declared_granted stamp t.script space number from));
-  life = stands.life;
-  version = stands.version;
-  reads = stands.reads;
   size = stands.size;
   silenced = stands.silenced;
   phase = stands.phase;

@@ -1,9 +1,11 @@
 -- What is kept of a transaction stands for it.
-use Rattle.std.specs.Prelude.{◌≡◌, ℕ, Bool, true, false, List, [], ◌∷◌, ◌++◌, refl}
+use Rattle.std.specs.Prelude.{◌≡◌, ℕ, Bool, true, false, ◌&&◌, List, [], ◌∷◌, ◌++◌, length, nat_lt, refl}
+use Rattle.std.proofs.Common.{ap, sym, subst, ◌∙◌}
 use Rattle.database_rules.specs.States.{covers, filled, all_filled}
 use Rattle.database_rules.specs.Histories.{Script, Wrote, HasRead, Granted, written, write_range, declared_by}
-use Rattle.database_rules.specs.Transactions.{Transaction, writes_of}
-use Rattle.txn_core.specs.Stands.{Kept, StandsFor, declared_among}
+use Rattle.database_rules.specs.Transactions.{Transaction, writes_of, with_granted}
+use Rattle.database_rules.proofs.Declaring.{written_granted, declared_granted}
+use Rattle.txn_core.specs.Stands.{Kept, SameMutations, StandsFor, declared_among}
 
 -- of each mutation of a script whether it declares the keys that it writes
 abbrev pub declaring : Script → List Bool
@@ -44,4 +46,21 @@ stands_for_it transaction = record {
   size = refl;
   silenced = refl;
   phase = refl;
+}
+
+-- nothing that is kept tells that the prefix allocator granted a number
+pub stands_granted : (kept : Kept) (t : Transaction) (space : List ℕ) (number from : ℕ) → StandsFor kept t
+    → StandsFor kept (with_granted t space number from)
+stands_granted kept t space number from stands = record {
+  mutations = subst (λ list. SameMutations kept.mutations list) (sym (written_granted t.script space number from)) stands.mutations;
+  writes =
+      stands.writes ∙ ap (λ list. nat_lt (length list) 1 && nat_lt (length t.write_ranges) 1) (sym (written_granted t.script space number from));
+  declared = λ stamp key ten.
+      stands.declared stamp key ten ∙ ap (λ list. covers (list ++ t.write_ranges) key) (sym (declared_granted stamp t.script space number from));
+  life = stands.life;
+  version = stands.version;
+  reads = stands.reads;
+  size = stands.size;
+  silenced = stands.silenced;
+  phase = stands.phase;
 }

@@ -207,7 +207,7 @@ impl TxnOn<'_> {
 
 impl Tr for TxnOn<'_> {
     ghost use Rattle.std.proofs.Common.{refl, ◌∙◌};
-    ghost use Rattle.txn_core.proofs.Standing.{stands_granted};
+    ghost use Rattle.txn_core.specs.StandLaws.{stands_granted};
 
     ghost stands = { λ on setting t. StandsFor on.txn.now t × Keeps on.store.now on.index.now setting };
 
