@@ -1,0 +1,9 @@
+mod Rows
+pub mod Acting
+pub mod Codes
+pub mod Keys
+pub mod Opening
+pub mod Reading
+pub mod Trying
+pub mod Viewing
+pub mod Windows
