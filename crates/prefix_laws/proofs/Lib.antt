@@ -1,0 +1,17 @@
+pub mod Recording
+pub mod Greatest
+pub mod Spending
+pub mod Choosing
+pub mod Planned
+pub mod Acting
+pub mod Finding
+pub mod Freeing
+pub mod Granting
+pub mod Listed
+pub mod Leaving
+pub mod Places
+pub mod Holding
+pub mod Fitting
+pub mod Stepping
+pub mod Reaching
+pub mod Premise

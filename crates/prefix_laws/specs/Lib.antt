@@ -1,0 +1,3 @@
+pub mod Allocating
+pub mod Prefixes
+pub mod Held
