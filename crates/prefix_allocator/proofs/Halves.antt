@@ -1,0 +1,38 @@
+-- 8 bytes as a count.
+use Rattle.std.proofs.Common.{◌≡◌, ℕ, ◌*◌, ◌^◌, ◌<◌, Bool, true, false, List, [], ◌∷◌, length, take, sym, ap, ◌∙◌, arith}
+use Rattle.std.specs.Prelude.{◌&&◌, nat_lt, nat_le}
+use Rattle.std.proofs.lemmas.Bool.{lt-ltb}
+use Rattle.std.proofs.lemmas.List.{take_all}
+use Rattle.std.specs.Int.{w64, from_le_bytes}
+use Rattle.key_bytes.specs.Numbers.{number_low}
+use Rattle.allocator_rules.specs.Counters.{window, counts_half}
+
+-- 8 bytes write the same number
+low_is : (bytes : List ℕ) → length bytes ≡ 8 → from_le_bytes w64 bytes ≡ number_low bytes
+unfolding number_low
+low_is [] long = absurd (omega arith)
+low_is (a ∷ []) long = absurd (omega arith)
+low_is (a ∷ b ∷ []) long = absurd (omega arith)
+low_is (a ∷ b ∷ c ∷ []) long = absurd (omega arith)
+low_is (a ∷ b ∷ c ∷ d ∷ []) long = absurd (omega arith)
+low_is (a ∷ b ∷ c ∷ d ∷ e ∷ []) long = absurd (omega arith)
+low_is (a ∷ b ∷ c ∷ d ∷ e ∷ f ∷ []) long = absurd (omega arith)
+low_is (a ∷ b ∷ c ∷ d ∷ e ∷ f ∷ g ∷ []) long = absurd (omega arith)
+low_is (a ∷ b ∷ c ∷ d ∷ e ∷ f ∷ g ∷ h ∷ []) long = omega arith
+low_is (a ∷ b ∷ c ∷ d ∷ e ∷ f ∷ g ∷ h ∷ i ∷ others) long = absurd (omega arith)
+
+pub count_is : (count bytes : List ℕ) (number : ℕ) → length count ≡ 8 → bytes ≡ take 8 count → number ≡ from_le_bytes w64 bytes → number ≡ number_low count
+count_is count bytes number long first is = is ∙ ap (from_le_bytes w64) (first ∙ take_all 8 count (omega arith)) ∙ low_is count long
+
+pub half_where_positive : (start : ℕ) (count : List ℕ) (number wide : ℕ) → number ≡ number_low count → number < 2 ^ 63 → wide ≡ window start
+    → nat_le wide (2 * number) ≡ counts_half start count
+half_where_positive start count number wide is positive window_is =
+    let low : nat_lt number (2 ^ 63) ≡ true = lt-ltb number (2 ^ 63) positive in
+    ap (λ (low : Bool). low && nat_le wide (2 * number)) (sym low)
+    ∙ ap (λ wide. nat_lt number (2 ^ 63) && nat_le wide (2 * number)) window_is
+    ∙ ap (λ number. nat_lt number (2 ^ 63) && nat_le (window start) (2 * number)) is
+
+pub no_half_where_negative : (start : ℕ) (count : List ℕ) (number : ℕ) (low : Bool) → number ≡ number_low count → low ≡ nat_lt number (2 ^ 63) → low ≡ false
+    → low ≡ counts_half start count
+no_half_where_negative start count number low is low_is negative =
+    negative ∙ ap (λ (low : Bool). low && nat_le (window start) (2 * number_low count)) (sym negative ∙ low_is ∙ ap (λ number. nat_lt number (2 ^ 63)) is)

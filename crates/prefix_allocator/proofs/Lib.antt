@@ -1,0 +1,12 @@
+pub mod Allocating
+pub mod Calls
+pub mod Counters
+pub mod Draws
+pub mod Drawing
+pub mod Finding
+pub mod Halves
+pub mod Openings
+pub mod Planning
+pub mod Scanning
+pub mod Search
+pub mod Steps

@@ -1,0 +1,4 @@
+pub mod Allocates
+pub mod Doing
+pub mod Faults
+pub mod Keyed
