@@ -6,19 +6,18 @@
 //! by key, and the keys that it has read. The dump is printed into one vector, and the process ends without giving back
 //! what it still has.
 
-use std::cmp::Ordering;
 use std::collections::btree_map::{BTreeMap, Entry};
 use std::fmt;
 use std::io::{self, Read, Write};
 use std::mem;
-use std::ops::Deref;
 use std::process::ExitCode;
-use std::rc::Rc;
 use std::{env, str};
 
+mod bytes;
 mod ranges;
 mod transactions;
 
+use bytes::Bytes;
 use transactions::{Keys, Transaction};
 
 /// The statuses of the program; a stop at another operation has that of a bad input.
@@ -72,82 +71,6 @@ fn run(prefix: &[u8]) -> Result<u8, u8> {
         (Err(_), _) => Err(WRITE_FAILED),
         (Ok(()), End::Ended) => Ok(ENDED),
         (Ok(()), _) => Ok(STOPPED),
-    }
-}
-
-// ---- byte strings
-
-const IN_PLACE: usize = 22;
-
-/// A byte string in 24 bytes: a short one lies in place, behind its length, and a long one is shared.
-#[derive(Clone)]
-enum Bytes {
-    Short(u8, [u8; IN_PLACE]),
-    Long(Rc<[u8]>),
-}
-
-impl From<&[u8]> for Bytes {
-    fn from(bytes: &[u8]) -> Bytes {
-        if bytes.len() > IN_PLACE {
-            return Bytes::Long(bytes.into());
-        }
-        let mut room = [0; IN_PLACE];
-        room[..bytes.len()].copy_from_slice(bytes);
-        Bytes::Short(bytes.len() as u8, room)
-    }
-}
-
-impl Bytes {
-    /// The least of those that are greater.
-    fn after(&self) -> Bytes {
-        match self {
-            // Behind its bytes a room is zero.
-            Bytes::Short(len, room) if usize::from(*len) < IN_PLACE => Bytes::Short(len + 1, *room),
-            _ => [&**self, &[0]].concat().as_slice().into(),
-        }
-    }
-}
-
-impl Deref for Bytes {
-    type Target = [u8];
-
-    fn deref(&self) -> &[u8] {
-        match self {
-            Bytes::Short(len, room) => &room[..usize::from(*len)],
-            Bytes::Long(shared) => shared,
-        }
-    }
-}
-
-/// A room as numbers, whose order is that of its bytes; the last two have two bytes in common.
-fn words(room: &[u8; IN_PLACE]) -> (u64, u64, u64) {
-    let word = |from| u64::from_be_bytes(room[from..from + 8].try_into().unwrap());
-    (word(0), word(8), word(IN_PLACE - 8))
-}
-
-impl PartialEq for Bytes {
-    fn eq(&self, other: &Bytes) -> bool {
-        **self == **other
-    }
-}
-
-impl Eq for Bytes {}
-
-impl PartialOrd for Bytes {
-    fn partial_cmp(&self, other: &Bytes) -> Option<Ordering> {
-        Some(self.cmp(other))
-    }
-}
-
-impl Ord for Bytes {
-    fn cmp(&self, other: &Bytes) -> Ordering {
-        match (self, other) {
-            // A room is zero behind its bytes, so it decides but for zeros at the end.
-            (Bytes::Short(len, room), Bytes::Short(other_len, other_room)) => {
-                words(room).cmp(&words(other_room)).then(len.cmp(other_len))
-            }
-            _ => (**self).cmp(&**other),
-        }
     }
 }
 
