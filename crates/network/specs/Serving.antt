@@ -1,0 +1,54 @@
+-- What a receiver took in a call, and what a service answered.
+use Rattle.std.specs.Prelude.{◌≡◌, ◌≢◌, ℕ, Bool, true, false, List, [], ◌∷◌, map, length, drop, Option, Some}
+use Rattle.std.specs.List.{All, count_by}
+use Rattle.atomic_table.specs.Seated.{TableId}
+use Rattle.fdb_calls.specs.declared.Request.{Request}
+use Rattle.fdb_calls.specs.declared.Reply.{Reply}
+use Rattle.fdb_calls.specs.declared.Reply.TheVariants.{Started, NoMemory}
+use Rattle.future_cell.specs.declared.setter.Receipt.{Receipt}
+use Rattle.future_cell.specs.declared.wake.Wake.{Wake}
+use Rattle.future_cell.specs.Cells.{receipt_cell, value_set}
+use Rattle.request_line.specs.declared.ends.Receiver.{Receiver}
+use Rattle.request_line.specs.Line.{taken}
+use Rattle.network.specs.declared.post.Post.{Post}
+use Rattle.network.specs.Posts.{posts_of, asked_in, asking_in, cells_in}
+
+-- what a receiver took since an earlier moment, each post with its sender's number
+abbrev pub taken_since : Receiver Post → Receiver Post → List (ℕ × Post)
+taken_since before after = drop (length (taken before)) (taken after)
+
+-- the same without the numbers
+abbrev pub posts_since : Receiver Post → Receiver Post → List Post
+posts_since before after = posts_of (taken_since before after)
+
+-- To these requests of machines, one after the other, the service gave these replies; it came from one state to another.
+abbrev pub IsRun : {S : Type 0} → (S → ℕ → Request → Reply → S → Type 0) → S → List (ℕ × Request) → List (Option Reply) → S → Type 0
+IsRun answers before [] [] after = after ≡ before
+IsRun {S} answers before (asked ∷ rest) (Some reply ∷ replies) after =
+    (between : S) × answers before asked.0 asked.1 reply between × IsRun answers between rest replies after
+IsRun answers before asked replies after = ⊥
+
+-- the cells of receipts, and the replies that were set
+abbrev pub cells_of : List (Receipt Reply Wake) → List TableId
+cells_of receipts = map receipt_cell receipts
+
+abbrev pub replies_of : List (Receipt Reply Wake) → List (Option Reply)
+replies_of receipts = map value_set receipts
+
+-- While memory lasts: to what these posts ask, in order, the service gave the replies that were set, each in the cell in which it is
+-- awaited. None is NoMemory. The order names the machines that ask.
+pub record Serves {S : Type 0} (answers : S → ℕ → Request → Reply → S → Type 0) (before after : S) (posts : List Post) (order : List ℕ)
+    (receipts : List (Receipt Reply Wake)) : Type 0 where
+  pub run : IsRun answers before (asked_in posts) (replies_of receipts) after
+  pub cells : cells_of receipts ≡ cells_in posts
+  pub has_memory : All (λ reply. reply ≢ Some NoMemory) (replies_of receipts)
+  pub order_is : order ≡ asking_in posts
+
+-- whether a reply says that a machine was started
+abbrev pub is_started : Option Reply → Bool
+is_started (Some (Started machine instructions)) = true
+is_started reply = false
+
+-- how many machines the replies say were started
+abbrev pub started_by : List (Option Reply) → ℕ
+started_by replies = count_by is_started replies

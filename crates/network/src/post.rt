@@ -1,0 +1,19 @@
+//! What goes over the line.
+
+use fdb_calls::{Reply, Request};
+use future_cell::{Setter, Wake};
+
+/// What a machine posts.
+#[derive(Drop)]
+pub enum Post {
+    /// The machine asks. The reply is to be set in the cell of the setter.
+    Ask {
+        machine: u16,
+        request: Request,
+        setter: Setter<Reply, Wake>,
+    },
+    /// The machine is over: it asks no more.
+    Over {
+        machine: u16,
+    },
+}

@@ -1,0 +1,63 @@
+//! Answering what comes over the line.
+
+ghost use Rattle.std.specs.Prelude.{◌≡◌, ◌+◌, ◌++◌, false};
+ghost use Rattle.request_line.specs.Line.{receiver_line, taken, closed};
+ghost use Rattle.network.specs.Posts.{overs_in};
+ghost use Rattle.network.specs.Serving.{Serves, taken_since, posts_since, replies_of, started_by};
+
+use crate::post::Post;
+use crate::receipts::Receipts;
+use crate::service::Service;
+use input_rules::Order;
+use request_line::Receiver;
+use std::alloc::Global;
+use std::sync::Wait;
+
+mod desk;
+
+use desk::Desk;
+
+/// What was served.
+#[derive(Drop)]
+pub struct Served {
+    /// The machines that asked, in the order in which they were answered.
+    pub order: Order,
+    /// The receipts of their replies, in the same order.
+    pub receipts: Receipts,
+    /// Whether memory ran out, in the service or in `serve`. From then on each reply was NoMemory, and neither it nor its
+    /// machine is noted.
+    pub short: bool,
+    /// How many machines were started, machine 0 among them.
+    pub machines: u64,
+}
+
+/// Answers each Ask, in the order taken, until as many Overs were taken as machines were started: machine 0, and each that a
+/// reply says was started. It may wait, and does so for ever where machines do not end. Once memory runs out `short` is true, and
+/// each reply from then on is NoMemory.
+pub fn serve<S: Service, R: Wait>(
+    rt: &R,
+    alloc: Global,
+    receiver: &mut Receiver<Post>,
+    service: &mut S,
+) -> Served
+    // While memory lasts, of all posts taken in this call: what the service was asked and gave, the order, and the receipts.
+    ensures served { result.short ≡ false → Serves S.answers service.old service.new (posts_since receiver.old receiver.new)
+        result.order result.receipts }
+
+    // Whether memory lasts or not: where it ends, and what was taken.
+    ensures ended { overs_in (posts_since receiver.old receiver.new) ≡ result.machines }
+    ensures machines { result.machines ≡ 1 + started_by (replies_of result.receipts) }
+    ensures taken { taken receiver.new ≡ taken receiver.old ++ taken_since receiver.old receiver.new }
+    ensures closed { closed receiver.new ≡ closed receiver.old }
+    ensures line { receiver_line receiver.new ≡ receiver_line receiver.old }
+{
+    let mut desk = Desk::new(alloc);
+    for _ in rt.forever() {
+        if desk.over == desk.machines {
+            return desk.close();
+        }
+        let (_, post) = receiver.take(rt);
+        desk.take(service, post);
+    }
+    unreachable!()
+}
