@@ -30,7 +30,8 @@ one_more None t words first second = by first.refused
 
 -- what the second part is made on: what the first left
 pub all_acted-append : (setting : Setting) (first second : List Act) (t : Transaction)
-    → all_acted setting (first ++ second) t ≡ followed (all_acted setting first t) (all_acted setting second (all_acted setting first t).transaction)
+    → all_acted setting (first ++ second) t ≡ followed (all_acted setting first t)
+    (all_acted setting second (all_acted setting first t).transaction)
 unfolding all_acted
 all_acted-append setting [] second t = unmoved (all_acted setting second t)
 all_acted-append setting (act ∷ first) second t =
@@ -81,7 +82,8 @@ pub keep-append : (setting : Setting) (P : Transaction → Type 0) (first second
 keep-append setting P [] second one other = other
 keep-append setting P (act ∷ first) second one other = (one.0, keep-append setting P first second one.1 other)
 
-pub all_keep : (setting : Setting) (P : Transaction → Type 0) (acts : List Act) → Keep setting P acts → (t : Transaction) → P t → P (all_acted setting acts t).transaction
+pub all_keep : (setting : Setting) (P : Transaction → Type 0) (acts : List Act) → Keep setting P acts → (t : Transaction) → P t
+    → P (all_acted setting acts t).transaction
 unfolding all_acted
 all_keep setting P [] each t p = p
 all_keep setting P (act ∷ acts) each t p =

@@ -3,7 +3,7 @@ use Rattle.std.proofs.Common.{◌≡◌, ℕ, ◌+◌, ◌^◌, ◌<◌, ◌≤�
 use Rattle.std.specs.Prelude.{nat_le, bytes_eq}
 use Rattle.std.specs.Ordering.{is_lt, is_eq, nat_cmp}
 use Rattle.std.specs.declared.cmp.Ordering.TheVariants.{Less, Equal, Greater}
-use Rattle.std.specs.Cmp.Lexicographic.{nat_list_cmp_total, bytes_decides, same_text}
+use Rattle.std.specs.Cmp.Lexicographic.{nat_list_cmp_total, texts_ties, same_text}
 use Rattle.std.proofs.Math.Bool.{and-false}
 use Rattle.std.proofs.Math.Seq.{drop-append-add}
 use Rattle.std.proofs.lemmas.Bool.{and_parts, and_from, false_from_ne_true, eqb-true, leb-true, le-ltb, le-leb}
@@ -106,9 +106,10 @@ pub counter_in_again : (space : List ℕ) (number : ℕ) → number ≤ GREATEST
 unfolding counter_in
 counter_in_again space number small =
     let key = counter_key space number in
+    let itself : bytes_eq key key ≡ true = texts_ties key key ∙ ap is_eq (tied_itself nat_list_cmp_total key) in
     ap (λ read. cond (bytes_eq key (counter_key space read) && nat_le read GREATEST_COUNTER) (Some read) None)
     (read_again space number (omega arith))
-    ∙ ap (λ b. cond b (Some number) None) (and_from _ _ ((bytes_decides key key).1 refl) (le-leb number GREATEST_COUNTER small))
+    ∙ ap (λ b. cond b (Some number) None) (and_from _ _ itself (le-leb number GREATEST_COUNTER small))
 
 -- ---- packed numbers
 

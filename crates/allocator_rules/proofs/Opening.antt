@@ -31,7 +31,8 @@ use Rattle.allocator_rules.proofs.Windows.{window_bounds}
 abbrev pub opened_start : (is_half : Bool) → (first : ℕ) → ℕ
 opened_start is_half first = if is_half then first + window first else first
 
-spares_opens : (is_half : Bool) (space : List ℕ) (first number : ℕ) → first ≤ GREATEST_COUNTER → opened_start is_half first ≤ number → number < 2 ^ 63
+spares_opens : (is_half : Bool) (space : List ℕ) (first number : ℕ) → first ≤ GREATEST_COUNTER → opened_start is_half first ≤ number
+    → number < 2 ^ 63
     → list_all (spares (recent_key space number)) (opens is_half space first) ≡ true
 spares_opens false space first number small above below = rw (kinds_differ_back space number first) refl
 spares_opens true space first number small above below =
@@ -52,9 +53,11 @@ spares_opens true space first number small above below =
 -- opening a window leaves its numbers as they are
 pub recent_opened : (setting : Setting) (t : Transaction) (is_half : Bool) (space : List ℕ) (first number : ℕ) → first ≤ GREATEST_COUNTER
     → opened_start is_half first ≤ number → number < 2 ^ 63
-    → is_recent space (view setting (all_acted setting (opens is_half space first) t).transaction) number ≡ is_recent space (view setting t) number
+    → is_recent space (view setting (all_acted setting (opens is_half space first) t).transaction) number ≡ is_recent space
+    (view setting t) number
 recent_opened setting t is_half space first number small above below =
-    ap is_some (all_spared setting (opens is_half space first) t (recent_key space number) (spares_opens is_half space first number small above below))
+    ap is_some (all_spared setting (opens is_half space first) t (recent_key space number)
+    (spares_opens is_half space first number small above below))
 
 -- ---- the count
 
@@ -68,14 +71,16 @@ readable_before t None mutation q plain is =
 -- what is read of a counter that 1 was added to
 pub count_read : (setting : Setting) (t : Transaction) (space : List ℕ) (start : ℕ) (value : Option (List ℕ))
     → refusal (act_called setting t (Writes (Atomic atomic.Add (counter_key space start) one_more))).reply ≡ None
-    → reply.Value value ≡ (act_called setting (act_called setting t (Writes (Atomic atomic.Add (counter_key space start) one_more))).transaction
+    → reply.Value value ≡
+    (act_called setting (act_called setting t (Writes (Atomic atomic.Add (counter_key space start) one_more))).transaction
     (Reads (Get (counter_key space start)) true)).reply
     → value ≡ counted space (view setting t) start
 count_read setting t space start value passed is =
     let key = counter_key space start in
     let after = (act_called setting t (Writes (Atomic atomic.Add key one_more))).transaction in
     let let_through : refusal (act_called setting after (Reads (Get key) true)).reply ≡ None = ap refusal (sym is) in
-    let free = readable_before t (op_code t.phase atomic.Add key one_more) (Atomic atomic.Add key one_more) key refl (readable setting after true key let_through) in
+    let free = readable_before t (op_code t.phase atomic.Add key one_more) (Atomic atomic.Add key one_more) key refl
+    (readable setting after true key let_through) in
     value_read setting after true key value is ∙ atomic_seen setting t atomic.Add key one_more refl free passed
 
 length-little_bytes : (size number : ℕ) → length (little_bytes size number) ≡ size

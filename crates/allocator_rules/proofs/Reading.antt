@@ -27,26 +27,30 @@ value_by : (setting : Setting) (t : Transaction) (first : Option ℕ) (snapshot 
     → reply.Value value ≡ (read_by first setting t snapshot (Get key)).reply → value ≡ finite.get (view setting t) key
 value_by setting t (Some code) snapshot key value is = absurd cc
 value_by setting t None snapshot key value is =
-    late_value setting (with_version setting t) (first_failing (late_checks setting (with_version setting t) (Get key))) snapshot key value is
+    late_value setting (with_version setting t) (first_failing (late_checks setting (with_version setting t) (Get key))) snapshot key
+    value is
 
 -- a value that was answered is what is seen
 pub value_read : (setting : Setting) (t : Transaction) (snapshot : Bool) (key : List ℕ) (value : Option (List ℕ))
     → reply.Value value ≡ (act_called setting t (Reads (Get key) snapshot)).reply → value ≡ finite.get (view setting t) key
 value_read setting t snapshot key value is = value_by setting t (read_code t.phase false (Get key)) snapshot key value is
 
-late_pairs : (setting : Setting) (t : Transaction) (later : Option ℕ) (snapshot backward : Bool) (begin end : List ℕ) (limit : ℕ) (pairs : Entries)
+late_pairs : (setting : Setting) (t : Transaction) (later : Option ℕ) (snapshot backward : Bool) (begin end : List ℕ) (limit : ℕ)
+    (pairs : Entries)
     → reply.PairsAre pairs ≡ (read_at_version later setting t snapshot (GetKeyRange begin end limit backward)).reply
     → pairs ≡ slice (view setting t) begin end limit backward
 unfolding answer
 late_pairs setting t (Some code) snapshot backward begin end limit pairs is = absurd cc
 late_pairs setting t None snapshot backward begin end limit pairs is = cc
 
-pairs_by : (setting : Setting) (t : Transaction) (first : Option ℕ) (snapshot backward : Bool) (begin end : List ℕ) (limit : ℕ) (pairs : Entries)
+pairs_by : (setting : Setting) (t : Transaction) (first : Option ℕ) (snapshot backward : Bool) (begin end : List ℕ) (limit : ℕ)
+    (pairs : Entries)
     → reply.PairsAre pairs ≡ (read_by first setting t snapshot (GetKeyRange begin end limit backward)).reply
     → pairs ≡ slice (view setting t) begin end limit backward
 pairs_by setting t (Some code) snapshot backward begin end limit pairs is = absurd cc
 pairs_by setting t None snapshot backward begin end limit pairs is =
-    late_pairs setting (with_version setting t) (first_failing (late_checks setting (with_version setting t) (GetKeyRange begin end limit backward)))
+    late_pairs setting (with_version setting t)
+    (first_failing (late_checks setting (with_version setting t) (GetKeyRange begin end limit backward)))
     snapshot backward begin end limit pairs is
 
 -- and so are the pairs of a range
@@ -59,7 +63,8 @@ pairs_read setting t snapshot backward begin end limit pairs is =
 -- ---- a key that may be read
 
 not_hidden : (setting : Setting) (t : Transaction) (snapshot : Bool) (read : Read) (ahead hidden : Bool)
-    → refusal (read_at_version (first_failing ((ahead, FUTURE_VERSION) ∷ (hidden, ACCESSED_UNREADABLE) ∷ [])) setting t snapshot read).reply ≡ None
+    → refusal (read_at_version (first_failing ((ahead, FUTURE_VERSION) ∷ (hidden, ACCESSED_UNREADABLE) ∷ [])) setting t snapshot
+    read).reply ≡ None
     → hidden ≡ false
 not_hidden setting t snapshot read true hidden passed = absurd cc
 not_hidden setting t snapshot read false true passed = absurd cc
@@ -71,7 +76,8 @@ not_met key ranges apart = by (covers ranges key) refl
     by : (covered : Bool) → covers ranges key ≡ covered → covered ≡ false
     by false is = refl
     by true is =
-        absurd (let meets : any_meet (one key ∷ []) ranges ≡ true = any_meet_at (one key ∷ []) ranges key (covers_one key key ∙ itself key) is in cc)
+        absurd (let meets : any_meet (one key ∷ []) ranges ≡ true = any_meet_at (one key ∷ []) ranges key (covers_one key key
+        ∙ itself key) is in cc)
 
 readable_by : (setting : Setting) (t : Transaction) (first : Option ℕ) (snapshot : Bool) (key : List ℕ)
     → refusal (read_by first setting t snapshot (Get key)).reply ≡ None → covers (unreadable (writes_of t)) key ≡ false

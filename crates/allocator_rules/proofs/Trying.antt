@@ -25,7 +25,8 @@ tried-append present [] second = refl
 tried-append present (candidate ∷ first) second = by (present candidate.number) (tried-append present first second)
   where
     by : (here : Bool)
-        → tried present (first ++ second) ≡ tried present first ++ (if is_some (first_absent present first) then [] else tried present second)
+        → tried present (first ++ second) ≡ tried present first ++
+        (if is_some (first_absent present first) then [] else tried present second)
         → cond here (candidate ∷ tried present (first ++ second)) (candidate ∷ [])
         ≡ cond here (candidate ∷ tried present first) (candidate ∷ [])
         ++ cond (is_some (cond here (first_absent present first) (Some candidate.number))) [] (tried present second)
@@ -42,7 +43,8 @@ absent-append present (candidate ∷ first) second = by (present candidate.numbe
         → first_absent present (first ++ second)
         ≡ (if is_some (first_absent present first) then first_absent present first else first_absent present second)
         → cond here (first_absent present (first ++ second)) (Some candidate.number)
-        ≡ (let absent : Option ℕ = cond here (first_absent present first) (Some candidate.number) in cond (is_some absent) absent (first_absent present second))
+        ≡ (let absent : Option ℕ = cond here (first_absent present first) (Some candidate.number) in cond (is_some absent) absent
+        (first_absent present second))
     by true parts = parts
     by false parts = refl
 
@@ -54,7 +56,8 @@ none_absent present (candidate ∷ candidates) none = by (present candidate.numb
   where
     by : (here : Bool) → cond here (first_absent present candidates) (Some candidate.number) ≡ None
         → (first_absent present candidates ≡ None → (all_present present candidates ≡ true) × (tried present candidates ≡ candidates))
-        → ((here && all_present present candidates) ≡ true) × (cond here (candidate ∷ tried present candidates) (candidate ∷ []) ≡ candidate ∷ candidates)
+        → ((here && all_present present candidates) ≡ true) × (cond here (candidate ∷ tried present candidates) (candidate ∷ [])
+        ≡ candidate ∷ candidates)
     by true none others = ((others none).0, ap (λ list. candidate ∷ list) (others none).1)
     by false none others = absurd cc
 
@@ -73,16 +76,19 @@ keep_tries setting space present candidate here = by candidate.is_drawn
     reads t presents number =
         ap (λ m. is_recent space m number) (after_read setting t (Get (recent_key space candidate.number)) false) ∙ presents number
 
-    silences : (t : Transaction) → Presents setting space present t → Presents setting space present (act_called setting t Silences).transaction
+    silences : (t : Transaction) → Presents setting space present t
+        → Presents setting space present (act_called setting t Silences).transaction
     silences t presents number = ap (λ m. is_recent space m number) (after_silence setting t) ∙ presents number
 
     sets : (t : Transaction) → Presents setting space present t
         → Presents setting space present (act_called setting t (Writes (Set (recent_key space candidate.number) []))).transaction
     sets t presents number =
-        set_seen setting t (recent_key space candidate.number) [] (recent_key space number) (presents candidate.number ∙ here) ∙ presents number
+        set_seen setting t (recent_key space candidate.number) [] (recent_key space number) (presents candidate.number ∙ here)
+        ∙ presents number
 
     by : (is_drawn : Bool) → Keep setting (Presents setting space present)
-        ((cond is_drawn (Draws ∷ []) []) ++ Reads (Get (recent_key space candidate.number)) false ∷ Silences ∷ Writes (Set (recent_key space candidate.number) []) ∷ [])
+        ((cond is_drawn (Draws ∷ []) []) ++ Reads (Get (recent_key space candidate.number)) false ∷ Silences ∷ Writes
+        (Set (recent_key space candidate.number) []) ∷ [])
     by true = ((λ t presents. presents), (reads, (silences, (sets, tt))))
     by false = (reads, (silences, (sets, tt)))
 
@@ -97,7 +103,8 @@ keep_all setting space present (candidate ∷ candidates) are =
 -- tries of numbers that are present change no presence
 pub present_same : (setting : Setting) (space : List ℕ) (candidates : List Candidate) (t : Transaction) (number : ℕ)
     → all_present (is_recent space (view setting t)) candidates ≡ true
-    → is_recent space (view setting (all_acted setting (flat_map (tries space) candidates) t).transaction) number ≡ is_recent space (view setting t) number
+    → is_recent space (view setting (all_acted setting (flat_map (tries space) candidates) t).transaction) number ≡ is_recent space
+    (view setting t) number
 present_same setting space candidates t number are =
     all_keep setting (Presents setting space (is_recent space (view setting t))) (flat_map (tries space) candidates)
     (keep_all setting space (is_recent space (view setting t)) candidates are) t (λ other. refl) number
@@ -116,7 +123,8 @@ tried_same one other from end (candidate ∷ candidates) among same =
     let parts = and_parts (is_among from end candidate) (list_all (is_among from end) candidates) among in
     let within = and_parts (nat_le from candidate.number) (nat_lt candidate.number end) parts.0 in
     ap (λ (here : Bool). cond here (candidate ∷ tried one candidates) (candidate ∷ [])) (same candidate.number within.0 within.1)
-    ∙ ap (λ others. cond (other candidate.number) (candidate ∷ others) (candidate ∷ [])) (tried_same one other from end candidates parts.1 same)
+    ∙ ap (λ others. cond (other candidate.number) (candidate ∷ others) (candidate ∷ []))
+    (tried_same one other from end candidates parts.1 same)
 
 pub absent_same : (one other : ℕ → Bool) (from end : ℕ) (candidates : List Candidate) → list_all (is_among from end) candidates ≡ true
     → ((number : ℕ) → nat_le from number ≡ true → nat_lt number end ≡ true → one number ≡ other number)

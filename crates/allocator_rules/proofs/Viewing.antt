@@ -70,15 +70,18 @@ get-seen_more writes mutation m q plain =
     ∙ ap (at_key mutation q) (sym (get-do_all writes m q)))
 
 -- one that doesn't touch a key leaves what is seen of it
-same_seen : (writes : List Mutation) (mutation : Mutation) (m : Database) (q : List ℕ) → is_plain mutation ≡ true → touches mutation q ≡ false
+same_seen : (writes : List Mutation) (mutation : Mutation) (m : Database) (q : List ℕ) → is_plain mutation ≡ true
+    → touches mutation q ≡ false
     → finite.get (seen (writes ++ mutation ∷ []) m) q ≡ finite.get (seen writes m) q
 same_seen writes mutation m q plain apart =
     get-seen_more writes mutation m q plain
-    ∙ ap (λ (touched : Bool). cond (not (covers (unreadable writes) q)) (cond touched (made_of mutation (finite.get (do_all writes m) q)) (finite.get (do_all writes m) q)) None) apart
+    ∙ ap (λ (touched : Bool). cond (not (covers (unreadable writes) q))
+    (cond touched (made_of mutation (finite.get (do_all writes m) q)) (finite.get (do_all writes m) q)) None) apart
     ∙ sym (get-seen writes m q)
 
 -- one that touches a key makes its value of what is seen, where the key is readable
-touched_seen : (writes : List Mutation) (mutation : Mutation) (m : Database) (q : List ℕ) → is_plain mutation ≡ true → touches mutation q ≡ true
+touched_seen : (writes : List Mutation) (mutation : Mutation) (m : Database) (q : List ℕ) → is_plain mutation ≡ true
+    → touches mutation q ≡ true
     → covers (unreadable writes) q ≡ false
     → finite.get (seen (writes ++ mutation ∷ []) m) q ≡ made_of mutation (finite.get (seen writes m) q)
 touched_seen writes mutation m q plain touched readable =
@@ -108,7 +111,8 @@ write_seen : (setting : Setting) (t : Transaction) (code : Option ℕ) (mutation
     → P (view setting t) → P (wrote setting t mutation) → P (view setting (write_by code t mutation).transaction)
 write_seen setting t (Some code) mutation P same written = same
 write_seen setting t None mutation P same written =
-    subst (λ writes. P (seen writes (at setting.history (version_in setting t)))) (sym (written_wrote t.script mutation (not t.is_silenced))) written
+    subst (λ writes. P (seen writes (at setting.history (version_in setting t))))
+    (sym (written_wrote t.script mutation (not t.is_silenced))) written
 
 pub after_write : (setting : Setting) (t : Transaction) (mutation : Mutation) (P : Database → Type 0)
     → P (view setting t) → P (wrote setting t mutation) → P (view setting (act_called setting t (Writes mutation)).transaction)
@@ -183,11 +187,13 @@ all_spared setting acts t q apart =
 
 -- a key that is seen, and set, is seen; of every other key the set changes nothing
 pub set_seen : (setting : Setting) (t : Transaction) (key value q : List ℕ) → is_some (finite.get (view setting t) key) ≡ true
-    → is_some (finite.get (view setting (act_called setting t (Writes (Set key value))).transaction) q) ≡ is_some (finite.get (view setting t) q)
+    → is_some (finite.get (view setting (act_called setting t (Writes (Set key value))).transaction) q)
+    ≡ is_some (finite.get (view setting t) q)
 set_seen setting t key value q present = by (bytes_eq q key) refl
   where
     by : (same : Bool) → bytes_eq q key ≡ same
-        → is_some (finite.get (view setting (act_called setting t (Writes (Set key value))).transaction) q) ≡ is_some (finite.get (view setting t) q)
+        → is_some (finite.get (view setting (act_called setting t (Writes (Set key value))).transaction) q)
+        ≡ is_some (finite.get (view setting t) q)
     by false other = ap is_some (spared setting (Writes (Set key value)) t q (ap not other))
     by true same =
         after_write setting t (Set key value) (λ m. is_some (finite.get m q) ≡ is_some (finite.get (view setting t) q)) refl
@@ -204,8 +210,11 @@ pub atomic_seen : (setting : Setting) (t : Transaction) (op : AtomicOp) (key ope
 atomic_seen setting t op key operand plain readable passed = by (op_code t.phase op key operand) passed
   where
     by : (code : Option ℕ) → refusal (write_by code t (Atomic op key operand)).reply ≡ None
-        → finite.get (view setting (write_by code t (Atomic op key operand)).transaction) key ≡ atom op (finite.get (view setting t) key) operand
+        → finite.get (view setting (write_by code t (Atomic op key operand)).transaction) key ≡ atom op (finite.get (view setting t) key)
+        operand
     by (Some code) passed = absurd cc
     by None passed =
-        ap (λ writes. finite.get (seen writes (at setting.history (version_in setting t))) key) (written_wrote t.script (Atomic op key operand) (not t.is_silenced))
-        ∙ touched_seen (writes_of t) (Atomic op key operand) (at setting.history (version_in setting t)) key (ap not plain) (itself key) readable
+        ap (λ writes. finite.get (seen writes (at setting.history (version_in setting t))) key)
+        (written_wrote t.script (Atomic op key operand) (not t.is_silenced))
+        ∙ touched_seen (writes_of t) (Atomic op key operand) (at setting.history (version_in setting t)) key (ap not plain)
+        (itself key) readable

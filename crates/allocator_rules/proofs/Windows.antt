@@ -27,7 +27,8 @@ counting-append from (suc count) more =
 pub window_bounds : (start : ℕ) → (0 < window start) × (window start ≤ 8192)
 window_bounds start = by (nat_lt start 255) (nat_lt start 65535)
   where
-    by : (first second : Bool) → (0 < (if first then 64 else if second then 1024 else 8192)) × ((if first then 64 else if second then 1024 else 8192) ≤ 8192)
+    by : (first second : Bool)
+        → (0 < (if first then 64 else if second then 1024 else 8192)) × ((if first then 64 else if second then 1024 else 8192) ≤ 8192)
     by true second = (omega arith, omega arith)
     by false true = (omega arith, omega arith)
     by false false = (omega arith, omega arith)
@@ -38,9 +39,11 @@ is_inside : (start other : ℕ) (is_drawn : Bool)
 is_inside start other is_drawn =
     let wide : 0 < window start = (window_bounds start).0 in
     let rest : other % window start < window start = omega arith in
-    and_from _ _ (le-leb start (start + other % window start) (omega arith)) (lt-ltb (start + other % window start) (start + window start) (omega arith))
+    and_from _ _ (le-leb start (start + other % window start) (omega arith))
+    (lt-ltb (start + other % window start) (start + window start) (omega arith))
 
-each_inside : (from end : ℕ) (candidate_of : ℕ → Candidate) (places : List ℕ) → ((place : ℕ) → is_among from end (candidate_of place) ≡ true)
+each_inside : (from end : ℕ) (candidate_of : ℕ → Candidate) (places : List ℕ)
+    → ((place : ℕ) → is_among from end (candidate_of place) ≡ true)
     → list_all (is_among from end) (map candidate_of places) ≡ true
 each_inside from end candidate_of [] each = refl
 each_inside from end candidate_of (place ∷ places) each = and_from _ _ (each place) (each_inside from end candidate_of places each)
@@ -53,5 +56,7 @@ candidates_inside start words =
     (map (λ place. record { number = drawn start words place; is_drawn = true }) (counting 0 RANDOM_TRIES))
     (map (λ distance. record { number = above start last distance; is_drawn = false }) (counting 1 (window start)))
     ∙ and_from _ _
-    (each_inside start (start + window start) (λ place. record { number = drawn start words place; is_drawn = true }) (counting 0 RANDOM_TRIES) (λ place. is_inside start (words place) true))
-    (each_inside start (start + window start) (λ distance. record { number = above start last distance; is_drawn = false }) (counting 1 (window start)) (λ distance. is_inside start (last - start + distance) false))
+    (each_inside start (start + window start) (λ place. record { number = drawn start words place; is_drawn = true })
+    (counting 0 RANDOM_TRIES) (λ place. is_inside start (words place) true))
+    (each_inside start (start + window start) (λ distance. record { number = above start last distance; is_drawn = false })
+    (counting 1 (window start)) (λ distance. is_inside start (last - start + distance) false))

@@ -38,7 +38,8 @@ pair_is_tuple number small =
 pub read_behind : (space : List ℕ) (tuple : Elements) → IsTuple tuple → key_read space (space ++ spelling tuple) ≡ Ok tuple
 read_behind space tuple is =
     let key = space ++ spelling tuple in
-    let front : begins_with key space ≡ true = ap (λ front. bytes_eq space front) (take-append_seam space (spelling tuple)) ∙ itself space in
+    let front : begins_with key space ≡ true = ap (λ front. bytes_eq space front) (take-append_seam space (spelling tuple))
+    ∙ itself space in
     ap (λ (inside : Bool). cond inside (behind_read (drop (length space) key)) (Err fault.NotInside)) front
     ∙ ap behind_read (drop-append_seam space (spelling tuple)) ∙ ap behind_by (read_tuple_again tuple is)
 
@@ -50,7 +51,8 @@ counter_reads space key number is =
 
 -- ---- the number
 
-small_is : (negative : Bool) (size number : ℕ) → small negative size ≡ Some number → (negative ≡ false) × (size ≡ number) × (size ≤ GREATEST_COUNTER)
+small_is : (negative : Bool) (size number : ℕ) → small negative size ≡ Some number
+    → (negative ≡ false) × (size ≡ number) × (size ≤ GREATEST_COUNTER)
 small_is true size number is = absurd cc
 small_is false size number is = by (nat_lt GREATEST_COUNTER size) refl is
   where
@@ -61,7 +63,8 @@ small_is false size number is = by (nat_lt GREATEST_COUNTER size) refl is
 
 pub number_again : (number : ℕ) → number ≤ GREATEST_COUNTER → number_in (elements_of (pair number)) ≡ Some number
 number_again number low =
-    ap (λ (negative : Bool). small negative number) (not_negative number) ∙ ap (λ (large : Bool). cond large None (Some number)) (le-ltb GREATEST_COUNTER number low)
+    ap (λ (negative : Bool). small negative number) (not_negative number)
+    ∙ ap (λ (large : Bool). cond large None (Some number)) (le-ltb GREATEST_COUNTER number low)
 
 second_is : (tuple : Elements) (number : ℕ) → number_in (elem.Int (pos 0) ∷ elements_of tuple) ≡ Some number
     → (tuple ≡ Single (Int (pos number)) Empty) × (number ≤ GREATEST_COUNTER)
@@ -80,7 +83,8 @@ second_is (Single (Stamp stamp user) Empty) number is = absurd cc
 second_is (Single (Int (pos size)) Empty) number is =
     let parts = small_is (is_negative (pos size)) size number is in
     (ap (λ size. Single (Int (pos size)) Empty) parts.1, omega arith)
-second_is (Single (Int (negsuc size)) Empty) number is = absurd (let parts = small_is (is_negative (negsuc size)) (suc size) number is in cc)
+second_is (Single (Int (negsuc size)) Empty) number is = absurd
+    (let parts = small_is (is_negative (negsuc size)) (suc size) number is in cc)
 
 not_zero : (first : Elem) (others : List Elem) (number : ℕ) → is_zero first ≡ false → number_in (first ∷ others) ≡ Some number → ⊥
 not_zero first [] number apart is = cc
@@ -89,12 +93,15 @@ not_zero first (second ∷ []) number apart is =
 not_zero first (second ∷ third ∷ others) number apart is = cc
 
 -- a tuple with a number of a counter is the pair of 0 and that number
-pub number_is : (tuple : Elements) (number : ℕ) → number_in (elements_of tuple) ≡ Some number → (tuple ≡ pair number) × (number ≤ GREATEST_COUNTER)
+pub number_is : (tuple : Elements) (number : ℕ) → number_in (elements_of tuple) ≡ Some number
+    → (tuple ≡ pair number) × (number ≤ GREATEST_COUNTER)
 number_is Empty number is = absurd cc
 number_is (Single (Int (pos zero)) rest) number is =
     let parts = second_is rest number is in (ap (λ rest. Single (Int (pos 0)) rest) parts.0, parts.1)
-number_is (Single (Int (pos (suc size))) rest) number is = absurd (not_zero (elem.Int (pos (suc size))) (elements_of rest) number (ne_eqb (suc size) 0 (λ e. omega arith)) is)
-number_is (Single (Int (negsuc size)) rest) number is = absurd (not_zero (elem.Int (negsuc size)) (elements_of rest) number (ne_eqb (suc size) 0 (λ e. omega arith)) is)
+number_is (Single (Int (pos (suc size))) rest) number is = absurd
+    (not_zero (elem.Int (pos (suc size))) (elements_of rest) number (ne_eqb (suc size) 0 (λ e. omega arith)) is)
+number_is (Single (Int (negsuc size)) rest) number is = absurd
+    (not_zero (elem.Int (negsuc size)) (elements_of rest) number (ne_eqb (suc size) 0 (λ e. omega arith)) is)
 number_is (Single Null rest) number is = absurd (not_zero elem.Null (elements_of rest) number refl is)
 number_is (Single (Bytes bytes) rest) number is = absurd (not_zero (elem.Bytes bytes) (elements_of rest) number refl is)
 number_is (Single (Text text) rest) number is = absurd (not_zero (elem.Text text) (elements_of rest) number refl is)
@@ -110,7 +117,8 @@ pub counter_found : (space key : List ℕ) (tuple : Elements) → key ≡ space 
     → number_in (elements_of tuple) ≡ counter_in space key
 counter_found space key tuple is reads = by (number_in (elements_of tuple)) refl (counter_in space key) refl
   where
-    by : (number : Option ℕ) → number_in (elements_of tuple) ≡ number → (counter : Option ℕ) → counter_in space key ≡ counter → number ≡ counter
+    by : (number : Option ℕ) → number_in (elements_of tuple) ≡ number → (counter : Option ℕ) → counter_in space key ≡ counter
+        → number ≡ counter
     by (Some number) number_of counter counter_is =
         let parts = number_is tuple number number_of in
         let key_is : key ≡ counter_key space number = is ∙ ap (λ tuple. space ++ spelling tuple) parts.0 in
@@ -120,7 +128,8 @@ counter_found space key tuple is reads = by (number_in (elements_of tuple)) refl
         let read : Ok tuple ≡ Ok (pair counter) = sym reads ∙ counter_reads space key counter counter_is in
         let same : tuple ≡ pair counter = cc in
         let low = (counter_in_is space key counter counter_is).1 in
-        absurd (let again : number_in (elements_of tuple) ≡ Some counter = ap (λ tuple. number_in (elements_of tuple)) same ∙ number_again counter low in cc)
+        absurd (let again : number_in (elements_of tuple) ≡ Some counter = ap (λ tuple. number_in (elements_of tuple)) same
+        ∙ number_again counter low in cc)
 
 -- a key that reads as none isn't
 pub no_counter : (space key : List ℕ) (f : SubFault) → key_read space key ≡ Err f → None ≡ counter_in space key

@@ -16,11 +16,13 @@ use Rattle.prefix_allocator.proofs.Search.{tries_then, tries_first, tries-append
 use Rattle.prefix_allocator.proofs.Draws.{draws-append, draws_later, one_word}
 
 -- so many words chose numbers that were tried, each was let through, and none was absent
-pub record HasDrawn (setting : Setting) (stands : Transaction → Type 0) (space : List ℕ) (start : ℕ) (words : ℕ → ℕ) (count : ℕ) (t : Transaction) : Type 0 where
+pub record HasDrawn (setting : Setting) (stands : Transaction → Type 0) (space : List ℕ) (start : ℕ) (words : ℕ → ℕ) (count : ℕ)
+    (t : Transaction) : Type 0 where
   pub sofar : Sofar setting stands space (draws start words 0 count) t
   pub used : (all_acted setting (tries_of space (view setting t) (draws start words 0 count)) t).words ≡ count
 
-pub none_drawn : (setting : Setting) (stands : Transaction → Type 0) (space : List ℕ) (start : ℕ) (words : ℕ → ℕ) (t : Transaction) → stands t
+pub none_drawn : (setting : Setting) (stands : Transaction → Type 0) (space : List ℕ) (start : ℕ) (words : ℕ → ℕ) (t : Transaction)
+    → stands t
     → HasDrawn setting stands space start words 0 t
 unfolding draws all_acted tries_of
 none_drawn setting stands space start words t is = record { sofar = none_yet setting stands space t is; used = refl }
@@ -34,23 +36,28 @@ next start words count =
     draws-append start words 0 count 1 ∙ ap (λ from. draws start words 0 count ++ draws start words from 1) at
 
 -- what the next try did, where these words are left
-abbrev pub Next : {A : Type 0} → (good : A → Type 0) → Result A TrFault → Setting → (stands : Transaction → Type 0) → (space : List ℕ) → (start : ℕ) → (left : ℕ → ℕ)
+abbrev pub Next : {A : Type 0} → (good : A → Type 0) → Result A TrFault → Setting → (stands : Transaction → Type 0) → (space : List ℕ)
+    → (start : ℕ) → (left : ℕ → ℕ)
     → Transaction → Type 0
-Next good result setting stands space start left u = Done good result setting stands (tries_of space (view setting u) (draws start left 0 1)) u
+Next good result setting stands space start left u = Done good result setting stands
+    (tries_of space (view setting u) (draws start left 0 1)) u
 
 -- the transaction after so many
 abbrev pub after_draws : Setting → Transaction → (space : List ℕ) → (start : ℕ) → (words : ℕ → ℕ) → (count : ℕ) → Transaction
 after_draws setting t space start words count = after_tries setting t space (draws start words 0 count)
 
 -- it is the try of the word at its place
-at_place : {A : Type 0} (good : A → Type 0) (result : Result A TrFault) (setting : Setting) (stands : Transaction → Type 0) (space : List ℕ) (start : ℕ)
+at_place : {A : Type 0} (good : A → Type 0) (result : Result A TrFault) (setting : Setting) (stands : Transaction → Type 0)
+    (space : List ℕ) (start : ℕ)
     (words left : ℕ → ℕ) (count : ℕ) (u : Transaction) → left 0 ≡ words count → Next good result setting stands space start left u
     → Done good result setting stands (tries_of space (view setting u) (draws start words count 1)) u
 at_place good result setting stands space start words left count u is done =
-    subst (λ candidates. Done good result setting stands (tries_of space (view setting u) candidates) u) (draws_later start words left count is) done
+    subst (λ candidates. Done good result setting stands (tries_of space (view setting u) candidates) u)
+    (draws_later start words left count is) done
 
 -- with it there are as many, and one more
-with_next : {A : Type 0} (good : A → Type 0) (result : Result A TrFault) (setting : Setting) (first stands : Transaction → Type 0) (space : List ℕ) (start : ℕ)
+with_next : {A : Type 0} (good : A → Type 0) (result : Result A TrFault) (setting : Setting) (first stands : Transaction → Type 0)
+    (space : List ℕ) (start : ℕ)
     (words left : ℕ → ℕ) (count : ℕ) (t : Transaction) → HasDrawn setting first space start words count t → left 0 ≡ words count
     → Next good result setting stands space start left (after_draws setting t space start words count)
     → Done good result setting stands (tries_of space (view setting t) (draws start words 0 (count + 1))) t
@@ -86,18 +93,22 @@ LastOf space setting t start words total last =
 
 -- the last number is the one that the next word chose
 abbrev pub NextOf : (space : List ℕ) → Setting → Transaction → (start : ℕ) → (left : ℕ → ℕ) → Drawn → Type 0
-NextOf space setting u start left last = IsLast (found_in space (view setting u) (draws start left 0 1)) (drawn start left 0) last.number last.is_absent
+NextOf space setting u start left last = IsLast (found_in space (view setting u) (draws start left 0 1)) (drawn start left 0) last.number
+    last.is_absent
 
-pub found_next : (found : Option ℕ) (last number : ℕ) (is_absent : Bool) → is_absent ≡ true → IsLast found last number is_absent → found ≡ Some number
+pub found_next : (found : Option ℕ) (last number : ℕ) (is_absent : Bool) → is_absent ≡ true → IsLast found last number is_absent
+    → found ≡ Some number
 found_next found last number true absent is = is
 found_next found last number false absent is = absurd cc
 
-pub none_next : (found : Option ℕ) (last number : ℕ) (is_absent : Bool) → is_absent ≡ false → IsLast found last number is_absent → (found ≡ None) × (number ≡ last)
+pub none_next : (found : Option ℕ) (last number : ℕ) (is_absent : Bool) → is_absent ≡ false → IsLast found last number is_absent
+    → (found ≡ None) × (number ≡ last)
 none_next found last number true absent is = absurd cc
 none_next found last number false absent is = is
 
 -- the words that are left behind the next one
-pub words_left : (words left rest : ℕ → ℕ) (count : ℕ) → ((place : ℕ) → left place ≡ words (count + place)) → ((place : ℕ) → rest place ≡ left (place + 1))
+pub words_left : (words left rest : ℕ → ℕ) (count : ℕ) → ((place : ℕ) → left place ≡ words (count + place))
+    → ((place : ℕ) → rest place ≡ left (place + 1))
     → (place : ℕ) → rest place ≡ words (count + 1 + place)
 words_left words left rest count is later place =
     let same : count + (place + 1) ≡ count + 1 + place = omega arith in
@@ -107,8 +118,10 @@ pub word_next : (words left : ℕ → ℕ) (count : ℕ) → ((place : ℕ) → 
 word_next words left count is = let same : count + 0 ≡ count = omega arith in is 0 ∙ ap words same
 
 -- the acts that try all begin with those that try as far as the next
-tries_total : (space : List ℕ) (setting : Setting) (t : Transaction) (start : ℕ) (words : ℕ → ℕ) (count more total : ℕ) → count + 1 + more ≡ total
-    → (rest : List Act) × (tries_of space (view setting t) (draws start words 0 total) ≡ tries_of space (view setting t) (draws start words 0 (count + 1)) ++ rest)
+tries_total : (space : List ℕ) (setting : Setting) (t : Transaction) (start : ℕ) (words : ℕ → ℕ) (count more total : ℕ)
+    → count + 1 + more ≡ total
+    → (rest : List Act) × (tries_of space (view setting t) (draws start words 0 total) ≡ tries_of space (view setting t)
+    (draws start words 0 (count + 1)) ++ rest)
 tries_total space setting t start words count more total is = (
   _,
   ap (tries_of space (view setting t)) (others start words count more total is)
@@ -116,18 +129,23 @@ tries_total space setting t start words count more total is = (
 )
 
 -- a fault of the next one ends all
-pub fault_drawn : (good : Drawn → Type 0) (f : TrFault) (setting : Setting) (first stands : Transaction → Type 0) (space : List ℕ) (start : ℕ)
-    (words left : ℕ → ℕ) (count more total : ℕ) (t : Transaction) → count + 1 + more ≡ total → HasDrawn setting first space start words count t → left 0 ≡ words count
+pub fault_drawn : (good : Drawn → Type 0) (f : TrFault) (setting : Setting) (first stands : Transaction → Type 0) (space : List ℕ)
+    (start : ℕ)
+    (words left : ℕ → ℕ) (count more total : ℕ) (t : Transaction) → count + 1 + more ≡ total
+    → HasDrawn setting first space start words count t → left 0 ≡ words count
     → Next good (Err f) setting stands space start left (after_draws setting t space start words count)
     → Done (LastOf space setting t start words total) (Err f) setting stands (tries_of space (view setting t) (draws start words 0 total)) t
 fault_drawn good f setting first stands space start words left count more total t is so_far word done =
     let all = tries_total space setting t start words count more total is in
     subst (λ acts. Done (LastOf space setting t start words total) (Err f) setting stands acts t) (sym all.1)
-    (stopped_done good (LastOf space setting t start words total) f setting stands (tries_of space (view setting t) (draws start words 0 (count + 1))) all.0 t
+    (stopped_done good (LastOf space setting t start words total) f setting stands
+    (tries_of space (view setting t) (draws start words 0 (count + 1))) all.0 t
     (with_next good (Err f) setting first stands space start words left count t so_far word done))
 
-pub fault_words : (good : Drawn → Type 0) (f : TrFault) (setting : Setting) (first stands : Transaction → Type 0) (space : List ℕ) (start : ℕ)
-    (words left rest : ℕ → ℕ) (count more total : ℕ) (t : Transaction) → count + 1 + more ≡ total → HasDrawn setting first space start words count t → left 0 ≡ words count
+pub fault_words : (good : Drawn → Type 0) (f : TrFault) (setting : Setting) (first stands : Transaction → Type 0) (space : List ℕ)
+    (start : ℕ)
+    (words left rest : ℕ → ℕ) (count more total : ℕ) (t : Transaction) → count + 1 + more ≡ total
+    → HasDrawn setting first space start words count t → left 0 ≡ words count
     → ((place : ℕ) → rest place ≡ words (count + 1 + place))
     → Next good (Err f) setting stands space start left (after_draws setting t space start words count)
     → Draws {A = Drawn} (Err f) words rest (all_acted setting (tries_of space (view setting t) (draws start words 0 total)) t).words
@@ -137,7 +155,8 @@ fault_words good (fault.Code code) setting first stands space start words left r
     let refused = with_next good (Err (fault.Code code)) setting first stands space start words left count t so_far word done in
     let used : (all_acted setting (tries_of space (view setting t) (draws start words 0 total)) t).words ≡ count + 1 =
     ap (λ acts. (all_acted setting acts t).words) all.1
-    ∙ ap (λ (acted : Acted). acted.words) (refused-append setting (tries_of space (view setting t) (draws start words 0 (count + 1))) all.0 t code refused.0)
+    ∙ ap (λ (acted : Acted). acted.words)
+    (refused-append setting (tries_of space (view setting t) (draws start words 0 (count + 1))) all.0 t code refused.0)
     ∙ words_next setting first space start words count t so_far in
     λ place. left_is place ∙ ap (λ used. words (used + place)) (sym used)
 
@@ -145,12 +164,15 @@ fault_words good (fault.Code code) setting first stands space start words left r
 pub found_drawn : (last : Drawn) (setting : Setting) (first stands : Transaction → Type 0) (space : List ℕ) (start : ℕ)
     (words left : ℕ → ℕ) (count more total : ℕ) (t : Transaction) → count + 1 + more ≡ total → last.is_absent ≡ true
     → HasDrawn setting first space start words count t → left 0 ≡ words count
-    → Next (NextOf space setting (after_draws setting t space start words count) start left) (Ok last) setting stands space start left (after_draws setting t space start words count)
-    → Done (LastOf space setting t start words total) (Ok last) setting stands (tries_of space (view setting t) (draws start words 0 total)) t
+    → Next (NextOf space setting (after_draws setting t space start words count) start left) (Ok last) setting stands space start left
+    (after_draws setting t space start words count)
+    → Done (LastOf space setting t start words total) (Ok last) setting stands
+    (tries_of space (view setting t) (draws start words 0 total)) t
 found_drawn last setting first stands space start words left count more total t is absent so_far word done =
     let u = after_draws setting t space start words count in
     let m = view setting t in
-    let all = with_next (NextOf space setting u start left) (Ok last) setting first stands space start words left count t so_far word done in
+    let all = with_next (NextOf space setting u start left) (Ok last) setting first stands space start words left count t so_far word done
+    in
     let here : found_in space m (draws start words 0 (count + 1)) ≡ Some last.number =
     ap (found_in space m) (next start words count)
     ∙ found_behind setting first space (draws start words 0 count) (draws start words count 1) t so_far.sofar
@@ -162,13 +184,18 @@ found_drawn last setting first stands space start words left count more total t 
     let found : found_in space m (draws start words 0 total) ≡ Some last.number =
     ap (found_in space m) (others start words count more total is)
     ∙ found_first space m (draws start words 0 (count + 1)) (draws start words (0 + (count + 1)) more) last.number here in
-    subst (λ acts. Done (LastOf space setting t start words total) (Ok last) setting stands acts t) (sym acts)
-    (all.0, (subst (λ (is_absent : Bool). IsLast (found_in space m (draws start words 0 total)) (drawn start words (total - 1)) last.number is_absent) (sym absent) found), all.2)
+    subst (λ acts. Done (LastOf space setting t start words total) (Ok last) setting stands acts t) (sym acts) (
+      all.0,
+      (subst (λ (is_absent : Bool). IsLast (found_in space m (draws start words 0 total)) (drawn start words (total - 1))
+          last.number is_absent) (sym absent) found),
+      all.2,
+    )
 
 pub found_words : (last : Drawn) (setting : Setting) (first stands : Transaction → Type 0) (space : List ℕ) (start : ℕ)
     (words left rest : ℕ → ℕ) (count more total : ℕ) (t : Transaction) → count + 1 + more ≡ total → last.is_absent ≡ true
     → HasDrawn setting first space start words count t → left 0 ≡ words count → ((place : ℕ) → rest place ≡ words (count + 1 + place))
-    → Next (NextOf space setting (after_draws setting t space start words count) start left) (Ok last) setting stands space start left (after_draws setting t space start words count)
+    → Next (NextOf space setting (after_draws setting t space start words count) start left) (Ok last) setting stands space start left
+    (after_draws setting t space start words count)
     → Draws (Ok last) words rest (all_acted setting (tries_of space (view setting t) (draws start words 0 total)) t).words
 found_words last setting first stands space start words left rest count more total t is absent so_far word left_is done =
     let u = after_draws setting t space start words count in
@@ -187,19 +214,27 @@ found_words last setting first stands space start words left rest count more tot
 
 -- the next number was present
 pub one_more_drawn : (last : Drawn) (setting : Setting) (first stands : Transaction → Type 0) (space : List ℕ) (start : ℕ)
-    (words left : ℕ → ℕ) (count : ℕ) (t : Transaction) → last.is_absent ≡ false → HasDrawn setting first space start words count t → left 0 ≡ words count
-    → Next (NextOf space setting (after_draws setting t space start words count) start left) (Ok last) setting stands space start left (after_draws setting t space start words count)
+    (words left : ℕ → ℕ) (count : ℕ) (t : Transaction) → last.is_absent ≡ false → HasDrawn setting first space start words count t
+    → left 0 ≡ words count
+    → Next (NextOf space setting (after_draws setting t space start words count) start left) (Ok last) setting stands space start left
+    (after_draws setting t space start words count)
     → HasDrawn setting stands space start words (count + 1) t
 one_more_drawn last setting first stands space start words left count t absent so_far word done =
     let u = after_draws setting t space start words count in
     let m = view setting t in
-    let all = with_next (NextOf space setting u start left) (Ok last) setting first stands space start words left count t so_far word done in
+    let all = with_next (NextOf space setting u start left) (Ok last) setting first stands space start words left count t so_far word done
+    in
     let here : found_in space m (draws start words 0 (count + 1)) ≡ None =
     ap (found_in space m) (next start words count)
     ∙ found_behind setting first space (draws start words 0 count) (draws start words count 1) t so_far.sofar
     ∙ ap (found_in space (view setting u)) (sym (draws_later start words left count word))
-    ∙ (none_next (found_in space (view setting u) (draws start left 0 1)) (drawn start left 0) last.number last.is_absent absent done.1).0 in
-    record { sofar = record { none = here; let_through = all.0; after = all.2 }; used = words_next setting first space start words count t so_far }
+    ∙ (none_next (found_in space (view setting u) (draws start left 0 1)) (drawn start left 0) last.number last.is_absent absent done.1).0
+    in
+    record {
+      sofar = record { none = here; let_through = all.0; after = all.2 };
+      used = words_next setting first space start words count t
+          so_far;
+    }
 
 -- which number it was
 pub last_number : (number start : ℕ) (words left : ℕ → ℕ) (count : ℕ) → number ≡ drawn start left 0 → left 0 ≡ words count
@@ -207,14 +242,3 @@ pub last_number : (number start : ℕ) (words left : ℕ → ℕ) (count : ℕ) 
 last_number number start words left count is word =
     let same : count ≡ count + 1 - 1 = omega arith in
     is ∙ ap (λ word. start + word % window start) word ∙ ap (drawn start words) same
-
--- all were present
-pub all_drawn : (last : Drawn) (setting : Setting) (stands : Transaction → Type 0) (space : List ℕ) (start : ℕ) (words : ℕ → ℕ) (total : ℕ) (t : Transaction)
-    → last.is_absent ≡ false → last.number ≡ drawn start words (total - 1) → HasDrawn setting stands space start words total t
-    → Done (LastOf space setting t start words total) (Ok last) setting stands (tries_of space (view setting t) (draws start words 0 total)) t
-all_drawn last setting stands space start words total t absent number so_far = (
-  so_far.sofar.let_through,
-  subst (λ (is_absent : Bool). IsLast (found_in space (view setting t) (draws start words 0 total)) (drawn start words (total - 1)) last.number is_absent) (sym absent)
-      (so_far.sofar.none, number),
-  so_far.sofar.after,
-)

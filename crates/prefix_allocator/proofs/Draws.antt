@@ -53,16 +53,20 @@ draws_later start words left place is = ap (λ word. (record { number = start + 
 
 -- ---- one
 
-is_last : (present : Bool) (number : ℕ) (absent : Bool) → absent ≡ not present → IsLast (if present then None else Some number) number number absent
-is_last present number absent is = subst (λ (absent : Bool). IsLast (if present then None else Some number) number number absent) (sym is) (by present)
+is_last : (present : Bool) (number : ℕ) (absent : Bool) → absent ≡ not present
+    → IsLast (if present then None else Some number) number number absent
+is_last present number absent is = subst (λ (absent : Bool). IsLast (if present then None else Some number) number number absent) (sym is)
+    (by present)
   where
     by : (present : Bool) → IsLast (if present then None else Some number) number number (not present)
     by true = (refl, refl)
     by false = refl
 
 -- a try behind a word that was drawn
-pub one_drawn : (result : Result Bool TrFault) (setting : Setting) (stands : Transaction → Type 0) (space : List ℕ) (start : ℕ) (words : ℕ → ℕ) (t : Transaction)
-    → Done (Present setting t space (drawn start words 0)) result setting stands (tries space (record { number = drawn start words 0; is_drawn = false })) t
+pub one_drawn : (result : Result Bool TrFault) (setting : Setting) (stands : Transaction → Type 0) (space : List ℕ) (start : ℕ) (words : ℕ
+    → ℕ) (t : Transaction)
+    → Done (Present setting t space (drawn start words 0)) result setting stands
+    (tries space (record { number = drawn start words 0; is_drawn = false })) t
     → Done (Present setting t space (drawn start words 0)) result setting stands (tries_of space (view setting t) (draws start words 0 1)) t
 one_drawn result setting stands space start words t done =
     let present = Present setting t space (drawn start words 0) in
@@ -72,11 +76,13 @@ one_drawn result setting stands space start words t done =
     (passed present result setting stands Draws (tries space (record { number = drawn start words 0; is_drawn = false })) t refl done)
 
 -- the number that it tried, and whether it was absent
-pub last_drawn : (setting : Setting) (space : List ℕ) (start : ℕ) (words : ℕ → ℕ) (t : Transaction) (absent : Bool) → Present setting t space (drawn start words 0) absent
+pub last_drawn : (setting : Setting) (space : List ℕ) (start : ℕ) (words : ℕ → ℕ) (t : Transaction) (absent : Bool)
+    → Present setting t space (drawn start words 0) absent
     → IsLast (found_in space (view setting t) (draws start words 0 1)) (drawn start words 0) (drawn start words 0) absent
 last_drawn setting space start words t absent is =
     let number = drawn start words 0 in
-    let found : (if is_recent space (view setting t) number then None else Some number) ≡ found_in space (view setting t) (draws start words 0 1) =
+    let found : (if is_recent space (view setting t) number then None else Some number) ≡ found_in space (view setting t)
+    (draws start words 0 1) =
     sym (ap (found_in space (view setting t)) (draws_one start words 0) ∙ found_one space (view setting t) (drawn_one start words 0)) in
     subst (λ found. IsLast found number number absent) found (is_last (is_recent space (view setting t) number) number absent is)
 
@@ -86,5 +92,6 @@ last_drawn setting space start words t absent is =
 pub one_word : (setting : Setting) (space : List ℕ) (start : ℕ) (words : ℕ → ℕ) (place : ℕ) (m : Database) (t : Transaction)
     → (all_acted setting (tries_of space m (draws start words place 1)) t).words ≡ 1
 one_word setting space start words place m t =
-    ap (λ acts. (all_acted setting acts t).words) (ap (tries_of space m) (draws_one start words place) ∙ tries_one space m (drawn_one start words place))
+    ap (λ acts. (all_acted setting acts t).words) (ap (tries_of space m) (draws_one start words place)
+    ∙ tries_one space m (drawn_one start words place))
     ∙ tries_words setting space (drawn start words place) true t

@@ -21,7 +21,8 @@ low_is (a ∷ b ∷ c ∷ d ∷ e ∷ f ∷ g ∷ []) long = absurd (omega arith
 low_is (a ∷ b ∷ c ∷ d ∷ e ∷ f ∷ g ∷ h ∷ []) long = omega arith
 low_is (a ∷ b ∷ c ∷ d ∷ e ∷ f ∷ g ∷ h ∷ i ∷ others) long = absurd (omega arith)
 
-pub count_is : (count bytes : List ℕ) (number : ℕ) → length count ≡ 8 → bytes ≡ take 8 count → number ≡ from_le_bytes w64 bytes → number ≡ number_low count
+pub count_is : (count bytes : List ℕ) (number : ℕ) → length count ≡ 8 → bytes ≡ take 8 count → number ≡ from_le_bytes w64 bytes
+    → number ≡ number_low count
 count_is count bytes number long first is = is ∙ ap (from_le_bytes w64) (first ∙ take_all 8 count (omega arith)) ∙ low_is count long
 
 pub half_where_positive : (start : ℕ) (count : List ℕ) (number wide : ℕ) → number ≡ number_low count → number < 2 ^ 63 → wide ≡ window start
@@ -32,7 +33,9 @@ half_where_positive start count number wide is positive window_is =
     ∙ ap (λ wide. nat_lt number (2 ^ 63) && nat_le wide (2 * number)) window_is
     ∙ ap (λ number. nat_lt number (2 ^ 63) && nat_le (window start) (2 * number)) is
 
-pub no_half_where_negative : (start : ℕ) (count : List ℕ) (number : ℕ) (low : Bool) → number ≡ number_low count → low ≡ nat_lt number (2 ^ 63) → low ≡ false
+pub no_half_where_negative : (start : ℕ) (count : List ℕ) (number : ℕ) (low : Bool) → number ≡ number_low count
+    → low ≡ nat_lt number (2 ^ 63) → low ≡ false
     → low ≡ counts_half start count
 no_half_where_negative start count number low is low_is negative =
-    negative ∙ ap (λ (low : Bool). low && nat_le (window start) (2 * number_low count)) (sym negative ∙ low_is ∙ ap (λ number. nat_lt number (2 ^ 63)) is)
+    negative ∙ ap (λ (low : Bool). low && nat_le (window start) (2 * number_low count)) (sym negative ∙ low_is
+    ∙ ap (λ number. nat_lt number (2 ^ 63)) is)

@@ -45,24 +45,32 @@ planned_from space m words is_half first =
     (append_assoc (opens is_half space first) (tries_of space m (window_candidates (start_behind is_half first) words))
     (claims space (found_in space m (window_candidates (start_behind is_half first) words))))
 
-pub planned : (space : List ℕ) (m : Database) (words : ℕ → ℕ) (first : ℕ) → start_in space (first_key (greatest_counter space m)) ≡ Some first
+pub planned : (space : List ℕ) (m : Database) (words : ℕ → ℕ) (first : ℕ)
+    → start_in space (first_key (greatest_counter space m)) ≡ Some first
     → plan space m words
-    ≡ record { acts = acts_from space m words (fills_half space m first) first; ending = ending_from space m words (fills_half space m first) first }
+    ≡ record {
+      acts = acts_from space m words (fills_half space m first) first;
+      ending = ending_from space m words
+          (fills_half space m first) first;
+    }
 unfolding plan fills_half
 planned space m words first is = by (greatest_counter space m) is ∙ planned_from space m words (fills_half space m first) first
   where
     by : (entries : Entries) → start_in space (first_key entries) ≡ Some first
         → plan_under space m words entries
-        ≡ plan_from (opens (fills_half space m first) space first) space m words (if fills_half space m first then first + window first else first)
+        ≡ plan_from (opens (fills_half space m first) space first) space m words
+        (if fills_half space m first then first + window first else first)
     by [] is = let zero : 0 ≡ first = cc in ap (λ first. plan_at space m words first) zero
     by (entry ∷ entries) is = ap (plan_counter space m words entry.0) is
 
-pub unplanned : (space : List ℕ) (m : Database) (words : ℕ → ℕ) (key : List ℕ) → first_key (greatest_counter space m) ≡ Some key → counter_in space key ≡ None
+pub unplanned : (space : List ℕ) (m : Database) (words : ℕ → ℕ) (key : List ℕ) → first_key (greatest_counter space m) ≡ Some key
+    → counter_in space key ≡ None
     → plan space m words ≡ record { acts = asks_greatest space ∷ []; ending = IsNoCounter key }
 unfolding plan
 unplanned space m words key first none = by (greatest_counter space m) first
   where
-    by : (entries : Entries) → first_key entries ≡ Some key → plan_under space m words entries ≡ record { acts = asks_greatest space ∷ []; ending = IsNoCounter key }
+    by : (entries : Entries) → first_key entries ≡ Some key
+        → plan_under space m words entries ≡ record { acts = asks_greatest space ∷ []; ending = IsNoCounter key }
     by [] first = absurd cc
     by (entry ∷ entries) first =
         let same : entry.0 ≡ key = cc in
@@ -77,7 +85,8 @@ opens_parts true space first = refl
 opens_parts false space first = refl
 
 -- it reads the greatest key of counters first
-pub plan_begins : (space : List ℕ) (m : Database) (words : ℕ → ℕ) → (rest : List Act) × ((plan space m words).acts ≡ (asks_greatest space ∷ []) ++ rest)
+pub plan_begins : (space : List ℕ) (m : Database) (words : ℕ → ℕ)
+    → (rest : List Act) × ((plan space m words).acts ≡ (asks_greatest space ∷ []) ++ rest)
 plan_begins space m words = by (first_key (greatest_counter space m)) refl
   where
     from : (start : Option ℕ) (key : List ℕ) → first_key (greatest_counter space m) ≡ Some key → counter_in space key ≡ start
@@ -87,7 +96,8 @@ plan_begins space m words = by (first_key (greatest_counter space m)) refl
         let half = fills_half space m first in (
           _,
           ap (λ (plan : Plan). plan.acts) (planned space m words first (ap (start_in space) is ∙ some))
-              ∙ ap (λ acts. acts ++ (tries_of space m (window_candidates (start_behind half first) words) ++ claims space (found_in space m (window_candidates (start_behind half first) words))))
+              ∙ ap (λ acts. acts ++ (tries_of space m (window_candidates (start_behind half first) words) ++ claims space
+              (found_in space m (window_candidates (start_behind half first) words))))
               (opens_parts half space first)
               ∙ append_assoc (asks_greatest space ∷ []) (counts space first ++ opens_behind half space first) _,
         )
@@ -99,14 +109,16 @@ plan_begins space m words = by (first_key (greatest_counter space m)) refl
         let half = fills_half space m 0 in (
           _,
           ap (λ (plan : Plan). plan.acts) (planned space m words 0 (ap (start_in space) is))
-              ∙ ap (λ acts. acts ++ (tries_of space m (window_candidates (start_behind half 0) words) ++ claims space (found_in space m (window_candidates (start_behind half 0) words))))
+              ∙ ap (λ acts. acts ++ (tries_of space m (window_candidates (start_behind half 0) words) ++ claims space
+              (found_in space m (window_candidates (start_behind half 0) words))))
               (opens_parts half space 0)
               ∙ append_assoc (asks_greatest space ∷ []) (counts space 0 ++ opens_behind half space 0) _,
         )
 
 -- ---- bounds
 
-pub start_small : (space : List ℕ) (greatest : Option (List ℕ)) (first : ℕ) → start_in space greatest ≡ Some first → first ≤ GREATEST_COUNTER
+pub start_small : (space : List ℕ) (greatest : Option (List ℕ)) (first : ℕ) → start_in space greatest ≡ Some first
+    → first ≤ GREATEST_COUNTER
 start_small space None first is = let zero : 0 ≡ first = cc in omega arith
 start_small space (Some key) first is = (counter_in_is space key first is).1
 
@@ -125,8 +137,10 @@ claims_quiet space (Some number) = refl
 -- ---- the numbers of the window
 
 opened_alike : (setting : Setting) (t : Transaction) (space : List ℕ) (is_half : Bool) (first : ℕ) → first ≤ GREATEST_COUNTER → (number : ℕ)
-    → nat_le (start_behind is_half first) number ≡ true → nat_lt number (start_behind is_half first + window (start_behind is_half first)) ≡ true
-    → is_recent space (view setting (all_acted setting (opens is_half space first) t).transaction) number ≡ is_recent space (view setting t) number
+    → nat_le (start_behind is_half first) number ≡ true → nat_lt number (start_behind is_half first + window (start_behind is_half first))
+    ≡ true
+    → is_recent space (view setting (all_acted setting (opens is_half space first) t).transaction) number ≡ is_recent space
+    (view setting t) number
 opened_alike setting t space is_half first small number above below =
     let start = start_behind is_half first in
     let low : start ≤ number = leb-true start number above in
@@ -137,18 +151,24 @@ opened_alike setting t space is_half first small number above below =
     recent_opened setting t is_half space first number small opened (omega arith)
 
 -- opening a window leaves what is present in it
-pub tries_window : (setting : Setting) (t : Transaction) (space : List ℕ) (is_half : Bool) (first : ℕ) (words : ℕ → ℕ) → first ≤ GREATEST_COUNTER
-    → tries_of space (view setting (all_acted setting (opens is_half space first) t).transaction) (window_candidates (start_behind is_half first) words)
+pub tries_window : (setting : Setting) (t : Transaction) (space : List ℕ) (is_half : Bool) (first : ℕ) (words : ℕ → ℕ)
+    → first ≤ GREATEST_COUNTER
+    → tries_of space (view setting (all_acted setting (opens is_half space first) t).transaction)
+    (window_candidates (start_behind is_half first) words)
     ≡ tries_of space (view setting t) (window_candidates (start_behind is_half first) words)
 unfolding tries_of window_candidates
 tries_window setting t space is_half first words small =
     let start = start_behind is_half first in
-    ap (flat_map (tries space)) (tried_same _ _ start (start + window start) (candidates start words) (candidates_inside start words) (opened_alike setting t space is_half first small))
+    ap (flat_map (tries space)) (tried_same _ _ start (start + window start) (candidates start words) (candidates_inside start words)
+    (opened_alike setting t space is_half first small))
 
-pub found_window : (setting : Setting) (t : Transaction) (space : List ℕ) (is_half : Bool) (first : ℕ) (words : ℕ → ℕ) → first ≤ GREATEST_COUNTER
-    → found_in space (view setting (all_acted setting (opens is_half space first) t).transaction) (window_candidates (start_behind is_half first) words)
+pub found_window : (setting : Setting) (t : Transaction) (space : List ℕ) (is_half : Bool) (first : ℕ) (words : ℕ → ℕ)
+    → first ≤ GREATEST_COUNTER
+    → found_in space (view setting (all_acted setting (opens is_half space first) t).transaction)
+    (window_candidates (start_behind is_half first) words)
     ≡ found_in space (view setting t) (window_candidates (start_behind is_half first) words)
 unfolding found_in window_candidates
 found_window setting t space is_half first words small =
     let start = start_behind is_half first in
-    absent_same _ _ start (start + window start) (candidates start words) (candidates_inside start words) (opened_alike setting t space is_half first small)
+    absent_same _ _ start (start + window start) (candidates start words) (candidates_inside start words)
+    (opened_alike setting t space is_half first small)

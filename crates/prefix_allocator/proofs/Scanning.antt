@@ -19,7 +19,8 @@ unfolding scans
 none_scanned setting stands space start last t is = none_yet setting stands space t is
 
 -- the next number, at this distance
-next : (start last distance : ℕ) → scans start last 1 (distance + 1) ≡ scans start last 1 distance ++ scanned_one start last (distance + 1) ∷ []
+next : (start last distance : ℕ) → scans start last 1 (distance + 1) ≡ scans start last 1 distance ++ scanned_one start last
+    (distance + 1) ∷ []
 next start last distance =
     let at : 1 + distance ≡ distance + 1 = omega arith in
     scans-append start last 1 distance 1
@@ -38,7 +39,8 @@ abbrev pub Next : Result Bool TrFault → Setting → (stands : Transaction → 
 Next result setting stands space number u =
     Done (Present setting u space number) result setting stands (tries space (record { number = number; is_drawn = false })) u
 
-with_next : (result : Result Bool TrFault) (setting : Setting) (first stands : Transaction → Type 0) (space : List ℕ) (start last distance : ℕ) (t : Transaction)
+with_next : (result : Result Bool TrFault) (setting : Setting) (first stands : Transaction → Type 0) (space : List ℕ)
+    (start last distance : ℕ) (t : Transaction)
     → Sofar setting first space (scans start last 1 distance) t
     → Next result setting stands space (above start last (distance + 1)) (after_scans setting t space start last distance)
     → Done (Present setting (after_scans setting t space start last distance) space (above start last (distance + 1))) result setting stands
@@ -55,7 +57,8 @@ abbrev pub Finds : (space : List ℕ) → Setting → Transaction → (start las
 Finds space setting t start last total found = found ≡ found_in space (view setting t) (scans start last 1 total)
 
 -- a fault of the next try ends all
-pub fault_scanned : (f : TrFault) (setting : Setting) (first stands : Transaction → Type 0) (space : List ℕ) (start last distance more total : ℕ) (t : Transaction)
+pub fault_scanned : (f : TrFault) (setting : Setting) (first stands : Transaction → Type 0) (space : List ℕ)
+    (start last distance more total : ℕ) (t : Transaction)
     → distance + 1 + more ≡ total → Sofar setting first space (scans start last 1 distance) t
     → Next (Err f) setting stands space (above start last (distance + 1)) (after_scans setting t space start last distance)
     → Done (Finds space setting t start last total) (Err f) setting stands (tries_of space (view setting t) (scans start last 1 total)) t
@@ -80,7 +83,8 @@ found_of m space number absent is = by (is_recent space m number) is
 found_next : (setting : Setting) (first : Transaction → Type 0) (space : List ℕ) (start last distance : ℕ) (t : Transaction) (absent : Bool)
     → Sofar setting first space (scans start last 1 distance) t
     → Present setting (after_scans setting t space start last distance) space (above start last (distance + 1)) absent
-    → found_in space (view setting t) (scans start last 1 (distance + 1)) ≡ (if absent then Some (above start last (distance + 1)) else None)
+    → found_in space (view setting t) (scans start last 1 (distance + 1))
+    ≡ (if absent then Some (above start last (distance + 1)) else None)
 found_next setting first space start last distance t absent sofar is =
     let u = after_scans setting t space start last distance in
     let one = scanned_one start last (distance + 1) in
@@ -90,7 +94,8 @@ found_next setting first space start last distance t absent sofar is =
     ∙ found_of (view setting u) space (above start last (distance + 1)) absent is
 
 -- the next number was absent
-pub found_scanned : (setting : Setting) (first stands : Transaction → Type 0) (space : List ℕ) (start last distance more total : ℕ) (t : Transaction) (absent : Bool)
+pub found_scanned : (setting : Setting) (first stands : Transaction → Type 0) (space : List ℕ) (start last distance more total : ℕ)
+    (t : Transaction) (absent : Bool)
     → distance + 1 + more ≡ total → absent ≡ true → Sofar setting first space (scans start last 1 distance) t
     → Next (Ok absent) setting stands space (above start last (distance + 1)) (after_scans setting t space start last distance)
     → Done (Finds space setting t start last total) (Ok (Some (above start last (distance + 1)))) setting stands
@@ -100,15 +105,18 @@ found_scanned setting first stands space start last distance more total t absent
     let number = above start last (distance + 1) in
     let all = with_next (Ok absent) setting first stands space start last distance t sofar done in
     let here : found_in space m (scans start last 1 (distance + 1)) ≡ Some number =
-    found_next setting first space start last distance t absent sofar done.1 ∙ ap (λ (absent : Bool). if absent then Some number else None) found in
+    found_next setting first space start last distance t absent sofar done.1
+    ∙ ap (λ (absent : Bool). if absent then Some number else None) found in
     let acts = ap (tries_of space m) (others start last distance more total is)
     ∙ tries_first space m (scans start last 1 (distance + 1)) (scans start last (1 + (distance + 1)) more) number here in
     let whole = ap (found_in space m) (others start last distance more total is)
     ∙ found_first space m (scans start last 1 (distance + 1)) (scans start last (1 + (distance + 1)) more) number here in
-    subst (λ acts. Done (Finds space setting t start last total) (Ok (Some number)) setting stands acts t) (sym acts) (all.0, sym whole, all.2)
+    subst (λ acts. Done (Finds space setting t start last total) (Ok (Some number)) setting stands acts t) (sym acts)
+    (all.0, sym whole, all.2)
 
 -- the next number was present
-pub one_more_scanned : (setting : Setting) (first stands : Transaction → Type 0) (space : List ℕ) (start last distance : ℕ) (t : Transaction) (absent : Bool)
+pub one_more_scanned : (setting : Setting) (first stands : Transaction → Type 0) (space : List ℕ) (start last distance : ℕ)
+    (t : Transaction) (absent : Bool)
     → absent ≡ false → Sofar setting first space (scans start last 1 distance) t
     → Next (Ok absent) setting stands space (above start last (distance + 1)) (after_scans setting t space start last distance)
     → Sofar setting stands space (scans start last 1 (distance + 1)) t

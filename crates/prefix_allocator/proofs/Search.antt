@@ -1,5 +1,5 @@
 -- Candidates that are tried in parts.
-use Rattle.std.proofs.Common.{◌≡◌, ℕ, Bool, true, false, cond, List, [], ◌∷◌, ◌++◌, Option, Some, None, is_some, Result, Ok, refl, sym, ap, subst, ◌∙◌}
+use Rattle.std.proofs.Common.{◌≡◌, ℕ, Bool, true, false, cond, List, [], ◌∷◌, ◌++◌, Option, Some, None, is_some, Result, refl, sym, ap, subst, ◌∙◌}
 use Rattle.std.specs.Prelude.{if◌then◌else◌, flat_map}
 use Rattle.std.proofs.lemmas.Grind.{flat_map-append}
 use Rattle.std.proofs.lemmas.List.{append-nil}
@@ -17,11 +17,13 @@ use Rattle.prefix_allocator.proofs.Steps.{more_done}
 -- ---- two parts
 
 pub tries-append : (space : List ℕ) (m : Database) (first second : List Candidate)
-    → tries_of space m (first ++ second) ≡ tries_of space m first ++ (if is_some (found_in space m first) then [] else tries_of space m second)
+    → tries_of space m (first ++ second) ≡ tries_of space m first ++
+    (if is_some (found_in space m first) then [] else tries_of space m second)
 unfolding tries_of found_in
 tries-append space m first second =
     ap (flat_map (tries space)) (tried-append (is_recent space m) first second)
-    ∙ flat_map-append (tries space) (tried (is_recent space m) first) (if is_some (first_absent (is_recent space m) first) then [] else tried (is_recent space m) second)
+    ∙ flat_map-append (tries space) (tried (is_recent space m) first)
+    (if is_some (first_absent (is_recent space m) first) then [] else tried (is_recent space m) second)
     ∙ ap (λ acts. flat_map (tries space) (tried (is_recent space m) first) ++ acts) (by (is_some (first_absent (is_recent space m) first)))
   where
     by : (found : Bool) → flat_map (tries space) (cond found [] (tried (is_recent space m) second))
@@ -105,7 +107,8 @@ found_one space m candidate = refl
 -- ---- so far
 
 -- these candidates were tried, each was let through, and none was absent
-pub record Sofar (setting : Setting) (stands : Transaction → Type 0) (space : List ℕ) (candidates : List Candidate) (t : Transaction) : Type 0 where
+pub record Sofar (setting : Setting) (stands : Transaction → Type 0) (space : List ℕ) (candidates : List Candidate)
+    (t : Transaction) : Type 0 where
   pub none : found_in space (view setting t) candidates ≡ None
   pub let_through : (all_acted setting (tries_of space (view setting t) candidates) t).refused ≡ None
   pub after : stands (all_acted setting (tries_of space (view setting t) candidates) t).transaction
@@ -114,23 +117,28 @@ pub record Sofar (setting : Setting) (stands : Transaction → Type 0) (space : 
 abbrev pub after_tries : Setting → Transaction → (space : List ℕ) → List Candidate → Transaction
 after_tries setting t space candidates = (all_acted setting (tries_of space (view setting t) candidates) t).transaction
 
-pub none_yet : (setting : Setting) (stands : Transaction → Type 0) (space : List ℕ) (t : Transaction) → stands t → Sofar setting stands space [] t
+pub none_yet : (setting : Setting) (stands : Transaction → Type 0) (space : List ℕ) (t : Transaction) → stands t
+    → Sofar setting stands space [] t
 unfolding tries_of found_in all_acted
 none_yet setting stands space t is = record { none = refl; let_through = refl; after = is }
 
 -- tries of others behind them
-pub go_on : {A : Type 0} (good : A → Type 0) (result : Result A TrFault) (setting : Setting) (first stands : Transaction → Type 0) (space : List ℕ)
+pub go_on : {A : Type 0} (good : A → Type 0) (result : Result A TrFault) (setting : Setting) (first stands : Transaction → Type 0)
+    (space : List ℕ)
     (front behind : List Candidate) (t : Transaction) → Sofar setting first space front t
-    → Done good result setting stands (tries_of space (view setting (after_tries setting t space front)) behind) (after_tries setting t space front)
+    → Done good result setting stands (tries_of space (view setting (after_tries setting t space front)) behind)
+    (after_tries setting t space front)
     → Done good result setting stands (tries_of space (view setting t) (front ++ behind)) t
 go_on good result setting first stands space front behind t sofar done =
     let u = after_tries setting t space front in
     let alike = alike_after setting t space front sofar.none in
-    let acts : tries_of space (view setting t) front ++ tries_of space (view setting u) behind ≡ tries_of space (view setting t) (front ++ behind) =
+    let acts : tries_of space (view setting t) front ++ tries_of space (view setting u) behind ≡ tries_of space (view setting t)
+    (front ++ behind) =
     ap (λ acts. tries_of space (view setting t) front ++ acts) (tries_alike space (view setting u) (view setting t) behind alike)
     ∙ sym (tries_then space (view setting t) front behind sofar.none) in
     subst (λ acts. Done good result setting stands acts t) acts
-    (more_done good result setting stands (tries_of space (view setting t) front) (tries_of space (view setting u) behind) t sofar.let_through done)
+    (more_done good result setting stands (tries_of space (view setting t) front) (tries_of space (view setting u) behind) t
+    sofar.let_through done)
 
 -- what is found behind them
 pub found_behind : (setting : Setting) (first : Transaction → Type 0) (space : List ℕ) (front behind : List Candidate) (t : Transaction)
@@ -138,14 +146,5 @@ pub found_behind : (setting : Setting) (first : Transaction → Type 0) (space :
     → found_in space (view setting t) (front ++ behind) ≡ found_in space (view setting (after_tries setting t space front)) behind
 found_behind setting first space front behind t sofar =
     found_then space (view setting t) front behind sofar.none
-    ∙ sym (found_alike space (view setting (after_tries setting t space front)) (view setting t) behind (alike_after setting t space front sofar.none))
-
--- others of which none is absent either
-pub none_more : {A : Type 0} (good : A → Type 0) (value : A) (setting : Setting) (first stands : Transaction → Type 0) (space : List ℕ)
-    (front behind : List Candidate) (t : Transaction) → Sofar setting first space front t
-    → found_in space (view setting (after_tries setting t space front)) behind ≡ None
-    → Done good (Ok value) setting stands (tries_of space (view setting (after_tries setting t space front)) behind) (after_tries setting t space front)
-    → Sofar setting stands space (front ++ behind) t
-none_more good value setting first stands space front behind t sofar none done =
-    let all = go_on good (Ok value) setting first stands space front behind t sofar done in
-    record { none = found_behind setting first space front behind t sofar ∙ none; let_through = all.0; after = all.2 }
+    ∙ sym (found_alike space (view setting (after_tries setting t space front)) (view setting t) behind
+    (alike_after setting t space front sofar.none))

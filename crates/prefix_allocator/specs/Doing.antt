@@ -15,7 +15,8 @@ use Rattle.prefix_allocator.specs.Allocates.{StopsIn, Leaves}
 
 -- Each of these acts was let through, what is answered is good, and it stands for the transaction after them; or the acts end with
 -- this code; or memory ran out, and it stopped among them.
-abbrev pub Done : {A : Type 0} → (good : A → Type 0) → Result A TrFault → Setting → (stands : Transaction → Type 0) → List Act → Transaction → Type 0
+abbrev pub Done : {A : Type 0} → (good : A → Type 0) → Result A TrFault → Setting → (stands : Transaction → Type 0) → List Act → Transaction
+    → Type 0
 Done good (Ok value) setting stands acts t =
     ((all_acted setting acts t).refused ≡ None) × good value × stands (all_acted setting acts t).transaction
 Done good (Err (fault.Code code)) setting stands acts t =

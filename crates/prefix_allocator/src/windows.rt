@@ -59,7 +59,8 @@ pub(crate) fn open_window<T: Tr>(
 ) -> Result<u64, TrFault>
     requires { first ≤ GREATEST_COUNTER }
     ensures opened { (setting : Setting) (t : Transaction) → T.Tr.stands tr.old setting t
-        → Done (λ start. start ≡ start_behind (fills_half keys.now.space (view setting t) first) first) result setting (T.Tr.stands tr.new setting)
+        → Done (λ start. start ≡ start_behind (fills_half keys.now.space (view setting t) first) first)
+        result setting (T.Tr.stands tr.new setting)
         (counts keys.now.space first ++ opens_behind (fills_half keys.now.space (view setting t) first) keys.now.space first) t }
     ensures small { IfOk result (λ start. start ≤ GREATEST_COUNTER + 8192) }
     ensures same { T.Tr.same tr.old tr.new }

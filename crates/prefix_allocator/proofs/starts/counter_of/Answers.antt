@@ -9,13 +9,15 @@ returns-in-Ok c =
     let space = c.args.space.now.prefix in
     let key : c.as_slice.result.now ≡ c.args.key.now = c.as_slice.ensures in
     c.number_of.ensures
-    ∙ counter_found space c.args.key.now c.in-Ok.tuple (sym key ∙ c.in-Ok.ensures.found.1) (ap (key_read space) (sym key) ∙ c.in-Ok.ensures.exact)
+    ∙ counter_found space c.args.key.now c.in-Ok.tuple (sym key ∙ c.in-Ok.ensures.found.1) (ap (key_read space) (sym key)
+    ∙ c.in-Ok.ensures.exact)
 
 pub returns-in-Err-NotInside : goal.returns-in-Err-NotInside
 returns-in-Err-NotInside c =
     let space = c.args.space.now.prefix in
     let key : c.as_slice.result.now ≡ c.args.key.now = c.as_slice.ensures in
-    let refused : key_read space c.as_slice.result.now ≡ Err fault.NotInside = rw c.in-Err-NotInside.field-0-is at c.in-Err-NotInside.ensures.exact in
+    let refused : key_read space c.as_slice.result.now ≡ Err fault.NotInside = rw c.in-Err-NotInside.field-0-is at
+    c.in-Err-NotInside.ensures.exact in
     no_counter space c.args.key.now fault.NotInside (ap (key_read space) (sym key) ∙ refused)
 
 pub returns-in-Err-Unpack : goal.returns-in-Err-Unpack
@@ -23,5 +25,6 @@ returns-in-Err-Unpack c =
     let space = c.args.space.now.prefix in
     let key : c.as_slice.result.now ≡ c.args.key.now = c.as_slice.ensures in
     let f = c.in-Err-Unpack.field-0-0 in
-    let refused : key_read space c.as_slice.result.now ≡ Err (fault.Unpack f) = rw c.in-Err-Unpack.field-0-is at c.in-Err-Unpack.ensures.exact in
+    let refused : key_read space c.as_slice.result.now ≡ Err (fault.Unpack f) = rw c.in-Err-Unpack.field-0-is at
+    c.in-Err-Unpack.ensures.exact in
     no_counter space c.args.key.now (fault.Unpack f) (ap (key_read space) (sym key) ∙ refused)

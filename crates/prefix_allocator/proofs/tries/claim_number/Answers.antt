@@ -9,4 +9,5 @@ returns-clause-claimed g c setting t stands =
     let key : c.as_slice.result.now ≡ recent_key c.args.keys.now.space c.args.number = c.as_slice.ensures ∙ c.in_ok-key.ensures in
     let after = g.T.Tr.stands c.write_conflict_key.new.self setting in
     quiet_done c.write_conflict_key.result setting after (Declares (recent_key c.args.keys.now.space c.args.number)) t
-    (subst (λ key. Quiet c.write_conflict_key.result after setting (Declares key) t) key (c.write_conflict_key.ensures.answer setting t stands))
+    (subst (λ key. Quiet c.write_conflict_key.result after setting (Declares key) t) key
+    (c.write_conflict_key.ensures.answer setting t stands))

@@ -6,7 +6,8 @@ use Rattle.prefix_allocator.proofs.tries.draw_number.Goals as goal
 
 pub loop-init : goal.loop-init
 loop-init g c = record {
-  tried = λ setting t stands. none_drawn setting (g.T.Tr.stands c.args.tr.now setting) c.args.keys.now.space c.args.start (g.W.Words.words c.args.words.now) t stands;
+  tried = λ setting t stands. none_drawn setting (g.T.Tr.stands c.args.tr.now setting) c.args.keys.now.space c.args.start
+      (g.W.Words.words c.args.words.now) t stands;
   words = λ place. ap (g.W.Words.words c.args.words.now) (omega arith);
   last = λ below. absurd (omega arith);
   low = omega arith;
@@ -25,8 +26,10 @@ returns-in_err-last-clause-tried g c setting t stands =
     let u = after_draws setting t space c.args.start words count in
     let total : count + 1 + (RANDOM_TRIES - (count + 1)) ≡ RANDOM_TRIES = omega arith in
     let before = c.loop.invariant.tried setting t stands in
-    rw (p.1, p.2) (fault_drawn (NextOf space setting u c.args.start left) c.in_err-last.field-0.0 setting (g.T.Tr.stands c.loop.tr setting) (g.T.Tr.stands c.draw_one.new.tr setting)
-    space c.args.start words left count (RANDOM_TRIES - (count + 1)) RANDOM_TRIES t total before (word_next words left count c.loop.invariant.words)
+    rw (p.1, p.2) (fault_drawn (NextOf space setting u c.args.start left) c.in_err-last.field-0.0 setting
+    (g.T.Tr.stands c.loop.tr setting) (g.T.Tr.stands c.draw_one.new.tr setting)
+    space c.args.start words left count (RANDOM_TRIES - (count + 1)) RANDOM_TRIES t total before
+    (word_next words left count c.loop.invariant.words)
     (c.in_err-last.ensures.tried setting u before.sofar.after))
 
 pub returns-in_err-last-clause-drew : goal.returns-in_err-last-clause-drew
@@ -40,8 +43,10 @@ returns-in_err-last-clause-drew g c setting t stands =
     let u = after_draws setting t space c.args.start words count in
     let total : count + 1 + (RANDOM_TRIES - (count + 1)) ≡ RANDOM_TRIES = omega arith in
     let before = c.loop.invariant.tried setting t stands in
-    rw (p.1, p.2) (fault_words (NextOf space setting u c.args.start left) c.in_err-last.field-0.0 setting (g.T.Tr.stands c.loop.tr setting) (g.T.Tr.stands c.draw_one.new.tr setting)
-    space c.args.start words left rest count (RANDOM_TRIES - (count + 1)) RANDOM_TRIES t total before (word_next words left count c.loop.invariant.words)
+    rw (p.1, p.2) (fault_words (NextOf space setting u c.args.start left) c.in_err-last.field-0.0 setting
+    (g.T.Tr.stands c.loop.tr setting) (g.T.Tr.stands c.draw_one.new.tr setting)
+    space c.args.start words left rest count (RANDOM_TRIES - (count + 1)) RANDOM_TRIES t total before
+    (word_next words left count c.loop.invariant.words)
     (words_left words left rest count c.loop.invariant.words c.draw_one.ensures.word)
     (c.in_err-last.ensures.tried setting u before.sofar.after))
 
@@ -54,7 +59,8 @@ returns-then-last-clause-tried g c setting t stands =
     let total : count + 1 + (RANDOM_TRIES - (count + 1)) ≡ RANDOM_TRIES = omega arith in
     let before = c.loop.invariant.tried setting t stands in
     found_drawn c.in_ok-last.last setting (g.T.Tr.stands c.loop.tr setting) (g.T.Tr.stands c.draw_one.new.tr setting)
-    space c.args.start words left count (RANDOM_TRIES - (count + 1)) RANDOM_TRIES t total c.if-last.true before (word_next words left count c.loop.invariant.words)
+    space c.args.start words left count (RANDOM_TRIES - (count + 1)) RANDOM_TRIES t total c.if-last.true before
+    (word_next words left count c.loop.invariant.words)
     (c.in_ok-last.ensures.tried setting (after_draws setting t space c.args.start words count) before.sofar.after)
 
 pub returns-then-last-clause-drew : goal.returns-then-last-clause-drew
@@ -67,7 +73,8 @@ returns-then-last-clause-drew g c setting t stands =
     let total : count + 1 + (RANDOM_TRIES - (count + 1)) ≡ RANDOM_TRIES = omega arith in
     let before = c.loop.invariant.tried setting t stands in
     found_words c.in_ok-last.last setting (g.T.Tr.stands c.loop.tr setting) (g.T.Tr.stands c.draw_one.new.tr setting)
-    space c.args.start words left rest count (RANDOM_TRIES - (count + 1)) RANDOM_TRIES t total c.if-last.true before (word_next words left count c.loop.invariant.words)
+    space c.args.start words left rest count (RANDOM_TRIES - (count + 1)) RANDOM_TRIES t total c.if-last.true before
+    (word_next words left count c.loop.invariant.words)
     (words_left words left rest count c.loop.invariant.words c.in_ok-last.ensures.word)
     (c.in_ok-last.ensures.tried setting (after_draws setting t space c.args.start words count) before.sofar.after)
 

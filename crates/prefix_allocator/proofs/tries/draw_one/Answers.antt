@@ -17,11 +17,14 @@ returns-in_err-is_absent-clause-tried g c setting t stands =
     let words = g.W.Words.words c.args.words.now in
     let f = c.in_err-is_absent.field-0.0 in
     let number : c.args.start + c.from.result % c.window.result ≡ drawn c.args.start words 0 =
-    ap (λ word. c.args.start + word % c.window.result) (c.from.ensures ∙ c.next.ensures.word) ∙ ap (λ wide. c.args.start + words 0 % wide) c.window.ensures in
+    ap (λ word. c.args.start + word % c.window.result) (c.from.ensures ∙ c.next.ensures.word)
+    ∙ ap (λ wide. c.args.start + words 0 % wide) c.window.ensures in
     let after = g.T.Tr.stands c.try_number.new.tr setting in
-    rw (p.1, p.2) (other_fault (Present setting t space (drawn c.args.start words 0)) (NextOf space setting t c.args.start words) f setting after (tries_of space (view setting t) (draws c.args.start words 0 1)) t
+    rw (p.1, p.2) (other_fault (Present setting t space (drawn c.args.start words 0)) (NextOf space setting t c.args.start words) f
+    setting after (tries_of space (view setting t) (draws c.args.start words 0 1)) t
     (one_drawn (Err f) setting after space c.args.start words t
-    (subst (λ number. Done (Present setting t space number) (Err f) setting after (tries space (record { number = number; is_drawn = false })) t) number
+    (subst (λ number. Done (Present setting t space number) (Err f) setting after
+    (tries space (record { number = number; is_drawn = false })) t) number
     (c.in_err-is_absent.ensures.tried setting t stands))))
 
 pub returns-clause-tried : goal.returns-clause-tried
@@ -30,13 +33,16 @@ returns-clause-tried g c setting t stands =
     let words = g.W.Words.words c.args.words.now in
     let absent = c.in_ok-is_absent.is_absent in
     let number : c.args.start + c.from.result % c.window.result ≡ drawn c.args.start words 0 =
-    ap (λ word. c.args.start + word % c.window.result) (c.from.ensures ∙ c.next.ensures.word) ∙ ap (λ wide. c.args.start + words 0 % wide) c.window.ensures in
+    ap (λ word. c.args.start + word % c.window.result) (c.from.ensures ∙ c.next.ensures.word)
+    ∙ ap (λ wide. c.args.start + words 0 % wide) c.window.ensures in
     let after = g.T.Tr.stands c.try_number.new.tr setting in
     let done = one_drawn (Ok absent) setting after space c.args.start words t
-    (subst (λ number. Done (Present setting t space number) (Ok absent) setting after (tries space (record { number = number; is_drawn = false })) t) number
+    (subst (λ number. Done (Present setting t space number) (Ok absent) setting after
+    (tries space (record { number = number; is_drawn = false })) t) number
     (c.in_ok-is_absent.ensures.tried setting t stands)) in (
       done.0,
-      subst (λ number. IsLast (found_in space (view setting t) (draws c.args.start words 0 1)) (drawn c.args.start words 0) number absent) (sym number)
+      subst (λ number. IsLast (found_in space (view setting t) (draws c.args.start words 0 1)) (drawn c.args.start words 0) number absent)
+          (sym number)
           (last_drawn setting space c.args.start words t absent done.1),
       done.2,
     )

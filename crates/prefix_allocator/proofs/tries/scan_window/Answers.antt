@@ -10,7 +10,8 @@ use Rattle.prefix_allocator.proofs.tries.scan_window.Goals as goal
 
 pub loop-distance-init : goal.loop-distance-init
 loop-distance-init g c = record {
-  tried = λ setting t stands. none_scanned setting (g.T.Tr.stands c.args.tr.now setting) c.args.keys.now.space c.args.start c.args.last t stands;
+  tried = λ setting t stands. none_scanned setting (g.T.Tr.stands c.args.tr.now setting) c.args.keys.now.space c.args.start c.args.last t
+      stands;
   same = g.met.T.Tr.same_itself c.args.tr.now;
 }
 
@@ -32,7 +33,8 @@ returns-in_err-try_number-clause-tried g c setting t stands =
     let number : start + (last - start + c.loop-distance.distance) % c.window-size.result ≡ above start last (before + 1) =
     ap (λ distance. start + (last - start + distance) % c.window-size.result) (sym here)
     ∙ ap (λ wide. start + (last - start + (before + 1)) % wide) c.window-size.ensures in
-    rw (p.1, p.2) (fault_scanned f setting (g.T.Tr.stands c.loop-distance.tr setting) after space start last before (window start - c.loop-distance.distance) (window start) t
+    rw (p.1, p.2) (fault_scanned f setting (g.T.Tr.stands c.loop-distance.tr setting) after space start last before
+    (window start - c.loop-distance.distance) (window start) t
     total so_far
     (subst (λ number. Next (Err f) setting after space number u) number (c.in_err-try_number.ensures.tried setting u so_far.after)))
 
@@ -51,7 +53,8 @@ returns-then-branch-clause-tried g c setting t stands =
     let number : start + (last - start + c.loop-distance.distance) % c.window-size.result ≡ above start last (before + 1) =
     ap (λ distance. start + (last - start + distance) % c.window-size.result) (sym here)
     ∙ ap (λ wide. start + (last - start + (before + 1)) % wide) c.window-size.ensures in
-    let done = found_scanned setting (g.T.Tr.stands c.loop-distance.tr setting) after space start last before (window start - c.loop-distance.distance) (window start) t absent
+    let done = found_scanned setting (g.T.Tr.stands c.loop-distance.tr setting) after space start last before
+    (window start - c.loop-distance.distance) (window start) t absent
     total c.if-branch.true so_far
     (subst (λ number. Next (Ok absent) setting after space number u) number (c.in_ok-try_number.ensures.tried setting u so_far.after)) in
     (done.0, ap (λ number. Some number) number ∙ done.1, done.2)
@@ -74,9 +77,12 @@ loop-distance-preserved g c =
           let after = g.T.Tr.stands c.try_number.new.tr setting in
           let so_far = c.loop-distance.invariant.tried setting t stands in
           subst (λ distance. Sofar setting after space (scans start last 1 distance) t) next
-          (one_more_scanned setting (g.T.Tr.stands c.loop-distance.tr setting) after space start last before t absent c.if-branch.false so_far
-          (subst (λ number. Next (Ok absent) setting after space number u) number (c.in_ok-try_number.ensures.tried setting u so_far.after)));
-      same = g.met.T.Tr.same_still c.args.tr.now c.loop-distance.tr c.try_number.new.tr c.loop-distance.invariant.same c.in_ok-try_number.ensures.same;
+          (one_more_scanned setting (g.T.Tr.stands c.loop-distance.tr setting) after space start last before t absent c.if-branch.false
+          so_far
+          (subst (λ number. Next (Ok absent) setting after space number u) number
+          (c.in_ok-try_number.ensures.tried setting u so_far.after)));
+      same = g.met.T.Tr.same_still c.args.tr.now c.loop-distance.tr c.try_number.new.tr c.loop-distance.invariant.same
+          c.in_ok-try_number.ensures.same;
     }
 
 pub returns-else-branch-clause-tried : goal.returns-else-branch-clause-tried

@@ -13,7 +13,8 @@ returns-in_err-value-clause-tried g c setting t stands =
     let key : c.as_slice.result.now ≡ recent_key c.args.keys.now.space c.args.number = c.as_slice.ensures ∙ c.in_ok-key.ensures in
     let after = g.T.Tr.stands c.get.new.self setting in
     rw (p.1, p.2) (read_fault (Present setting t c.args.keys.now.space c.args.number) c.in_err-value.field-0.0 setting after
-    (recent_key c.args.keys.now.space c.args.number) false (Silences ∷ Writes (Set (recent_key c.args.keys.now.space c.args.number) []) ∷ []) t
+    (recent_key c.args.keys.now.space c.args.number) false
+    (Silences ∷ Writes (Set (recent_key c.args.keys.now.space c.args.number) []) ∷ []) t
     (subst (λ key. Read (Err c.in_err-value.field-0.0) after setting key false t) key (c.in_err-value.ensures.answer setting t stands)))
 
 pub returns-in_err-no_write_conflict-clause-tried : goal.returns-in_err-no_write_conflict-clause-tried
@@ -44,7 +45,8 @@ returns-in_err-set-clause-tried g c setting t stands =
     let present = Present setting t space number in
     rw (p.1, p.2) (tried setting t space number c.in_ok-value.value (Err f) first after
     (subst (λ key. Read (Ok c.in_ok-value.value) first setting key false t) key (c.in_ok-value.ensures.answer setting t stands))
-    (λ u stands. quiet_then present c.in_ok-no_write_conflict.field-0 (Err f) setting second after Silences (Writes (Set (recent_key space number) []) ∷ []) u
+    (λ u stands. quiet_then present c.in_ok-no_write_conflict.field-0 (Err f) setting second after Silences
+    (Writes (Set (recent_key space number) []) ∷ []) u
     (c.in_ok-no_write_conflict.ensures.answer setting u stands)
     (λ v stands. quiet_fault present f setting after (Writes (Set (recent_key space number) [])) [] v
     (subst (λ key. Quiet (Err f) after setting (Writes (Set key [])) v) other_key (c.in_err-set.ensures.answer setting v stands)))))
@@ -60,10 +62,14 @@ returns-clause-tried g c setting t stands =
     let after = g.T.Tr.stands c.set.new.self setting in
     let present = Present setting t space number in
     let read = subst (λ key. Read (Ok c.in_ok-value.value) first setting key false t) key (c.in_ok-value.ensures.answer setting t stands) in
-    let is : present c.is_none.result = read_absent setting t space number c.in_ok-value.value c.is_none.result first (sym c.is_none.ensures) read in
+    let is : present c.is_none.result = read_absent setting t space number c.in_ok-value.value c.is_none.result first
+    (sym c.is_none.ensures) read in
     tried setting t space number c.in_ok-value.value (Ok c.is_none.result) first after read
-    (λ u stands. quiet_then present c.in_ok-no_write_conflict.field-0 (Ok c.is_none.result) setting second after Silences (Writes (Set (recent_key space number) []) ∷ []) u
+    (λ u stands. quiet_then present c.in_ok-no_write_conflict.field-0 (Ok c.is_none.result) setting second after Silences
+    (Writes (Set (recent_key space number) []) ∷ []) u
     (c.in_ok-no_write_conflict.ensures.answer setting u stands)
-    (λ v stands. quiet_then present c.in_ok-set.field-0 (Ok c.is_none.result) setting after after (Writes (Set (recent_key space number) [])) [] v
-    (subst (λ key. Quiet (Ok c.in_ok-set.field-0) after setting (Writes (Set key [])) v) other_key (c.in_ok-set.ensures.answer setting v stands))
+    (λ v stands. quiet_then present c.in_ok-set.field-0 (Ok c.is_none.result) setting after after
+    (Writes (Set (recent_key space number) [])) [] v
+    (subst (λ key. Quiet (Ok c.in_ok-set.field-0) after setting (Writes (Set key [])) v) other_key
+    (c.in_ok-set.ensures.answer setting v stands))
     (λ w stands. ended present c.is_none.result setting after w is stands)))

@@ -14,7 +14,8 @@ returns-in_err-clear_range-clause-cleared g c setting t stands =
     let start = c.args.start in
     let f = c.in_err-clear_range.field-0.0 in
     let after = g.T.Tr.stands c.clear_range.new.self setting in
-    rw (p.1, p.2) (quiet_fault (λ (done : Unit {0}). ⊤) f setting after (Writes (ClearRange (counters_prefix space) (counter_key space start)))
+    rw (p.1, p.2) (quiet_fault (λ (done : Unit {0}). ⊤) f setting after
+    (Writes (ClearRange (counters_prefix space) (counter_key space start)))
     (Silences ∷ Writes (ClearRange (recent_prefix space) (recent_key space start)) ∷ []) t
     (cleared (Err f) after setting _ _ _ _ t c.in_ok-counters_below.ensures.begin c.in_ok-counters_below.ensures.end
     (c.in_err-clear_range.ensures.answer setting t stands)))
@@ -30,9 +31,11 @@ returns-in_err-no_write_conflict-clause-cleared g c setting t stands =
     rw (p.1, p.2) (quiet_then (λ (done : Unit {0}). ⊤) c.in_ok-clear_range.field-0 (Err f) setting first after
     (Writes (ClearRange (counters_prefix space) (counter_key space start)))
     (Silences ∷ Writes (ClearRange (recent_prefix space) (recent_key space start)) ∷ []) t
-    (cleared (Ok c.in_ok-clear_range.field-0) first setting _ _ _ _ t c.in_ok-counters_below.ensures.begin c.in_ok-counters_below.ensures.end
+    (cleared (Ok c.in_ok-clear_range.field-0) first setting _ _ _ _ t c.in_ok-counters_below.ensures.begin
+    c.in_ok-counters_below.ensures.end
     (c.in_ok-clear_range.ensures.answer setting t stands))
-    (λ u stands. quiet_fault (λ (done : Unit {0}). ⊤) f setting after Silences (Writes (ClearRange (recent_prefix space) (recent_key space start)) ∷ []) u
+    (λ u stands. quiet_fault (λ (done : Unit {0}). ⊤) f setting after Silences
+    (Writes (ClearRange (recent_prefix space) (recent_key space start)) ∷ []) u
     (c.in_err-no_write_conflict.ensures.answer setting u stands)))
 
 pub returns-clause-cleared : goal.returns-clause-cleared
@@ -46,7 +49,8 @@ returns-clause-cleared g c setting t stands =
     quiet_then (λ (done : Unit {0}). ⊤) c.in_ok-clear_range.field-0 result setting first after
     (Writes (ClearRange (counters_prefix space) (counter_key space start)))
     (Silences ∷ Writes (ClearRange (recent_prefix space) (recent_key space start)) ∷ []) t
-    (cleared (Ok c.in_ok-clear_range.field-0) first setting _ _ _ _ t c.in_ok-counters_below.ensures.begin c.in_ok-counters_below.ensures.end
+    (cleared (Ok c.in_ok-clear_range.field-0) first setting _ _ _ _ t c.in_ok-counters_below.ensures.begin
+    c.in_ok-counters_below.ensures.end
     (c.in_ok-clear_range.ensures.answer setting t stands))
     (λ u stands. quiet_then (λ (done : Unit {0}). ⊤) c.in_ok-no_write_conflict.field-0 result setting second after Silences
     (Writes (ClearRange (recent_prefix space) (recent_key space start)) ∷ []) u

@@ -5,11 +5,14 @@ use Rattle.prefix_allocator.proofs.windows.is_half.Goals as goal
 
 pub returns-then-count-lt-LEAST_NEGATIVE : goal.returns-then-count-lt-LEAST_NEGATIVE
 returns-then-count-lt-LEAST_NEGATIVE c long =
-    let is = count_is c.args.count.now c.in-Some.bytes.now c.from_le_bytes-count.result long c.in-Some.ensures.cases.same c.from_le_bytes-count.ensures in
-    half_where_positive c.args.start c.args.count.now c.from_le_bytes-count.result c.window.result is c.if-count-lt-LEAST_NEGATIVE.true c.window.ensures
+    let is = count_is c.args.count.now c.in-Some.bytes.now c.from_le_bytes-count.result long c.in-Some.ensures.cases.same
+    c.from_le_bytes-count.ensures in
+    half_where_positive c.args.start c.args.count.now c.from_le_bytes-count.result c.window.result is c.if-count-lt-LEAST_NEGATIVE.true
+    c.window.ensures
 
 pub returns-else-count-lt-LEAST_NEGATIVE : goal.returns-else-count-lt-LEAST_NEGATIVE
 returns-else-count-lt-LEAST_NEGATIVE c long =
-    let is = count_is c.args.count.now c.in-Some.bytes.now c.from_le_bytes-count.result long c.in-Some.ensures.cases.same c.from_le_bytes-count.ensures in
+    let is = count_is c.args.count.now c.in-Some.bytes.now c.from_le_bytes-count.result long c.in-Some.ensures.cases.same
+    c.from_le_bytes-count.ensures in
     no_half_where_negative c.args.start c.args.count.now c.from_le_bytes-count.result _ is refl
     (le-ltb c.from_le_bytes-count.result (2 ^ 63) c.if-count-lt-LEAST_NEGATIVE.false)
