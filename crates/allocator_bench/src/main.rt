@@ -58,6 +58,3 @@ fn grant(
         _ => bail!("a commit was refused"),
     }
 }
-
-#[cfg(test)]
-mod tests;
