@@ -1,6 +1,7 @@
 mod Rows
 pub mod Acting
 pub mod Codes
+pub mod Keeping
 pub mod Keys
 pub mod Opening
 pub mod Reading

@@ -1,0 +1,94 @@
+//! Finding a directory by its path.
+
+ghost use Rattle.std.specs.Prelude.{◌≡◌, IfOk, unwrap_or, []};
+ghost use Rattle.directory_rules.specs.Nodes.{is_partition};
+ghost use Rattle.directory_rules.specs.Steps.{root, directory_at, child_of, find};
+ghost use Rattle.directory.specs.Runs.{Follows};
+
+use crate::calls::value_of;
+use crate::nodes::Node;
+use directory_rules::Directory;
+use directory_types::{DirFault, Layer};
+use fdb_calls::Tr;
+use fdb_tuple::Text;
+use key_bytes::Bytes;
+use std::alloc::AllocError;
+
+/// The layer name of a partition.
+const PARTITION: &[u8] = b"partition";
+
+/// The root of a layer.
+pub(crate) fn root(layer: &Layer) -> Result<Directory, AllocError>
+    ensures { IfOk result (λ found. found ≡ root layer.now) }
+{
+    Ok(Directory {
+        prefix: layer.node.copy()?,
+        layer: Bytes::new(layer.node.allocator()),
+    })
+}
+
+/// The directory of a path, where there is one.
+pub(crate) fn find<T: Tr>(
+    layer: &Layer,
+    tr: &mut T,
+    path: &[Text],
+    snapshot: bool,
+) -> Result<Option<Directory>, DirFault>
+    ensures follows { Follows result (T.Tr.stands tr.old) (T.Tr.stands tr.new) (find snapshot layer.now path.now) }
+    ensures same { T.Tr.same tr.old tr.new }
+{
+    let mut found = root(layer)?;
+    for name in path {
+        let Some(child) = child_of(layer, tr, &found, name, snapshot)? else {
+            return Ok(None);
+        };
+        found = child;
+    }
+    Ok(Some(found))
+}
+
+// The directory that an entry of another one names.
+fn child_of<T: Tr>(
+    layer: &Layer,
+    tr: &mut T,
+    parent: &Directory,
+    name: &Text,
+    snapshot: bool,
+) -> Result<Option<Directory>, DirFault>
+    ensures follows { Follows result (T.Tr.stands tr.old) (T.Tr.stands tr.new) (child_of snapshot layer.now parent.now name.now) }
+    ensures same { T.Tr.same tr.old tr.new }
+{
+    let key = Node::of(layer, &parent.prefix)?.entry(name)?;
+    match value_of(tr, &key, snapshot)? {
+        Some(prefix) => directory_at(layer, tr, prefix, snapshot),
+        None => Ok(None),
+    }
+}
+
+// The directory of a prefix.
+fn directory_at<T: Tr>(
+    layer: &Layer,
+    tr: &mut T,
+    prefix: Bytes,
+    snapshot: bool,
+) -> Result<Option<Directory>, DirFault>
+    ensures follows { Follows result (T.Tr.stands tr.old) (T.Tr.stands tr.new) (directory_at snapshot layer.now prefix) }
+    ensures same { T.Tr.same tr.old tr.new }
+{
+    let key = Node::of(layer, &prefix)?.layer_key()?;
+    let name = value_of(tr, &key, snapshot)?.unwrap_or(Bytes::new(layer.node.allocator()));
+    if is_partition(&name) {
+        return Err(DirFault::Partition);
+    }
+    Ok(Some(Directory {
+        prefix,
+        layer: name,
+    }))
+}
+
+/// Whether a layer name is that of a partition.
+pub(crate) fn is_partition(name: &Bytes) -> bool
+    ensures { result ≡ is_partition name.now }
+{
+    name.as_slice() == PARTITION
+}

@@ -1,0 +1,103 @@
+//! The directories right below one.
+
+ghost use Rattle.std.specs.Prelude.{◌≡◌, map, IfOk};
+ghost use Rattle.key_bytes.specs.Entries.{entry_of};
+ghost use Rattle.directory_rules.specs.Steps.{child_in, children_in, children};
+ghost use Rattle.directory_rules.specs.Calls.{names_below, is_there};
+ghost use Rattle.directory.specs.Runs.{Follows, Tells};
+
+use crate::calls::pairs_of;
+use crate::checking::check;
+use crate::finding::find;
+use crate::nodes::Node;
+use directory_rules::Child;
+use directory_types::{DirFault, Layer, Path};
+use fdb_calls::Tr;
+use fdb_tuple::Text;
+use key_bytes::{Bytes, Pair, Pairs};
+use lists::List;
+use std::alloc::{AllocError, Global};
+
+/// The directories right below the one of a prefix, in the order of their keys.
+pub(crate) fn children<T: Tr>(
+    layer: &Layer,
+    tr: &mut T,
+    prefix: &Bytes,
+    snapshot: bool,
+) -> Result<List<Child>, DirFault>
+    ensures follows { Follows result (T.Tr.stands tr.old) (T.Tr.stands tr.new) (children snapshot layer.now prefix.now) }
+    ensures same { T.Tr.same tr.old tr.new }
+{
+    let node = Node::of(layer, prefix)?;
+    let pairs = pairs_of(tr, &node.entries()?, 0, false, snapshot)?;
+    children_in(layer.node.allocator(), &node, &pairs)
+}
+
+// The name and the prefix of each entry.
+fn children_in(alloc: Global, node: &Node, pairs: &Pairs) -> Result<List<Child>, DirFault>
+    ensures { Tells result (children_in node.now.key pairs.now) }
+{
+    let mut found = List::new(alloc);
+    for pair in pairs.as_slice() {
+        found.push(child_in(node, pair)?)?;
+    }
+    Ok(found)
+}
+
+// The directory of an entry, whose key must be that of a name.
+fn child_in(node: &Node, pair: &Pair) -> Result<Child, DirFault>
+    ensures { Tells result (child_in node.now.key (entry_of pair.now)) }
+{
+    match node.name_in(&pair.key)? {
+        Some(name) => Ok(Child {
+            name,
+            prefix: pair.value.copy()?,
+        }),
+        None => Err(DirFault::BadNode {
+            key: pair.key.copy()?,
+        }),
+    }
+}
+
+/// The names of the directories right below the one of a path.
+pub(crate) fn names_below<T: Tr>(
+    alloc: Global,
+    layer: &Layer,
+    tr: &mut T,
+    path: &[Text],
+    snapshot: bool,
+) -> Result<Path, DirFault>
+    ensures follows { Follows result (T.Tr.stands tr.old) (T.Tr.stands tr.new) (names_below snapshot layer.now path.now) }
+    ensures same { T.Tr.same tr.old tr.new }
+{
+    check(layer, tr, false, snapshot)?;
+    let Some(found) = find(layer, tr, path, snapshot)? else {
+        return Err(DirFault::Missing);
+    };
+    let below = children(layer, tr, &found.prefix, snapshot)?;
+    Ok(names_of(alloc, &below)?)
+}
+
+fn names_of(alloc: Global, children: &List<Child>) -> Result<Path, AllocError>
+    ensures { IfOk result (λ names. names ≡ map (λ child. child.name) children.now) }
+{
+    let mut names = List::new(alloc);
+    for child in children.as_slice() {
+        names.push(child.name.copy()?)?;
+    }
+    Ok(names)
+}
+
+/// Whether there is a directory of this path.
+pub(crate) fn is_there<T: Tr>(
+    layer: &Layer,
+    tr: &mut T,
+    path: &[Text],
+    snapshot: bool,
+) -> Result<bool, DirFault>
+    ensures follows { Follows result (T.Tr.stands tr.old) (T.Tr.stands tr.new) (is_there snapshot layer.now path.now) }
+    ensures same { T.Tr.same tr.old tr.new }
+{
+    check(layer, tr, false, snapshot)?;
+    Ok(find(layer, tr, path, snapshot)?.is_some())
+}

@@ -1,0 +1,270 @@
+-- What each call of a directory layer does and answers (directory layer's documentation).
+use Rattle.std.specs.Prelude.{ℕ, zero, suc, ◌+◌, Bool, true, false, not, ◌&&◌, ◌==◌, if◌then◌else◌, List, [], ◌∷◌, ◌++◌, length, map, Option, Some, None, Result, Ok, Err, unwrap_or, is_some, bytes_eq, codes}
+use Rattle.std.specs.List.{starts_with}
+use Rattle.std.specs.FinMap as finite
+use Rattle.key_bytes.specs.Successors.{strinc}
+use Rattle.fdb_tuple.specs.Tuples.{Elements, Empty, Single, Text}
+use Rattle.fdb_tuple.specs.Spelling.{spelling}
+use Rattle.database_rules.specs.Databases.{Set, ClearRange}
+use Rattle.database_rules.specs.Histories.{Setting}
+use Rattle.database_rules.specs.Transactions.{Transaction, view}
+use Rattle.directory_types.specs.declared.Layer.{Layer}
+use Rattle.directory_types.specs.declared.DirArgs.{DirArgs}
+use Rattle.directory_types.specs.declared.DirKind.{DirKind}
+use Rattle.directory_types.specs.declared.DirKind.TheVariants as kind
+use Rattle.directory_types.specs.declared.DirReply.{DirReply}
+use Rattle.directory_types.specs.declared.DirReply.TheVariants as reply
+use Rattle.directory_types.specs.declared.fault.DirFault.{DirFault}
+use Rattle.directory_types.specs.declared.fault.DirFault.TheVariants as fault
+use Rattle.directory_rules.specs.Courses.{Course, Gives, Refuses, Allocates, ◌>>=◌, Done, done, given, does, pairs_of, Reached, run}
+use Rattle.directory_rules.specs.Nodes.{packed_bytes, packed_number, packed_text, node_of, layer_key, allocator_of, is_partition}
+use Rattle.directory_rules.specs.declared.Child.{Child}
+use Rattle.directory_rules.specs.declared.Directory.{Directory}
+use Rattle.directory_rules.specs.declared.Manner.{Manner}
+use Rattle.directory_rules.specs.Steps.{refuse_where, there, check, directory, root, find, front, last_name, children, is_in_use, sets_entry, clears_entry}
+
+abbrev pub opened : (path : List (List ℕ)) → Directory → DirReply
+opened path found = reply.Opened found.prefix path found.layer
+
+-- ---- create, create_or_open, open
+
+abbrev pub to_create : Manner
+to_create = record { may_create = true; may_open = false; snapshot = false }
+
+abbrev pub to_create_or_open : Manner
+to_create_or_open = record { may_create = true; may_open = true; snapshot = false }
+
+abbrev pub to_open : (snapshot : Bool) → Manner
+to_open snapshot = record { may_create = false; may_open = true; snapshot = snapshot }
+
+-- a directory that is there is opened, where that may be and where its layer name is the one that is asked for, if one is
+unfoldable pub found_opened : Manner → (layer_name : Option (List ℕ)) → Directory → Result (Option Directory) DirFault
+found_opened manner layer_name found =
+    if not manner.may_open then Err fault.Exists
+    else if not (length (unwrap_or layer_name []) == 0) && not (bytes_eq (unwrap_or layer_name []) found.layer) then Err fault.LayerDiffers
+    else Ok (Some found)
+
+-- one that isn't there may have to be created
+abbrev pub opens : Manner → (layer_name : Option (List ℕ)) → Option Directory → Course (Option Directory)
+opens manner layer_name (Some found) = given (found_opened manner layer_name found)
+opens manner layer_name None = do
+  may ← refuse_where (not manner.may_create) fault.Missing
+  Gives None
+
+-- the directory that is there, or none where it is to be created
+unfoldable pub looks : Manner → Layer → (path : List (List ℕ)) → (layer_name prefix : Option (List ℕ)) → Course (Option Directory)
+looks manner layer path layer_name prefix = do
+  read ← check false manner.snapshot layer
+  allowed ← refuse_where (is_some prefix && not layer.manual) fault.ManualNotAllowed
+  named ← refuse_where (length path == 0) fault.EmptyPath
+  found ← find manner.snapshot layer path
+  opens manner layer_name found
+
+-- whether there are keys that begin with a prefix
+unfoldable pub has_keys : (prefix : List ℕ) → Course Bool
+has_keys prefix = do
+  end ← there fault.NoSuccessor (strinc prefix)
+  keys ← pairs_of false prefix end 1 false
+  Gives (not (length keys == 0))
+
+-- a prefix where no key and no directory stands
+unfoldable pub free_prefix : Layer → (prefix : List ℕ) → Course (List ℕ)
+free_prefix layer prefix = do
+  keys ← has_keys prefix
+  empty ← refuse_where keys fault.KeysAtPrefix
+  used ← is_in_use true layer prefix
+  free ← refuse_where used fault.PrefixInUse
+  Gives prefix
+
+-- the content's prefix and a number that the allocator grants
+unfoldable pub new_prefix : Layer → Course (List ℕ)
+new_prefix layer = Allocates (allocator_of layer) (λ number. free_prefix layer (layer.content ++ packed_number number))
+
+unfoldable pub given_prefix : Layer → (prefix : List ℕ) → Course (List ℕ)
+given_prefix layer prefix = do
+  used ← is_in_use false layer prefix
+  free ← refuse_where used fault.PrefixInUse
+  Gives prefix
+
+abbrev pub prefix_for : Layer → Option (List ℕ) → Course (List ℕ)
+prefix_for layer None = new_prefix layer
+prefix_for layer (Some prefix) = given_prefix layer prefix
+
+-- the prefix of a directory that is to be created
+unfoldable pub takes_prefix : Layer → (layer_name prefix : Option (List ℕ)) → Course (List ℕ)
+takes_prefix layer layer_name prefix = do
+  plain ← refuse_where (is_partition (unwrap_or layer_name [])) fault.Partition
+  written ← check true false layer
+  prefix_for layer prefix
+
+-- a directory is entered in its parent's node, and its layer name in its own
+unfoldable pub enters : Layer → (parent : Directory) → (name prefix : List ℕ) → (layer_name : List ℕ) → Course Directory
+enters layer parent name prefix layer_name = do
+  entry ← sets_entry layer parent.prefix name prefix
+  noted ← does (Set (layer_key (node_of layer prefix)) layer_name)
+  Gives (directory prefix layer_name)
+
+-- a directory that was found, or else another course
+abbrev pub or_else : Option Directory → Course Directory → Course Directory
+or_else (Some found) others = Gives found
+or_else None others = others
+
+-- The parent is made before its child is entered, by the same steps: the number bounds how often, and that of the names of the
+-- path is enough, since each time one name is left out. Of a path with one name the parent is the root.
+unfoldable pub makes : (bound : ℕ) → Manner → Layer → (path : List (List ℕ)) → (layer_name prefix : Option (List ℕ)) → Course Directory
+makes zero manner layer path layer_name prefix = Gives (root layer)
+makes (suc bound) manner layer path layer_name prefix = do
+  found ← looks manner layer path layer_name prefix
+  or_else found (do
+    own ← takes_prefix layer layer_name prefix
+    parent ← if length path == 1 then Gives (root layer) else makes bound to_create_or_open layer (front path) None None
+    enters layer parent (last_name path) own (unwrap_or layer_name []))
+
+unfoldable pub opening : Manner → Layer → DirArgs → Course DirReply
+opening manner layer args = do
+  found ← makes (length args.path + 1) manner layer args.path args.layer args.prefix
+  Gives (opened args.path found)
+
+-- ---- move_to
+
+-- the directory that is moved: both paths are looked for before either is judged
+unfoldable pub finds_moved : Layer → (path new_path : List (List ℕ)) → Course Directory
+finds_moved layer path new_path = do
+  old ← find false layer path
+  new ← find false layer new_path
+  moved ← there fault.Missing old
+  free ← refuse_where (is_some new) fault.Exists
+  Gives moved
+
+-- a directory is entered under another name of its own
+unfoldable pub enters_moved : Layer → (above : List (List ℕ)) → (name : List ℕ) → Directory → Course Done
+enters_moved layer above name moved = do
+  found ← find false layer above
+  parent ← there fault.ParentMissing found
+  sets_entry layer parent.prefix name moved.prefix
+
+-- the entry of a name is cleared in the directory of a path, where that is still there
+unfoldable pub leaves : Layer → (above : List (List ℕ)) → (name : List ℕ) → Course Done
+leaves layer above name = do
+  parent ← find false layer above
+  clears_entry layer parent name
+
+unfoldable pub moving : Layer → (path new_path : List (List ℕ)) → Course DirReply
+moving layer path new_path = do
+  written ← check true false layer
+  apart ← refuse_where (starts_with bytes_eq new_path path) fault.IntoItself
+  moved ← finds_moved layer path new_path
+  entry ← enters_moved layer (front new_path) (last_name new_path) moved
+  cleared ← leaves layer (front path) (last_name path)
+  Gives (opened new_path moved)
+
+-- ---- remove, remove_if_exists
+
+-- the contents and the node of the directory with a prefix are cleared: the directories right below it, which it had
+unfoldable pub clears_one : Layer → (prefix : List ℕ) → Course (List Child)
+clears_one layer prefix = do
+  found ← children false layer prefix
+  end ← there fault.NoSuccessor (strinc prefix)
+  contents ← does (ClearRange prefix end)
+  node ← does (ClearRange (node_of layer prefix ++ 0 ∷ []) (node_of layer prefix ++ 255 ∷ []))
+  Gives found
+
+-- The directories of these prefixes and all below them, the nearest first. The number bounds how many are met. As many as there
+-- are prefixes and keys that the transaction sees are enough: each other directory is met by an entry of one that was met before,
+-- and that one's entries were cleared then.
+unfoldable pub clears_all : (bound : ℕ) → Layer → (prefixes : List (List ℕ)) → Course Done
+clears_all bound layer [] = Gives done
+clears_all zero layer (prefix ∷ prefixes) = Gives done
+clears_all (suc bound) layer (prefix ∷ prefixes) = do
+  found ← clears_one layer prefix
+  clears_all bound layer (prefixes ++ map (λ child. child.prefix) found)
+
+-- a directory and all below it, under this name in the directory of a path
+unfoldable pub removes_one : (bound : ℕ) → Layer → (above : List (List ℕ)) → (name : List ℕ) → Directory → Course DirReply
+removes_one bound layer above name found = do
+  cleared ← clears_all bound layer (found.prefix ∷ [])
+  entry ← leaves layer above name
+  Gives reply.Done
+
+abbrev pub removes_found : (bound : ℕ) → (must_exist : Bool) → Layer → (path : List (List ℕ)) → Option Directory → Course DirReply
+removes_found bound true layer path None = Refuses fault.Missing
+removes_found bound false layer path None = Gives reply.Done
+removes_found bound must_exist layer path (Some found) = removes_one bound layer (front path) (last_name path) found
+
+unfoldable pub removing : (bound : ℕ) → (must_exist : Bool) → Layer → (path : List (List ℕ)) → Course DirReply
+removing bound must_exist layer path = do
+  written ← check true false layer
+  named ← refuse_where (length path == 0) fault.EmptyPath
+  found ← find false layer path
+  removes_found bound must_exist layer path found
+
+-- ---- list, exists
+
+unfoldable pub names_below : (snapshot : Bool) → Layer → (path : List (List ℕ)) → Course (List (List ℕ))
+names_below snapshot layer path = do
+  read ← check false snapshot layer
+  found ← find snapshot layer path
+  one ← there fault.Missing found
+  below ← children snapshot layer one.prefix
+  Gives (map (λ child. child.name) below)
+
+unfoldable pub is_there : (snapshot : Bool) → Layer → (path : List (List ℕ)) → Course Bool
+is_there snapshot layer path = do
+  read ← check false snapshot layer
+  found ← find snapshot layer path
+  Gives (is_some found)
+
+-- ---- log
+
+-- Unicode strings as a tuple
+abbrev pub texts : List (List ℕ) → Elements
+texts [] = Empty
+texts (text ∷ others) = Single (Text text) (texts others)
+
+abbrev pub truth : Bool → ℕ
+truth true = 1
+truth false = 0
+
+-- the names right below a directory that is there
+abbrev pub names_where : (is : Bool) → Layer → (path : List (List ℕ)) → Course (List (List ℕ))
+names_where true layer path = names_below false layer path
+names_where false layer path = Gives []
+
+-- what is noted under the prefix of the log: the path, the layer name, whether the directory is there, and the names below it
+unfoldable pub notes : (log : List ℕ) → (path : List (List ℕ)) → (layer_name : List ℕ) → (is : Bool) → (names : List (List ℕ)) → Course Done
+notes log path layer_name is names = do
+  path ← does (Set (log ++ packed_text (codes "path")) (spelling (texts path)))
+  layer_name ← does (Set (log ++ packed_text (codes "layer")) (packed_bytes layer_name))
+  exists ← does (Set (log ++ packed_text (codes "exists")) (packed_number (truth is)))
+  does (Set (log ++ packed_text (codes "children")) (spelling (texts names)))
+
+unfoldable pub logging : Layer → DirArgs → Course DirReply
+logging layer args = do
+  is ← is_there false layer args.path
+  names ← names_where is layer args.path
+  noted ← notes (args.raw ++ packed_number args.index) args.path (unwrap_or args.layer []) is names
+  Gives reply.Done
+
+-- ---- each call
+
+-- Where this many keys are seen at first: a removal meets one directory by its path, and one more key may be that of the version,
+-- which the removal notes.
+abbrev pub course : DirKind → (keys : ℕ) → Layer → DirArgs → Course DirReply
+course kind.Create keys layer args = opening to_create layer args
+course kind.CreateOrOpen keys layer args = opening to_create_or_open layer args
+course kind.Open keys layer args = opening (to_open args.snapshot) layer args
+course kind.MoveTo keys layer args = moving layer args.path args.new_path
+course kind.Remove keys layer args = removing (keys + 2) true layer args.path
+course kind.RemoveIfExists keys layer args = removing (keys + 2) false layer args.path
+course kind.List keys layer args = do
+  names ← names_below args.snapshot layer args.path
+  Gives (reply.Names names)
+course kind.Exists keys layer args = do
+  is ← is_there args.snapshot layer args.path
+  Gives (reply.Is is)
+course kind.Log keys layer args = logging layer args
+
+-- what a call makes of a transaction in its setting, and what it answers, where these are the random words still to come
+unfoldable pub effect : DirKind → Layer → DirArgs → Setting → (words : ℕ → ℕ) → Transaction → Reached DirReply
+effect kind layer args setting words transaction =
+    run setting words (course kind (length (finite.entries (view setting transaction))) layer args) transaction
