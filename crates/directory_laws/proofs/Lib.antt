@@ -1,0 +1,11 @@
+pub mod Going
+pub mod Growing
+pub mod Planning
+pub mod Writing
+pub mod Seeing
+pub mod Staying
+pub mod Finding
+pub mod Removing
+pub mod Keys
+pub mod Freeing
+pub mod Opening

@@ -1,0 +1,13 @@
+use Rattle.directory_laws.proofs.Opening.{opened_is_found}
+use Rattle.directory_laws.proofs.Removing.{removed_is_gone}
+use Rattle.directory_laws.proofs.Staying.{all_else_stays}
+use Rattle.directory_laws.proofs.directories_are_found.Goals as goal
+
+pub returns-clause-opened : goal.returns-clause-opened
+returns-clause-opened c = opened_is_found
+
+pub returns-clause-removed : goal.returns-clause-removed
+returns-clause-removed c = removed_is_gone
+
+pub returns-clause-others : goal.returns-clause-others
+returns-clause-others c = all_else_stays
