@@ -5,3 +5,4 @@ pub mod Steps
 pub mod Loads
 pub mod Outcomes
 pub mod Prefixes
+pub mod Layers

@@ -1,7 +1,7 @@
 -- What a step leaves: few commits, and what the core answers by it.
-use Rattle.std.proofs.Common.{◌≡◌, ℕ, ◌+◌, ◌^◌, ◌<◌, ◌≤◌, Bool, true, false, cond, List, [], ◌++◌, length, refl, sym, ap, subst, ◌∙◌, length-append, arith}
+use Rattle.std.proofs.Common.{◌≡◌, ℕ, ◌+◌, ◌^◌, ◌<◌, ◌≤◌, Bool, true, false, cond, List, [], ◌++◌, length, Option, Some, None, refl, sym, ap, subst, ◌∙◌, length-append, arith}
 use Rattle.std.proofs.lemmas.List.{append-nil}
-use Rattle.std.specs.Prelude.{is_some, nat_lt}
+use Rattle.std.specs.Prelude.{is_some, nat_lt, ⊤}
 use Rattle.std.specs.FinMap as finite
 use Rattle.fdb_calls.specs.declared.Reply.{Reply}
 use Rattle.fdb_calls.specs.declared.Reply.TheVariants as reply
@@ -14,8 +14,13 @@ use Rattle.fdb_calls.specs.Calling.{Called, called, is_fault, in_turn, logs}
 use Rattle.version_store.specs.Versions as versions
 use Rattle.version_store.specs.Versions.{last_of}
 use Rattle.machine_rules.specs.Worlds.{World, HasWords, newest, Stepped, next_life, with_new, transaction_of, call_named, fresh_at_last, called_apart, database_by, and_commit, start_by, step}
+use Rattle.machine_rules.specs.Worlds.{with_drawn, directory_called, directory_named, directory_alone, directory_step}
+use Rattle.directory_types.specs.declared.DirArgs.{DirArgs}
+use Rattle.directory_types.specs.declared.DirKind.{DirKind}
+use Rattle.directory_types.specs.declared.Layer.{Layer}
+use Rattle.directory_rules.specs.Calls.{effect}
 use Rattle.client_core.specs.Stands.{ContentsModel, CoreModel, HasStarted, KeepsWorld, StandsFor, Answers, contents_in}
-use Rattle.client_core.specs.Sound.{IsSound, Took}
+use Rattle.client_core.specs.Sound.{IsSound, Took, TookDrawing}
 use Rattle.client_core.specs.Lives.{drawn_in}
 use Rattle.client_core.specs.Contents.{IsOnDatabase, TookStart}
 use Rattle.machine_rules.specs.Runs.{start_prefix}
@@ -46,6 +51,19 @@ start_few : (there_is_room : Bool) (world : World) (prefix : List ℕ)
 start_few true world prefix = omega arith
 start_few false world prefix = omega arith
 
+directory_few : (world : World) (name : Option (List ℕ)) (layer : Layer) (kind : DirKind) (args : DirArgs)
+    → last (directory_step world name kind layer args).world.setting.history ≤ last world.setting.history + 1
+directory_few world None layer kind args =
+    let reached = effect kind layer args world.setting world.words (fresh_at_last world) in
+    and_commit_few (with_drawn world reached.words) (λ drawn transaction. directory_called reached) refl
+directory_few world (Some name) layer kind args = by_named (is_some (finite.get world.transactions name))
+  where
+    by_named : (b : Bool)
+        → last (directory_named (cond b world (with_new world name)) name kind layer args).world.setting.history
+        ≤ last world.setting.history + 1
+    by_named true = appended_counts world.setting.history [] (omega arith)
+    by_named false = appended_counts world.setting.history [] (omega arith)
+
 -- a step makes one commit at most
 pub step_few : (world : World) (given : Request) → last (step world given).world.setting.history ≤ last world.setting.history + 1
 unfolding step
@@ -69,6 +87,7 @@ step_few world (request.Database its_call) =
 step_few world (request.Log prefix entries) =
     and_commit_few world (λ drawn transaction. in_turn (logs prefix entries) transaction)
     (logs_in_place prefix entries (fresh_at_last world)).commits
+step_few world (request.Directory name layer kind args) = directory_few world name layer kind args
 step_few world (request.PollStamp life) = omega arith
 step_few world (request.PollEmpty prefix) = omega arith
 step_few world (request.Start prefix) = start_few (nat_lt (length world.started) MACHINES) world prefix
@@ -77,7 +96,7 @@ database_words : (fault : Bool) (world : World) (made committed : Called) → (d
 database_words true world made committed = refl
 database_words false world made committed = refl
 
-and_commit_words : (world : World) (made : World → Transaction → Called) → (and_commit world made).world.words ≡ world.words
+pub and_commit_words : (world : World) (made : World → Transaction → Called) → (and_commit world made).world.words ≡ world.words
 and_commit_words world made =
     let first = made (drawn_in world) (fresh_at_last world) in
     let between = called_apart (drawn_in world) (fresh_at_last world) first in
@@ -87,20 +106,38 @@ start_words : (there_is_room : Bool) (world : World) (prefix : List ℕ) → (st
 start_words true world prefix = refl
 start_words false world prefix = refl
 
--- no step uses a random word yet
-step_words : (world : World) (given : Request) → (step world given).world.words ≡ world.words
-unfolding step
-step_words world (request.New name) = refl
-step_words world (request.On name its_call) =
-    elim (is_some (finite.get world.transactions name)) as (λ b. (cond b world (with_new world name)).words ≡ world.words) [ true ↦ refl | false ↦ refl ]
-step_words world (request.Database its_call) = and_commit_words world (λ drawn transaction. called drawn.setting (next_life drawn) transaction its_call)
-step_words world (request.Log prefix entries) = and_commit_words world (λ drawn transaction. in_turn (logs prefix entries) transaction)
-step_words world (request.PollStamp life) = refl
-step_words world (request.PollEmpty prefix) = refl
-step_words world (request.Start prefix) = start_words (nat_lt (length world.started) MACHINES) world prefix
+-- a request that no layer has a part in
+abbrev pub DrawsNone : Request → Type 0
+DrawsNone (request.Directory name layer kind args) = ⊥
+DrawsNone given = ⊤
 
-pub words_kept : (world : World) (given : Request) (words : ℕ → ℕ) → HasWords world words → HasWords (step world given).world words
-words_kept world given words has place = has place ∙ (λ i. sym (step_words world given) i place)
+-- its step draws no random word
+step_words : (world : World) (given : Request) → DrawsNone given → (step world given).world.words ≡ world.words
+unfolding step
+step_words world (request.New name) none = refl
+step_words world (request.On name its_call) none =
+    elim (is_some (finite.get world.transactions name)) as (λ b. (cond b world (with_new world name)).words ≡ world.words) [ true ↦ refl | false ↦ refl ]
+step_words world (request.Database its_call) none =
+    and_commit_words world (λ drawn transaction. called drawn.setting (next_life drawn) transaction its_call)
+step_words world (request.Directory name layer kind args) none = absurd none
+step_words world (request.Log prefix entries) none = and_commit_words world (λ drawn transaction. in_turn (logs prefix entries) transaction)
+step_words world (request.PollStamp life) none = refl
+step_words world (request.PollEmpty prefix) none = refl
+step_words world (request.Start prefix) none = start_words (nat_lt (length world.started) MACHINES) world prefix
+
+pub words_kept : (world : World) (given : Request) (words : ℕ → ℕ) → DrawsNone given → HasWords world words
+    → HasWords (step world given).world words
+words_kept world given words none has place = has place ∙ (λ i. sym (step_words world given none) i place)
+
+pub none_drawn : (given : Request) → IsOnDatabase given → DrawsNone given
+none_drawn (request.New name) on = tt
+none_drawn (request.On name its_call) on = tt
+none_drawn (request.Database its_call) on = tt
+none_drawn (request.Directory name layer kind args) on = absurd on
+none_drawn (request.Log prefix entries) on = tt
+none_drawn (request.PollStamp life) on = tt
+none_drawn (request.PollEmpty prefix) on = tt
+none_drawn (request.Start prefix) on = tt
 
 database_started : (fault : Bool) (world : World) (made committed : Called)
     → (database_by fault world made committed).world.started ≡ world.started
@@ -113,6 +150,16 @@ and_commit_started world made =
     let between = called_apart (drawn_in world) (fresh_at_last world) first in
     database_started (is_fault first.reply) between first (called between.setting (next_life between) first.transaction call.Commit)
 
+-- no call of a directory layer starts a machine
+directory_started : (world : World) (name : Option (List ℕ)) (layer : Layer) (kind : DirKind) (args : DirArgs)
+    → (directory_step world name kind layer args).world.started ≡ world.started
+directory_started world None layer kind args =
+    let reached = effect kind layer args world.setting world.words (fresh_at_last world) in
+    and_commit_started (with_drawn world reached.words) (λ drawn transaction. directory_called reached)
+directory_started world (Some name) layer kind args =
+    elim (is_some (finite.get world.transactions name)) as (λ b. (cond b world (with_new world name)).started ≡ world.started)
+    [ true ↦ refl | false ↦ refl ]
+
 -- no request of the database starts a machine
 pub step_started : (world : World) (given : Request) → IsOnDatabase given → (step world given).world.started ≡ world.started
 unfolding step
@@ -122,6 +169,7 @@ step_started world (request.On name its_call) on =
     [ true ↦ refl | false ↦ refl ]
 step_started world (request.Database its_call) on =
     and_commit_started world (λ drawn transaction. called drawn.setting (next_life drawn) transaction its_call)
+step_started world (request.Directory name layer kind args) on = absurd on
 step_started world (request.Log prefix entries) on =
     and_commit_started world (λ drawn transaction. in_turn (logs prefix entries) transaction)
 step_started world (request.PollStamp life) on = refl
@@ -169,6 +217,8 @@ took_answers reply.NotYet core words stepped same stands has = (sym same, stands
 took_answers (reply.Fault code) core words stepped same stands has = (sym same, stands, has)
 took_answers reply.Empty core words stepped same stands has = (sym same, stands, has)
 took_answers (reply.Started machine instructions) core words stepped same stands has = (sym same, stands, has)
+took_answers (reply.Dir answer) core words stepped same stands has = (sym same, stands, has)
+took_answers (reply.DirFault fault) core words stepped same stands has = (sym same, stands, has)
 took_answers reply.NoMachine core words stepped same stands has = (sym same, stands, has)
 took_answers reply.NoMemory core words stepped same stands has = tt
 
@@ -189,6 +239,23 @@ sound_taken core after given its_reply applied took sound =
       few_commits = omega (arith, few, sound.few_commits);
     }
 
+-- the same of a call of a directory layer, which may draw these random words
+pub sound_drawn : (core after : ContentsModel) (name : Option (List ℕ)) (layer : Layer) (kind : DirKind) (args : DirArgs)
+    (its_reply : Reply) (words left : ℕ → ℕ) (applied : ℕ)
+    → ((world : World) → KeepsWorld core world → HasWords world words
+    → TookDrawing its_reply after left (directory_step world name kind layer args))
+    → IsSound core (applied + 1) → IsSound after (applied + 1 + 1)
+sound_drawn core after name layer kind args its_reply words left applied took sound =
+    let world : World = record sound.world { words = words } in
+    let stands : KeepsWorld core world =
+    record { keeps = sound.stands.keeps; transactions = sound.stands.transactions; lives = sound.stands.lives } in
+    let few = directory_few world name layer kind args in
+    record {
+      world = (directory_step world name kind layer args).world;
+      stands = (took world stands (λ place. refl)).took.stands;
+      few_commits = omega (arith, few, sound.few_commits);
+    }
+
 -- a core that is sound has versions to spare
 pub sound_enough : (core : ContentsModel) (applied counted : ℕ) → applied < 2 ^ 62 → IsSound core (applied + 1)
     → IsSound (record core { applied = counted }) (2 ^ 62)
@@ -204,15 +271,18 @@ pub kept_newest : (contents : ContentsModel) (world : World) → KeepsWorld cont
 kept_newest contents world keeps =
     ap (versions.at contents.store) keeps.keeps.last_is ∙ keeps.keeps.at_is (last world.setting.history) (omega arith)
 
--- a request that isn't the start of a machine is one of the database
-pub on_database : (given : Request) → ((prefix : List ℕ) → given ≡ request.Start prefix → ⊥) → IsOnDatabase given
-on_database (request.New name) other = tt
-on_database (request.On name its_call) other = tt
-on_database (request.Database its_call) other = tt
-on_database (request.Log prefix entries) other = tt
-on_database (request.PollStamp life) other = tt
-on_database (request.PollEmpty prefix) other = tt
-on_database (request.Start prefix) other = other prefix refl
+-- a request that is neither the start of a machine nor a call of a directory layer is one of the database
+pub on_database : (given : Request)
+    → ((name : Option (List ℕ)) (layer : Layer) (kind : DirKind) (args : DirArgs) → given ≡ request.Directory name layer kind args → ⊥)
+    → ((prefix : List ℕ) → given ≡ request.Start prefix → ⊥) → IsOnDatabase given
+on_database (request.New name) layered other = tt
+on_database (request.On name its_call) layered other = tt
+on_database (request.Database its_call) layered other = tt
+on_database (request.Directory name layer kind args) layered other = layered name layer kind args refl
+on_database (request.Log prefix entries) layered other = tt
+on_database (request.PollStamp life) layered other = tt
+on_database (request.PollEmpty prefix) layered other = tt
+on_database (request.Start prefix) layered other = other prefix refl
 
 -- it starts none
 pub none_started : (given : Request) (its_reply : Reply) (old new : List (List ℕ)) → IsOnDatabase given → new ≡ old
@@ -220,6 +290,7 @@ pub none_started : (given : Request) (its_reply : Reply) (old new : List (List �
 none_started (request.New name) its_reply old new on same = ap length same
 none_started (request.On name its_call) its_reply old new on same = ap length same
 none_started (request.Database its_call) its_reply old new on same = ap length same
+none_started (request.Directory name layer kind args) its_reply old new on same = absurd on
 none_started (request.Log prefix entries) its_reply old new on same = ap length same
 none_started (request.PollStamp life) its_reply old new on same = ap length same
 none_started (request.PollEmpty prefix) its_reply old new on same = ap length same
@@ -235,7 +306,30 @@ start_answers contents core words world given prefix its_reply is same keeps too
     let stepped = start_by (nat_lt (length world.started) MACHINES) world prefix in
     subst (λ (asked : Request). Answers its_reply core words (step world asked)) (sym is)
     (took_answers its_reply core words stepped took.reply_is (start_stands contents core world prefix same keeps took.started_is)
-    (words_kept world (request.Start prefix) words has))
+    (words_kept world (request.Start prefix) words tt has))
+
+-- a call of a directory layer is answered by its step
+pub directory_answers : (contents : ContentsModel) (core : CoreModel) (words : ℕ → ℕ) (world : World) (given : Request)
+    (name : Option (List ℕ)) (layer : Layer) (kind : DirKind) (args : DirArgs) (its_reply : Reply)
+    → given ≡ request.Directory name layer kind args → contents_in core ≡ contents → core.started ≡ world.started
+    → TookDrawing its_reply contents words (directory_step world name kind layer args) → Answers its_reply core words (step world given)
+unfolding step
+directory_answers contents core words world given name layer kind args its_reply is same started drew =
+    let stepped = directory_step world name kind layer args in
+    subst (λ (asked : Request). Answers its_reply core words (step world asked)) (sym is)
+    (took_answers its_reply core words stepped drew.took.reply_is
+    (record {
+      contents = subst (λ (kept : ContentsModel). KeepsWorld kept stepped.world) (sym same) drew.took.stands;
+      started = started ∙ sym (directory_started world name layer kind args);
+    })
+    drew.has_words)
+
+-- it starts no machine
+pub directory_starts_none : (given : Request) (name : Option (List ℕ)) (layer : Layer) (kind : DirKind) (args : DirArgs) (its_reply : Reply)
+    (old new : List (List ℕ)) → given ≡ request.Directory name layer kind args → new ≡ old
+    → HasStarted (start_prefix given) its_reply old new
+directory_starts_none given name layer kind args its_reply old new is same =
+    subst (λ (asked : Request). HasStarted (start_prefix asked) its_reply old new) (sym is) (ap length same)
 
 -- more commits may be than there are
 pub sound_later : (core : ContentsModel) (counted few more : ℕ) → few ≤ more → IsSound core few → IsSound (record core { applied = counted }) more

@@ -24,8 +24,9 @@ core_of contents started = record {
   started = started;
 }
 
--- a request that the machines have no part in
+-- a request in which neither the machines nor a layer has a part
 abbrev pub IsOnDatabase : Request → Type 0
+IsOnDatabase (request.Directory name layer kind args) = ⊥
 IsOnDatabase (request.Start prefix) = ⊥
 IsOnDatabase _ = ⊤
 

@@ -2,3 +2,4 @@ pub mod Stands
 pub mod Sound
 pub mod Contents
 pub mod Lives
+pub mod Directories

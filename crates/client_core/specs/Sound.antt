@@ -7,7 +7,7 @@ use Rattle.fdb_calls.specs.declared.Reply.TheVariants as reply
 use Rattle.database_rules.specs.Histories.{last}
 use Rattle.database_rules.specs.Transactions.{Transaction}
 use Rattle.fdb_calls.specs.Calling.{Called}
-use Rattle.machine_rules.specs.Worlds.{World, Stepped, called_apart}
+use Rattle.machine_rules.specs.Worlds.{World, Stepped, HasWords, called_apart}
 use Rattle.txn_core.specs.Stands as txn
 use Rattle.client_core.specs.Stands.{ContentsModel, KeepsWorld}
 
@@ -21,6 +21,11 @@ pub record IsSound (core : ContentsModel) (commits : ℕ) : Type 0 where
 pub record Took (reply : Reply) (core : ContentsModel) (stepped : Stepped) : Type 0 where
   pub reply_is : reply ≡ stepped.reply
   pub stands : KeepsWorld core stepped.world
+
+-- the same of a step that may draw random words: those still to come are that world's
+pub record TookDrawing (reply : Reply) (core : ContentsModel) (words : ℕ → ℕ) (stepped : Stepped) : Type 0 where
+  pub took : Took reply core stepped
+  pub has_words : HasWords stepped.world words
 
 -- the same of a call on a transaction that stands under no name, which was this one before
 pub record TookApart (reply : Reply) (kept : txn.Kept) (core : ContentsModel) (world : World) (before : Transaction) (called : Called) : Type 0 where

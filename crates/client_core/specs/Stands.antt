@@ -79,6 +79,10 @@ Answers (reply.Fault code) core words stepped =
 Answers reply.Empty core words stepped = (stepped.reply ≡ reply.Empty) × StandsFor core stepped.world × HasWords stepped.world words
 Answers (reply.Started machine instructions) core words stepped =
     (stepped.reply ≡ reply.Started machine instructions) × StandsFor core stepped.world × HasWords stepped.world words
+Answers (reply.Dir answer) core words stepped =
+    (stepped.reply ≡ reply.Dir answer) × StandsFor core stepped.world × HasWords stepped.world words
+Answers (reply.DirFault fault) core words stepped =
+    (stepped.reply ≡ reply.DirFault fault) × StandsFor core stepped.world × HasWords stepped.world words
 Answers reply.NoMachine core words stepped = (stepped.reply ≡ reply.NoMachine) × StandsFor core stepped.world × HasWords stepped.world words
 Answers reply.NoMemory core words stepped = ⊤
 

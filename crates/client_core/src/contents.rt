@@ -36,8 +36,8 @@ pub struct Contents {
 }
 
 impl Contents {
-    /// A request of the database: its step in the world. It is refused for want of memory alone, and nothing is said then but how many
-    /// requests were taken.
+    /// A request of the database alone: its step in the world. It is refused for want of memory alone, and nothing is said then
+    /// but how many requests were taken.
     pub fn take(&mut self, request: &Request) -> Result<Reply, AllocError>
         requires sound { IsSound (model_of self.old) (2 ^ 62) }
         requires database { IsOnDatabase request.now }
@@ -52,7 +52,7 @@ impl Contents {
             Request::Log { prefix, entries } => self.log(prefix, entries),
             Request::PollStamp { life } => Ok(self.poll(*life)),
             Request::PollEmpty { prefix } => Ok(self.poll_empty(prefix)),
-            Request::Start { .. } => unreachable!(),
+            Request::Directory { .. } | Request::Start { .. } => unreachable!(),
         }
     }
 
@@ -83,8 +83,8 @@ impl Contents {
         }
     }
 
-    // A name that has no transaction gets one.
-    fn make(&mut self, name: &Bytes) -> Result<(), AllocError>
+    /// A name that has no transaction gets one. It is refused for want of memory alone.
+    pub fn make(&mut self, name: &Bytes) -> Result<(), AllocError>
         ensures stands { OnOk result ((world : World) → KeepsWorld (model_of self.old) world
             → KeepsWorld (model_of self.new) (with_named world name.now)) }
         ensures there { OnOk result (IsSome (finite.get self.new.transactions name.now)) }
@@ -152,8 +152,8 @@ impl Contents {
         self.commit_apart(transaction, reply)
     }
 
-    // A transaction of a new life at the last version, which stands under no name.
-    fn draw_apart(&mut self) -> Result<Txn, AllocError>
+    /// A transaction of a new life at the last version, which stands under no name. It is refused for want of memory alone.
+    pub fn draw_apart(&mut self) -> Result<Txn, AllocError>
         ensures drawn { IfOk result (λ transaction. (world : World) → KeepsWorld (model_of self.old) world
             → txn.StandsFor transaction (fresh_at_last world) × KeepsWorld (model_of self.new) (drawn_in world)) }
         ensures store { OnOk result (self.new.store ≡ self.old.store) }
@@ -164,8 +164,9 @@ impl Contents {
         Ok(transaction)
     }
 
-    // Commits a transaction that stands under no name, where its calls were not refused: their reply, or the commit's fault.
-    fn commit_apart(&mut self, mut transaction: Txn, reply: Reply) -> Result<Reply, AllocError>
+    /// Commits a transaction that stands under no name, where its calls were not refused: their reply, or the commit's fault. It is
+    /// refused for want of memory alone.
+    pub fn commit_apart(&mut self, mut transaction: Txn, reply: Reply) -> Result<Reply, AllocError>
         requires few_commits { last_of self.old.store + 1 < 2 ^ 63 }
         ensures step { IfOk result (λ answered. (world : World) (made : Called) → reply ≡ made.reply → txn.StandsFor transaction made.transaction
             → KeepsWorld (model_of self.old) world → Took answered (model_of self.new) (commit_made world made)) }
@@ -252,7 +253,7 @@ fn is_fault(reply: &Reply) -> bool
     ensures { result ≡ is_fault reply.now }
 {
     match reply {
-        Reply::Fault(_) => true,
+        Reply::Fault(_) | Reply::DirFault(_) => true,
         _ => false,
     }
 }

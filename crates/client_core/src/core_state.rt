@@ -123,12 +123,13 @@ impl Core {
     }
 
     /// Takes a request of a machine: its step in the world, and the reply that is fixed there. The random words are those
-    /// of the world; no request uses one yet. NoMemory comes for want of memory alone, nothing is said of the core then,
-    /// and each further request is answered so too.
-    pub fn apply<W: Words>(&mut self, _machine: u16, request: &Request, _words: &mut W) -> Reply
+    /// of the world, and those that are left are the ones behind the drawn ones; only calls of directory layers draw any.
+    /// NoMemory comes for want of memory alone, nothing is said of the core and of the words then, and each further request
+    /// is answered so too.
+    pub fn apply<W: Words>(&mut self, _machine: u16, request: &Request, words: &mut W) -> Reply
         requires { self.old.applied < 2 ^ 62 }
-        ensures step { (world : World) → StandsFor self.old world → HasWords world (W.words _words.old)
-            → Answers result self.new (W.words _words.new) (step world request.now) }
+        ensures step { (world : World) → StandsFor self.old world → HasWords world (W.words words.old)
+            → Answers result self.new (W.words words.new) (step world request.now) }
         ensures applied { self.new.applied ≡ self.old.applied + 1 }
         // A machine more was started exactly where the reply to a start says so, and never more than may be.
         ensures started { HasStarted (start_prefix request.now) result self.old.started self.new.started }
@@ -140,6 +141,21 @@ impl Core {
         self.is_out_of_memory = true;
         match request {
             Request::Start { prefix } => match start(&mut self.machines, &self.contents, prefix) {
+                Ok(reply) => {
+                    self.is_out_of_memory = false;
+                    reply
+                }
+                Err(_) => Reply::NoMemory,
+            },
+            Request::Directory {
+                name,
+                layer,
+                kind,
+                args,
+            } => match self
+                .contents
+                .call_directory(name, layer, *kind, args, words)
+            {
                 Ok(reply) => {
                     self.is_out_of_memory = false;
                     reply

@@ -11,6 +11,7 @@
 
 mod contents;
 mod core_state;
+mod directories;
 mod lives;
 mod machines;
 

@@ -12,6 +12,7 @@ mod asks;
 mod beside;
 mod conflicts;
 mod draws;
+mod layers;
 mod limits;
 mod machines;
 mod plain;
@@ -45,14 +46,14 @@ enum Told<'a> {
     NoMemory,
 }
 
-// None where it has pairs.
+// None where it has pairs, or is a directory layer's.
 fn tell(reply: &Reply) -> Option<Told<'_>> {
     match reply {
         Reply::Done => Some(Told::Done),
         Reply::Value(None) => Some(Told::Nothing),
         Reply::Value(Some(value)) => Some(Told::Value(value.as_slice())),
         Reply::KeyIs(key) => Some(Told::Key(key.as_slice())),
-        Reply::PairsAre(_) | Reply::Started { .. } => None,
+        Reply::PairsAre(_) | Reply::Started { .. } | Reply::Dir(_) | Reply::DirFault(_) => None,
         Reply::Version(version) => Some(Told::Version(*version)),
         Reply::Life(life) => Some(Told::Life(*life)),
         Reply::Stamp(stamp) => Some(Told::Stamp(*stamp)),

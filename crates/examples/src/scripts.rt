@@ -9,7 +9,7 @@ pub struct Script {
 }
 
 /// All of them.
-pub const SCRIPTS: [Script; 28] = [
+pub const SCRIPTS: [Script; 29] = [
     Script {
         input: "first.kv",
         words: &["run", "p", "630"],
@@ -177,5 +177,11 @@ pub const SCRIPTS: [Script; 28] = [
         words: &["replay", "p", "630"],
         status: 0,
         dump: "waits_by_order.dump",
+    },
+    Script {
+        input: "directories.kv",
+        words: &["run", "p", "630"],
+        status: 0,
+        dump: "directories.dump",
     },
 ];

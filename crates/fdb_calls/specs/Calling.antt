@@ -223,6 +223,7 @@ called setting life transaction call.Cancel = cancel_called transaction
 
 abbrev pub is_fault : Reply → Bool
 is_fault (reply.Fault code) = true
+is_fault (reply.DirFault fault) = true
 is_fault _ = false
 
 -- calls on one transaction, each on what the one before left, until one is refused

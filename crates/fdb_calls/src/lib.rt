@@ -10,6 +10,7 @@ mod tr;
 
 pub use database_rules::Code;
 use database_rules::{Mode, Selector};
+use directory_types::{DirArgs, DirFault, DirKind, DirReply, Layer};
 pub use fault::TrFault;
 use key_bytes::{Bytes, Key, KeyRange, Pairs};
 pub use tr::Tr;
@@ -101,20 +102,44 @@ pub enum TxnCall {
 #[derive(Debug, Drop)]
 pub enum Request {
     /// A new transaction under a name, in place of the one that is there.
-    New { name: Bytes },
+    New {
+        name: Bytes,
+    },
     /// A call on the transaction of a name. One is made where the name has none.
-    On { name: Bytes, call: TxnCall },
+    On {
+        name: Bytes,
+        call: TxnCall,
+    },
     /// A call on a transaction of its own at the last version, which is then committed.
-    Database { call: TxnCall },
+    Database {
+        call: TxnCall,
+    },
+    /// A call of a directory layer on the transaction of a name, or, without one, on a transaction of its own at the last
+    /// version, which is then committed where the call isn't refused (directory layer's documentation).
+    Directory {
+        name: Option<Bytes>,
+        layer: Layer,
+        kind: DirKind,
+        args: DirArgs,
+    },
     /// Writes each entry under the prefix followed by its key, on a transaction of its own, which is then committed. The
     /// first write that is refused refuses all.
-    Log { prefix: Bytes, entries: Pairs },
+    Log {
+        prefix: Bytes,
+        entries: Pairs,
+    },
     /// What was promised of a life: the versionstamp of its commit.
-    PollStamp { life: u64 },
+    PollStamp {
+        life: u64,
+    },
     /// Whether no key begins with a prefix, at the last version.
-    PollEmpty { prefix: Key },
+    PollEmpty {
+        prefix: Key,
+    },
     /// One more machine, whose instructions are in the range of a prefix at the last version.
-    Start { prefix: Bytes },
+    Start {
+        prefix: Bytes,
+    },
 }
 
 /// What became of a life of a transaction (`fdb_transaction_get_versionstamp`).
@@ -151,6 +176,10 @@ pub enum Reply {
     Started { machine: u16, instructions: Pairs },
     /// None was started: there are as many as may be.
     NoMachine,
+    /// A call of a directory layer was answered so.
+    Dir(DirReply),
+    /// A call of a directory layer was refused, or the commit behind it.
+    DirFault(DirFault),
     /// The first check that failed has this code.
     Fault(Code),
     /// Memory ran out.

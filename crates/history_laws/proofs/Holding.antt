@@ -13,8 +13,8 @@ use Rattle.database_rules.specs.Intervals.{added}
 use Rattle.database_rules.specs.Reads.{Read, Answer, answer}
 use Rattle.key_bytes.specs.Ranges.{has}
 use Rattle.database_rules.specs.States.{covers, seen}
-use Rattle.database_rules.specs.Transactions.{Transaction, fresh, writes_of, version_in, view, map_below, is_tried, with_version, with_read, with_mutation, with_range, with_read_range, with_write_range, with_phase, silenced, cancelled}
-use Rattle.database_rules.proofs.Declaring.{written_wrote, written_read}
+use Rattle.database_rules.specs.Transactions.{Transaction, fresh, writes_of, version_in, view, map_below, is_tried, with_version, with_read, with_mutation, with_range, with_read_range, with_write_range, with_phase, with_granted, silenced, cancelled}
+use Rattle.database_rules.proofs.Declaring.{written_wrote, written_read, written_granted}
 use Rattle.database_rules.proofs.Ranges.{covers_with_range}
 use Rattle.database_rules.proofs.States.{covers-append}
 use Rattle.history_laws.specs.Small.{is_small, are_small}
@@ -137,6 +137,16 @@ mutation_held before transaction mutation small held = record {
   small = ap are_small (written_wrote transaction.script mutation (not transaction.is_silenced))
       ∙ are_small-append (writes_of transaction) (mutation ∷ [])
       ∙ and_from (are_small (writes_of transaction)) (are_small (mutation ∷ [])) held.small (and_from (is_small mutation) true small refl);
+  from_one = held.from_one;
+}
+
+-- a number that the allocator granted is noted
+pub noted_held : (before : History) (transaction : Transaction) (space : List ℕ) (number from : ℕ) → IsHeld before transaction
+    → IsHeld before (with_granted transaction space number from)
+noted_held before transaction space number from held = record {
+  answered = each-append (IsAnsweredAt before transaction.version transaction.read_ranges) [] transaction.script
+      (Granted space number from ∷ []) held.answered tt;
+  small = ap are_small (written_granted transaction.script space number from) ∙ held.small;
   from_one = held.from_one;
 }
 

@@ -9,5 +9,6 @@ pub mod Unmet
 pub mod Legal
 pub mod Holding
 pub mod Stepping
+pub mod Directing
 pub mod Reaching
 pub mod Rows

@@ -18,6 +18,13 @@ use Rattle.fdb_calls.specs.declared.TxnCall.TheVariants as call
 use Rattle.fdb_calls.specs.Calling.{Called, called, is_fault, in_turn, logs}
 use Rattle.machine_rules.specs.declared.TheConstants.{MACHINES}
 use Rattle.machine_rules.specs.Worlds.{World, Transactions, begun, next_life, with_lives, with_new, with_named, transaction_of, stepped, call_named, fresh_at_last, called_apart, database_by, and_commit, start_by, step}
+use Rattle.machine_rules.specs.Worlds.{directory_called, directory_named, directory_alone, directory_step, with_drawn}
+use Rattle.database_rules.specs.Histories.{Setting}
+use Rattle.directory_types.specs.declared.Layer.{Layer}
+use Rattle.directory_types.specs.declared.DirArgs.{DirArgs}
+use Rattle.directory_types.specs.declared.DirKind.{DirKind}
+use Rattle.directory_rules.specs.Calls.{effect}
+use Rattle.history_laws.proofs.Directing.{effect_held}
 use Rattle.machine_rules.specs.Machines.{Progress}
 use Rattle.command_rules.specs.declared.args.RunArgs.{RunArgs}
 use Rattle.machine_rules.specs.Runs.{Run, start, taken, replied, take_place, run_from}
@@ -137,14 +144,18 @@ new_led world name reached = record {
   few = omega arith;
 }
 
+-- one that has none
+named_led : (world : World) (name : List ℕ) → IsReached world → IsLed world 0 (with_named world name)
+named_led world name reached =
+    cond_both (is_some (finite.get world.transactions name)) world (with_new world name) (IsLed world 0)
+    (λ there. none_more world reached) (λ none. new_led world name reached)
+
 -- a call on the transaction of a name
 call_led : (world : World) (name : List ℕ) (its_call : TxnCall) → IsReached world → last world.setting.history + 2 < 2 ^ 63
     → IsLed world 2 (call_named (with_named world name) name its_call).world
 call_led world name its_call reached spare =
     let between = with_named world name in
-    let named : IsLed world 0 between =
-    cond_both (is_some (finite.get world.transactions name)) world (with_new world name) (IsLed world 0)
-    (λ there. none_more world reached) (λ none. new_led world name reached) in
+    let named : IsLed world 0 between = named_led world name reached in
     let good = called_good between.setting (next_life between) (transaction_of between name) its_call
     (grown_some between.setting.history named.reached.grown) (omega (arith, named.few, spare)) (named_held between name named.reached) in
     let left = stepped_led between name (called between.setting (next_life between) (transaction_of between name) its_call) named.reached good in
@@ -187,6 +198,52 @@ start_led true world prefix reached = record {
 }
 start_led false world prefix reached = record { reached = reached; few = omega arith }
 
+-- a world with other random words to come
+words_led : (world : World) (most : ℕ) (after : World) (words : ℕ → ℕ) → IsLed world most after → IsLed world most (record after { words = words })
+words_led world most after words led = record {
+  reached = record { grown = led.reached.grown; held = led.reached.held };
+  few = led.few;
+}
+
+-- a call of a directory layer makes no commit
+directory_good : (setting : Setting) (call : DirKind) (layer : Layer) (args : DirArgs) (words : ℕ → ℕ) (transaction : Transaction)
+    → 1 ≤ last setting.history → IsHeld setting.history transaction
+    → IsGood setting.history (directory_called (effect call layer args setting words transaction))
+directory_good setting call layer args words transaction some held = record {
+  held = effect_held setting call layer args words transaction some held;
+  sound = tt;
+  few = omega arith;
+}
+
+-- one on the transaction of a name
+directory_named_led : (world : World) (name : List ℕ) (call : DirKind) (layer : Layer) (args : DirArgs) → IsReached world
+    → IsLed world 1 (directory_named world name call layer args).world
+directory_named_led world name call layer args reached =
+    let made = effect call layer args world.setting world.words (transaction_of world name) in
+    let left = stepped_led world name (directory_called made) reached
+    (directory_good world.setting call layer args world.words (transaction_of world name) (grown_some world.setting.history reached.grown)
+    (named_held world name reached)) in
+    words_led world 1 (stepped world name (directory_called made)).world (with_drawn world made.words).words left
+
+-- and one on a transaction of its own, which is committed
+directory_alone_led : (world : World) (call : DirKind) (layer : Layer) (args : DirArgs) → IsReached world
+    → last world.setting.history + 2 < 2 ^ 63 → IsLed world 2 (directory_alone world call layer args).world
+directory_alone_led world call layer args reached spare =
+    let made = effect call layer args world.setting world.words (fresh_at_last world) in
+    let between = with_drawn world made.words in
+    let left = and_commit_led between (λ drawn transaction. directory_called made) (record { grown = reached.grown; held = reached.held }) spare
+    (directory_good world.setting call layer args world.words (fresh_at_last world) (grown_some world.setting.history reached.grown)
+    (own_held world reached)) in
+    record { reached = left.reached; few = left.few }
+
+directory_led : (world : World) (name : Option (List ℕ)) (call : DirKind) (layer : Layer) (args : DirArgs) → IsReached world
+    → last world.setting.history + 2 < 2 ^ 63 → IsLed world 2 (directory_step world name call layer args).world
+directory_led world None call layer args reached spare = directory_alone_led world call layer args reached spare
+directory_led world (Some name) call layer args reached spare =
+    let named = named_led world name reached in
+    let left = directory_named_led (with_named world name) name call layer args named.reached in
+    record { reached = left.reached; few = omega (arith, named.few, left.few) }
+
 -- a request makes two commits at most, and leaves a reached world
 step_led : (world : World) (given : Request) → IsReached world → last world.setting.history + 2 < 2 ^ 63
     → IsLed world 2 (step world given).world
@@ -199,6 +256,7 @@ step_led world (request.Database its_call) reached spare =
     and_commit_led world (λ drawn transaction. called drawn.setting (next_life drawn) transaction its_call) reached spare
     (called_good world.setting (next_life drawn) (fresh_at_last world) its_call (grown_some world.setting.history reached.grown)
     (omega (arith, spare)) (own_held world reached))
+step_led world (request.Directory name layer call args) reached spare = directory_led world name call layer args reached spare
 step_led world (request.Log prefix entries) reached spare =
     and_commit_led world (λ drawn transaction. in_turn (logs prefix entries) transaction) reached spare
     (in_turn_good world.setting.history (logs prefix entries) (fresh_at_last world) (logs_keeping world.setting.history prefix entries)

@@ -22,6 +22,8 @@ use Rattle.fdb_calls.specs.declared.Reply.{Reply}
 use Rattle.fdb_calls.specs.declared.TxnCall.{TxnCall}
 use Rattle.fdb_calls.specs.declared.TxnCall.TheVariants as call
 use Rattle.fdb_calls.specs.Calling.{Called, called, answers, code_of, reset, named_atomic_called, set_read_version_called, is_fault, in_turn, logs, next_version, set_called, read_by, read_at_version, read_called, write_by, atomic_by, does_by, commit_of, commit_by, commit_allowed, commit_at_version, commit_refused, on_error_by, error_handled}
+use Rattle.database_rules.specs.Intervals.{one}
+use Rattle.allocator_rules.specs.Acts.{Act, Draws, Reads, Writes, Silences, Declares, act_called, write_called}
 use Rattle.history_laws.specs.Small.{is_small}
 use Rattle.history_laws.specs.Held.{IsGood, IsHeld, IsSound}
 use Rattle.history_laws.proofs.Smallness.{set_small, op_small, filled_small}
@@ -277,6 +279,32 @@ called_good setting life transaction (call.OnError code) some few held =
 called_good setting life transaction call.Reset some few held = reset_good setting.history life
 called_good setting life transaction call.Cancel some few held =
     answers_good setting.history (cancelled transaction) _ (cancelled_held setting.history transaction held)
+
+-- ---- acts
+
+-- a write of a layer
+written_good : (before : History) (transaction : Transaction) (mutation : Mutation) → IsHeld before transaction
+    → IsGood before (write_called transaction mutation)
+written_good before transaction (Set key value) held = set_good before transaction key value held
+written_good before transaction (Clear key) held =
+    write_good before (clear_code transaction.phase key) transaction (Clear key) (λ none. refl) held
+written_good before transaction (ClearRange begin end) held =
+    write_good before (range_code transaction.phase begin end) transaction (ClearRange begin end) (λ none. refl) held
+written_good before transaction (Atomic op key operand) held =
+    write_good before (op_code transaction.phase op key operand) transaction (Atomic op key operand) (op_small transaction.phase op key operand) held
+
+-- each act of a layer, where there is a commit
+pub act_good : (setting : Setting) (transaction : Transaction) (act : Act) → 1 ≤ last setting.history → IsHeld setting.history transaction
+    → IsGood setting.history (act_called setting transaction act)
+act_good setting transaction Draws some held = answers_good setting.history transaction _ held
+act_good setting transaction (Reads read snapshot) some held = read_good setting transaction false snapshot read some held
+act_good setting transaction (Writes mutation) some held = written_good setting.history transaction mutation held
+act_good setting transaction Silences some held =
+    does_good setting.history (phase_code transaction.phase) transaction (silenced transaction) _ held
+    (λ none. silenced_held setting.history transaction held)
+act_good setting transaction (Declares key) some held =
+    does_good setting.history (range_code transaction.phase (one key).begin (one key).end) transaction (with_write_range transaction (one key)) _ held
+    (λ none. write_range_held setting.history transaction (one key) held)
 
 -- ---- calls made one after the other
 

@@ -11,6 +11,8 @@ use Rattle.machine_rules.specs.declared.TransactionOperation.{TransactionOperati
 use Rattle.machine_rules.specs.declared.TransactionOperation.TheVariants as on_transaction
 use Rattle.machine_rules.specs.declared.DatabaseOperation.{DatabaseOperation}
 use Rattle.machine_rules.specs.declared.DatabaseOperation.TheVariants as on_database
+use Rattle.machine_rules.specs.declared.directories.DirectoryOperation.{DirectoryOperation}
+use Rattle.machine_rules.specs.declared.directories.DirectoryOperation.TheVariants as on_directories
 use Rattle.machine_rules.specs.declared.Scope.{Scope}
 use Rattle.machine_rules.specs.declared.Scope.TheVariants as scope
 use Rattle.machine_rules.specs.declared.Instruction.{Instruction}
@@ -87,6 +89,44 @@ database_operation name =
     else if bytes_eq name (codes "ATOMIC_OP_DATABASE") then Some (on_database.AtomicOp, scope.Database)
     else None
 
+-- the operation on the directories of a name, with its form
+abbrev pub directory_operation : List ℕ → Option (DirectoryOperation × Scope)
+directory_operation name =
+    if bytes_eq name (codes "DIRECTORY_CREATE_SUBSPACE") then Some (on_directories.CreateSubspace, scope.Transaction)
+    else if bytes_eq name (codes "DIRECTORY_CREATE_LAYER") then Some (on_directories.CreateLayer, scope.Transaction)
+    else if bytes_eq name (codes "DIRECTORY_CREATE_OR_OPEN") then Some (on_directories.CreateOrOpen, scope.Transaction)
+    else if bytes_eq name (codes "DIRECTORY_CREATE_OR_OPEN_DATABASE") then Some (on_directories.CreateOrOpen, scope.Database)
+    else if bytes_eq name (codes "DIRECTORY_CREATE") then Some (on_directories.Create, scope.Transaction)
+    else if bytes_eq name (codes "DIRECTORY_CREATE_DATABASE") then Some (on_directories.Create, scope.Database)
+    else if bytes_eq name (codes "DIRECTORY_OPEN") then Some (on_directories.Open, scope.Transaction)
+    else if bytes_eq name (codes "DIRECTORY_OPEN_SNAPSHOT") then Some (on_directories.Open, scope.Snapshot)
+    else if bytes_eq name (codes "DIRECTORY_OPEN_DATABASE") then Some (on_directories.Open, scope.Database)
+    else if bytes_eq name (codes "DIRECTORY_CHANGE") then Some (on_directories.Change, scope.Transaction)
+    else if bytes_eq name (codes "DIRECTORY_SET_ERROR_INDEX") then Some (on_directories.SetErrorIndex, scope.Transaction)
+    else if bytes_eq name (codes "DIRECTORY_MOVE") then Some (on_directories.Move, scope.Transaction)
+    else if bytes_eq name (codes "DIRECTORY_MOVE_DATABASE") then Some (on_directories.Move, scope.Database)
+    else if bytes_eq name (codes "DIRECTORY_MOVE_TO") then Some (on_directories.MoveTo, scope.Transaction)
+    else if bytes_eq name (codes "DIRECTORY_MOVE_TO_DATABASE") then Some (on_directories.MoveTo, scope.Database)
+    else if bytes_eq name (codes "DIRECTORY_REMOVE") then Some (on_directories.Remove, scope.Transaction)
+    else if bytes_eq name (codes "DIRECTORY_REMOVE_DATABASE") then Some (on_directories.Remove, scope.Database)
+    else if bytes_eq name (codes "DIRECTORY_REMOVE_IF_EXISTS") then Some (on_directories.RemoveIfExists, scope.Transaction)
+    else if bytes_eq name (codes "DIRECTORY_REMOVE_IF_EXISTS_DATABASE") then Some (on_directories.RemoveIfExists, scope.Database)
+    else if bytes_eq name (codes "DIRECTORY_LIST") then Some (on_directories.List, scope.Transaction)
+    else if bytes_eq name (codes "DIRECTORY_LIST_SNAPSHOT") then Some (on_directories.List, scope.Snapshot)
+    else if bytes_eq name (codes "DIRECTORY_LIST_DATABASE") then Some (on_directories.List, scope.Database)
+    else if bytes_eq name (codes "DIRECTORY_EXISTS") then Some (on_directories.Exists, scope.Transaction)
+    else if bytes_eq name (codes "DIRECTORY_EXISTS_SNAPSHOT") then Some (on_directories.Exists, scope.Snapshot)
+    else if bytes_eq name (codes "DIRECTORY_EXISTS_DATABASE") then Some (on_directories.Exists, scope.Database)
+    else if bytes_eq name (codes "DIRECTORY_PACK_KEY") then Some (on_directories.PackKey, scope.Transaction)
+    else if bytes_eq name (codes "DIRECTORY_UNPACK_KEY") then Some (on_directories.UnpackKey, scope.Transaction)
+    else if bytes_eq name (codes "DIRECTORY_RANGE") then Some (on_directories.Range, scope.Transaction)
+    else if bytes_eq name (codes "DIRECTORY_CONTAINS") then Some (on_directories.Contains, scope.Transaction)
+    else if bytes_eq name (codes "DIRECTORY_OPEN_SUBSPACE") then Some (on_directories.OpenSubspace, scope.Transaction)
+    else if bytes_eq name (codes "DIRECTORY_LOG_SUBSPACE") then Some (on_directories.LogSubspace, scope.Transaction)
+    else if bytes_eq name (codes "DIRECTORY_LOG_DIRECTORY") then Some (on_directories.LogDirectory, scope.Transaction)
+    else if bytes_eq name (codes "DIRECTORY_STRIP_PREFIX") then Some (on_directories.StripPrefix, scope.Transaction)
+    else None
+
 -- the first that is there
 abbrev pub or_else : {A : Type 0} → Option A → Option A → Option A
 or_else (Some x) other = Some x
@@ -101,7 +141,8 @@ bare_instruction name =
     else if bytes_eq name (codes "WAIT_EMPTY") then Some instruction.WaitEmpty
     else or_else (option_map (λ found. instruction.OnTransaction found) (transaction_operation name))
     (or_else (option_map (λ found. instruction.OnDatabase found.0 found.1) (database_operation name))
-    (option_map (λ found. instruction.OnStack found) (stack_operation name)))
+    (or_else (option_map (λ found. instruction.OnDirectories found.0 found.1) (directory_operation name))
+    (option_map (λ found. instruction.OnStack found) (stack_operation name))))
 
 -- the instruction of a name with the elements behind the name: PUSH has one, every other operation none
 abbrev pub named_instruction : List ℕ → List Elem → Option Instruction

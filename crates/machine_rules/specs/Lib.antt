@@ -3,6 +3,7 @@ pub mod Operands
 pub mod StackOperations
 pub mod Calls
 pub mod Instructions
+pub mod Directories
 pub mod Machines
 pub mod Waits
 pub mod WaitLaws

@@ -1,5 +1,5 @@
 -- A machine and its instructions (bindingApiTester.md).
-use Rattle.std.specs.Prelude.{ℕ, ◌+◌, ℤ, Bool, true, false, nat_lt, if◌then◌else◌, List, [], ◌∷◌, ◌++◌, take, drop, option_and_then, flat_map, Option, Some, None, Ok, Err, slice_get, codes, decimal}
+use Rattle.std.specs.Prelude.{ℕ, ◌+◌, ℤ, Bool, true, false, nat_lt, if◌then◌else◌, List, [], ◌∷◌, ◌++◌, take, drop, map, option_and_then, flat_map, Option, Some, None, Ok, Err, slice_get, codes, decimal}
 use Rattle.std.specs.List.{filter}
 use Rattle.key_bytes.specs.Keys.{key_lt, begins_with}
 use Rattle.database_rules.specs.Slices.{Entries}
@@ -29,6 +29,13 @@ use Rattle.machine_rules.specs.declared.Instruction.{Instruction}
 use Rattle.machine_rules.specs.declared.Instruction.TheVariants as instruction
 use Rattle.machine_rules.specs.Operands.{Refusal, Missing, Unfit, Waiting, Popped, bytes_operand}
 use Rattle.machine_rules.specs.StackOperations.{Operated, pushed, operated}
+use Rattle.directory_types.specs.declared.Layer.{Layer}
+use Rattle.directory_types.specs.declared.DirReply.{DirReply}
+use Rattle.directory_types.specs.declared.DirReply.TheVariants as directory
+use Rattle.machine_rules.specs.declared.directories.Object.{Object}
+use Rattle.machine_rules.specs.declared.directories.Object.TheVariants as object
+use Rattle.machine_rules.specs.Directories as directories
+use Rattle.machine_rules.specs.Directories.{Directories, Directed, with_object, one_or_zero, fault_name, appends, directed}
 use Rattle.machine_rules.specs.Calls.{Calls, call_of, request_in, request_of, awaits_of, start_request, prefix_end, log_entries}
 use Rattle.machine_rules.specs.Instructions.{instruction_of}
 
@@ -44,6 +51,7 @@ pub record Registers : Type 0 where
   pub stack : List Item
   -- the errors that were noted, the earliest first
   pub errors : List ErrorNote
+  pub directories : Directories
 
 pub record Machine : Type 0 where
   pub number : ℕ
@@ -109,6 +117,22 @@ noting number registers word = record registers { errors = registers.errors ++ r
 abbrev pub failing : ℕ → Registers → (word : List ℕ) → Elem → Registers
 failing number registers word element = pushing number (noting number registers word) element
 
+-- the list of directories with one object more
+abbrev pub appending : Registers → Object → Registers
+appending registers object = record registers { directories = with_object registers.directories object }
+
+-- what an operation leaves that has a fault on the directories: null is appended where it appends an object
+abbrev pub lacking : (appends : Bool) → Registers → Registers
+lacking true registers = appending registers object.Null
+lacking false registers = registers
+
+abbrev pub directory_error : Elem
+directory_error = elem.Bytes (codes "DIRECTORY_ERROR")
+
+-- the instruction of this number has a fault of this name on the directories
+abbrev pub faulting : ℕ → (appends : Bool) → Registers → (name : List ℕ) → Registers
+faulting number appends registers name = failing number (lacking appends registers) name directory_error
+
 -- before the first poll for a life
 abbrev pub waits_for : ℕ → Wait
 waits_for life = record { life = life; polled = 0 }
@@ -138,6 +162,20 @@ calls number registers scope (Err refusal) = refused number registers refusal
 abbrev pub uses : ℕ → Registers → Popped (List ℕ) → Act
 uses number registers (Ok popped) = Does (record registers { name = popped.0; stack = popped.1 })
 uses number registers (Err refusal) = refused number registers refusal
+
+-- what comes of an operation on the directories, which appends an object or doesn't
+abbrev pub directs_to : ℕ → (appends : Bool) → Registers → Directed → Act
+directs_to number appends registers (directories.Appends object) = Does (appending registers object)
+directs_to number appends registers (directories.Gives elements) = Does (with_stack registers (pushed number elements registers.stack))
+directs_to number appends registers (directories.Chooses index) = Does (record registers { directories = record registers.directories { index = index } })
+directs_to number appends registers (directories.FallsTo index) = Does (record registers { directories = record registers.directories { error_index = index } })
+directs_to number appends registers (directories.Faults name) = Does (faulting number appends registers name)
+directs_to number appends registers (directories.Asks request awaits) = Asks registers request awaits
+
+-- an operation on the directories, where its operands were popped
+abbrev pub directs : ℕ → (appends : Bool) → Registers → Popped Directed → Act
+directs number appends registers (Ok popped) = directs_to number appends (with_stack registers popped.1) popped.0
+directs number appends registers (Err refusal) = refused number registers refusal
 
 -- the life that an item waits for, or else this
 abbrev pub life_by : ItemValue → Option ℕ → Option ℕ
@@ -184,6 +222,8 @@ act_of number registers (Some (instruction.OnTransaction operation)) =
     asks number registers (awaits_of operation) (request_of operation registers.name registers.last_seen registers.stack)
 act_of number registers (Some (instruction.OnDatabase operation scope)) =
     calls number registers scope (call_of operation scope registers.stack)
+act_of number registers (Some (instruction.OnDirectories operation scope)) =
+    directs number (appends operation) registers (directed operation scope registers.name registers.directories registers.stack)
 act_of number registers (Some instruction.LogStack) = logs_stack number registers (bytes_operand registers.stack)
 act_of number registers (Some instruction.StartThread) = asks number registers awaits.Start (start_request registers.stack)
 act_of number registers (Some instruction.WaitEmpty) = waits_empty number registers (bytes_operand registers.stack)
@@ -258,9 +298,45 @@ pub data Use : Type 0 where
   LogsOn : (prefix : List ℕ) → Use
   -- no machine was started
   LacksMachine : Use
+  -- an object is appended to the list of directories
+  Appends : (object : Object) → Use
+  -- a fault on the directories by its name, of an operation that appends an object or doesn't
+  Faults : (appends : Bool) (name : List ℕ) → Use
+
+-- the reply to a call of a layer
+abbrev pub directory_use : (appends : Bool) → (DirReply → Use) → Reply → Use
+directory_use appends told (reply.Dir answer) = told answer
+directory_use appends told (reply.DirFault fault) = Faults appends (fault_name fault)
+directory_use appends told reply = Goes
+
+abbrev pub opened_use : Layer → DirReply → Use
+opened_use layer (directory.Opened prefix path layer_name) = Appends (object.Directory layer path prefix layer_name)
+opened_use layer answer = Goes
+
+-- names as one packed tuple of Unicode strings
+abbrev pub packed_names : List (List ℕ) → Elem
+packed_names names = elem.Bytes (spelling (tuple_of (map elem.Text names)))
+
+abbrev pub names_use : DirReply → Use
+names_use (directory.Names names) = Pushes (packed_names names)
+names_use answer = Goes
+
+abbrev pub existence_use : DirReply → Use
+existence_use (directory.Is is) = Pushes (one_or_zero is)
+existence_use answer = Goes
+
+-- the reply to a set that logs a subspace
+abbrev pub subspace_use : Reply → Use
+subspace_use (reply.Fault code) = Faults false (decimal code.0)
+subspace_use reply = Goes
 
 -- a reply of another kind than the request's changes nothing but that the machine goes on
 abbrev pub use_of : Awaits → Reply → Use
+use_of (awaits.Opened layer) reply = directory_use true (opened_use layer) reply
+use_of awaits.DirectoryDone reply = directory_use false (λ answer. Goes) reply
+use_of awaits.Names reply = directory_use false names_use reply
+use_of awaits.Existence reply = directory_use false existence_use reply
+use_of awaits.SubspaceLogged reply = subspace_use reply
 use_of awaits (reply.Fault code) = Fails (decimal code.0) (error_item code.0)
 use_of awaits.NotPresent reply.Done = Pushes result_not_present
 use_of awaits.Value (reply.Value value) = Pushes (value_or_text value)
@@ -286,6 +362,8 @@ used number registers (PushesWaiting life) =
     Does (with_stack registers (record { value = value.Waits life; instruction = number } ∷ registers.stack))
 used number registers (LogsOn prefix) = logs_on registers prefix
 used number registers LacksMachine = Stops registers (end.MachineLimit number)
+used number registers (Appends object) = Does (appending registers object)
+used number registers (Faults appends name) = Does (faulting number appends registers name)
 
 -- ---- using the reply to a poll
 

@@ -14,7 +14,8 @@ use Rattle.machine_rules.specs.declared.State.{State}
 use Rattle.machine_rules.specs.declared.State.TheVariants as state
 use Rattle.machine_rules.specs.Worlds.{World, Stepped, begun, instruction_pairs, newest, step}
 use Rattle.machine_rules.specs.Calls.{item_bytes}
-use Rattle.machine_rules.specs.Machines.{Machine, Progress, silent, advance, resumed}
+use Rattle.machine_rules.specs.Directories.{first_directories}
+use Rattle.machine_rules.specs.Machines.{Machine, Progress, Registers, silent, advance, resumed}
 
 -- ---- coming to rest
 
@@ -34,6 +35,10 @@ at_rest progress = rested (length progress.machine.instructions - progress.machi
 
 -- ---- starting a machine
 
+-- what the instructions of a machine under a prefix work on at first
+abbrev pub first_registers : (prefix : List ℕ) → Registers
+first_registers prefix = record { name = prefix; last_seen = pos 0; stack = []; errors = []; directories = first_directories }
+
 -- a machine of a number, as it is started under a prefix: the values of these pairs are its instructions, and each of its waits
 -- has so many polls
 unfoldable pub started : (number : ℕ) → (prefix : List ℕ) → (polls : ℕ) → Entries → Machine
@@ -43,7 +48,7 @@ started number prefix polls pairs = record {
   instructions = map (λ pair. pair.1) pairs;
   next = 0;
   polls = polls;
-  registers = record { name = prefix; last_seen = pos 0; stack = []; errors = [] };
+  registers = first_registers prefix;
   state = state.Running;
 }
 

@@ -1,5 +1,5 @@
 -- Waits come to an end: what a machine asks within one instruction is each time less to poll for and to log.
-use Rattle.std.specs.Prelude.{◌≡◌, ℕ, zero, suc, ◌+◌, ◌-◌, ◌*◌, ◌<◌, ◌≤◌, ⊤, Bool, true, false, List, [], ◌∷◌, length, take, drop, Option, Some, None, Ok, Err, nat_lt, decimal, refl}
+use Rattle.std.specs.Prelude.{◌≡◌, ℕ, zero, suc, ◌+◌, ◌-◌, ◌*◌, ◌<◌, ◌≤◌, ⊤, ℤ, pos, negsuc, Bool, true, false, ◌||◌, List, [], ◌∷◌, length, take, drop, Option, Some, None, Result, Ok, Err, slice_get, nat_lt, decimal, refl}
 use Rattle.std.proofs.Math.Nat.{mul-le-mul_right, suc-mul}
 use Rattle.std.proofs.Common.{sym, ap, subst, ◌∙◌, add-one, arith}
 use Rattle.std.proofs.lemmas.Bool.{ltb-true}
@@ -27,7 +27,26 @@ use Rattle.machine_rules.specs.Operands.{Refusal, Missing, Unfit, Waiting, ◌>>
 use Rattle.machine_rules.specs.StackOperations.{Operated, operated}
 use Rattle.machine_rules.specs.Calls.{Calls, written_in, selector_operand, manner_operand, call_of, request_of, awaits_of, start_request}
 use Rattle.machine_rules.specs.Machines.{Registers, Act, Does, Stops, Asks, with_stack, refused, does, asks, calls, uses, life_by, first_life, logs_batch, logs_from, logs_on, logs_stack, waits_empty, act_of, instruction_at, Machine, Use, Goes, Pushes, Keeps, Fails, PushesWaiting, LogsOn, LacksMachine, use_of, used, known_or, with_known, noting, error_item, knowing, polls_on, polled_once, after_poll, watches_on, after_watch, replied_act}
-use Rattle.machine_rules.specs.Waits.{counted, waiting_count, IsLeft, left_itself, left_further, left_below, at_most_counted, IsFair, IsRefusedFairly, IsOf, of_then, of_bytes, operated_fairly, of_call, of_request}
+use Rattle.machine_rules.specs.Machines as machines
+use Rattle.machine_rules.specs.Machines.{directs_to, directs, directory_use, opened_use, names_use, existence_use, subspace_use}
+use Rattle.directory_types.specs.declared.DirReply.{DirReply}
+use Rattle.directory_types.specs.declared.DirReply.TheVariants as directory
+use Rattle.key_bytes.specs.Keys.{begins_with}
+use Rattle.fdb_tuple.specs.declared.fault.UnpackFault.{UnpackFault}
+use Rattle.fdb_tuple.specs.Tuples.{Elements}
+use Rattle.fdb_tuple.specs.Reading.{read_tuple}
+use Rattle.directory_types.specs.declared.Layer.{Layer}
+use Rattle.directory_types.specs.declared.DirArgs.{DirArgs}
+use Rattle.directory_types.specs.declared.DirKind.{DirKind}
+use Rattle.directory_types.specs.declared.DirKind.TheVariants as kind
+use Rattle.machine_rules.specs.declared.directories.Object.{Object}
+use Rattle.machine_rules.specs.declared.directories.Object.TheVariants as object
+use Rattle.machine_rules.specs.declared.directories.DirectoryOperation.{DirectoryOperation}
+use Rattle.machine_rules.specs.declared.directories.DirectoryOperation.TheVariants as on_directories
+use Rattle.machine_rules.specs.Operands.{tuple_operand, int_operand, flag_operand}
+use Rattle.machine_rules.specs.Directories as directories
+use Rattle.machine_rules.specs.Directories.{Directories, Directed, Appends, Gives, Chooses, FallsTo, Faults, current, object_at, is_null, prefix_of, layered, layer_over, index_in, change_to, fall_to, name_in, layer_called, moved_to, in_subspace, inside, unpacked, behind, path_operand, name_operand, path_if_given, appends, directed}
+use Rattle.machine_rules.specs.Waits.{counted, waiting_count, IsLeft, left_itself, left_further, left_below, at_most_counted, IsFair, IsRefusedFairly, IsOf, of_then, of_bytes, operated_fairly, of_call, of_request, of_directed}
 
 -- ---- what a machine has still to do within its instruction
 
@@ -238,6 +257,142 @@ waits_empty_bounded polls number registers (Err refusal) fair = refused_bounded 
 of_start : (stack : List Item) → IsOf (start_request stack) stack
 of_start stack = of_then (bytes_operand stack) _ stack (of_bytes stack) (λ prefix. left_itself prefix.1)
 
+-- an operation on the directories uses its reply at once
+abbrev IsDirectedAtOnce : Directed → Type 0
+IsDirectedAtOnce (Appends object) = ⊤
+IsDirectedAtOnce (Gives elements) = ⊤
+IsDirectedAtOnce (Chooses index) = ⊤
+IsDirectedAtOnce (FallsTo index) = ⊤
+IsDirectedAtOnce (Faults name) = ⊤
+IsDirectedAtOnce (directories.Asks request awaits) = errand_of awaits ≡ AtOnce
+
+abbrev IsAskedAtOnce : Popped Directed → Type 0
+IsAskedAtOnce (Ok popped) = IsDirectedAtOnce popped.0
+IsAskedAtOnce (Err refusal) = ⊤
+
+asked_then : {A : Type 0} (popped : Popped A) (f : A × List Item → Popped Directed) → ((x : A × List Item) → IsAskedAtOnce (f x))
+    → IsAskedAtOnce (popped >>= f)
+asked_then (Ok x) f next = next x
+asked_then (Err refusal) f next = tt
+
+layer_at_once : (nodes contents : Option Object) (manual : Bool) → IsDirectedAtOnce (layered nodes contents manual)
+layer_at_once (Some nodes) (Some contents) manual = by (is_null nodes || is_null contents) (prefix_of nodes) (prefix_of contents)
+  where
+    by : (null : Bool) (nodes contents : Option (List ℕ)) → IsDirectedAtOnce (layer_over null nodes contents manual)
+    by true nodes contents = tt
+    by false (Some nodes) (Some contents) = tt
+    by false (Some nodes) None = tt
+    by false None contents = tt
+layer_at_once (Some nodes) None manual = tt
+layer_at_once None contents manual = tt
+
+index_at_once : (index : ℤ) (at : ℕ → Directed) → ((index : ℕ) → IsDirectedAtOnce (at index)) → IsDirectedAtOnce (index_in index at)
+index_at_once (pos index) at each = each index
+index_at_once (negsuc less) at each = tt
+
+changed_at_once : (list : Directories) (index : ℕ) (found : Option Object) → IsDirectedAtOnce (change_to list index found)
+changed_at_once list index (Some found) = tt
+changed_at_once list index None = tt
+
+fallen_at_once : (index : ℕ) (found : Option Object) → IsDirectedAtOnce (fall_to index found)
+fallen_at_once index (Some found) = tt
+fallen_at_once index None = tt
+
+called_at_once : (name : Option (List ℕ)) (call : DirKind) (awaits_of : Layer → Awaits) (found : Object) (args : DirArgs)
+    → ((layer : Layer) → errand_of (awaits_of layer) ≡ AtOnce) → IsDirectedAtOnce (layer_called name call awaits_of found args)
+called_at_once name call awaits_of (object.Layer layer) args each = each layer
+called_at_once name call awaits_of (object.Directory layer path prefix layer_name) args each = each layer
+called_at_once name call awaits_of (object.Subspace prefix) args each = tt
+called_at_once name call awaits_of object.Null args each = tt
+
+moved_at_once : (scope : Scope) (name : List ℕ) (found : Object) (path : List (List ℕ)) → IsDirectedAtOnce (moved_to scope name found path)
+moved_at_once scope name (object.Layer layer) path = tt
+moved_at_once scope name (object.Directory layer path prefix layer_name) new_path = refl
+moved_at_once scope name (object.Subspace prefix) path = tt
+moved_at_once scope name object.Null path = tt
+
+subspace_at_once : (prefix : Option (List ℕ)) (directed : List ℕ → Directed) → ((prefix : List ℕ) → IsDirectedAtOnce (directed prefix))
+    → IsDirectedAtOnce (in_subspace prefix directed)
+subspace_at_once (Some prefix) directed each = each prefix
+subspace_at_once None directed each = tt
+
+inside_at_once : (is : Bool) (directed : Directed) → IsDirectedAtOnce directed → IsDirectedAtOnce (inside is directed)
+inside_at_once true directed at_once = at_once
+inside_at_once false directed at_once = tt
+
+unpacked_at_once : (read : Result Elements UnpackFault) → IsDirectedAtOnce (unpacked read)
+unpacked_at_once (Ok tuple) = tt
+unpacked_at_once (Err fault) = tt
+
+directed_at_once : (operation : DirectoryOperation) (scope : Scope) (name : List ℕ) (list : Directories) (stack : List Item)
+    → IsAskedAtOnce (directed operation scope name list stack)
+unfolding directed
+directed_at_once on_directories.CreateSubspace scope name list stack = asked_then (two_operands tuple_operand bytes_operand stack) _ (λ operands. tt)
+directed_at_once on_directories.CreateLayer scope name list stack =
+    asked_then (two_operands int_operand int_operand stack) _ (λ indices. asked_then (flag_operand indices.1) _
+    (λ manual. layer_at_once (object_at list.objects indices.0.0) (object_at list.objects indices.0.1) manual.0))
+directed_at_once on_directories.CreateOrOpen scope name list stack =
+    asked_then (two_operands path_operand name_operand stack) _
+    (λ operands. called_at_once (name_in scope name) kind.CreateOrOpen awaits.Opened (current list) _ (λ layer. refl))
+directed_at_once on_directories.Create scope name list stack =
+    asked_then (two_operands path_operand name_operand stack) _ (λ operands. asked_then (name_operand operands.1) _
+    (λ prefix. called_at_once (name_in scope name) kind.Create awaits.Opened (current list) _ (λ layer. refl)))
+directed_at_once on_directories.Open scope name list stack =
+    asked_then (two_operands path_operand name_operand stack) _
+    (λ operands. called_at_once (name_in scope name) kind.Open awaits.Opened (current list) _ (λ layer. refl))
+directed_at_once on_directories.Change scope name list stack =
+    asked_then (int_operand stack) _
+    (λ index. index_at_once index.0 _ (λ index. changed_at_once list index (slice_get list.objects index)))
+directed_at_once on_directories.SetErrorIndex scope name list stack =
+    asked_then (int_operand stack) _ (λ index. index_at_once index.0 _ (λ index. fallen_at_once index (slice_get list.objects index)))
+directed_at_once on_directories.Move scope name list stack =
+    asked_then (two_operands path_operand path_operand stack) _
+    (λ paths. called_at_once (name_in scope name) kind.MoveTo awaits.Opened (current list) _ (λ layer. refl))
+directed_at_once on_directories.MoveTo scope name list stack =
+    asked_then (path_operand stack) _ (λ path. moved_at_once scope name (current list) path.0)
+directed_at_once on_directories.Remove scope name list stack =
+    asked_then (path_if_given stack) _ (λ path. called_at_once (name_in scope name) kind.Remove _ (current list) _ (λ layer. refl))
+directed_at_once on_directories.RemoveIfExists scope name list stack =
+    asked_then (path_if_given stack) _ (λ path. called_at_once (name_in scope name) kind.RemoveIfExists _ (current list) _ (λ layer. refl))
+directed_at_once on_directories.List scope name list stack =
+    asked_then (path_if_given stack) _ (λ path. called_at_once (name_in scope name) kind.List _ (current list) _ (λ layer. refl))
+directed_at_once on_directories.Exists scope name list stack =
+    asked_then (path_if_given stack) _ (λ path. called_at_once (name_in scope name) kind.Exists _ (current list) _ (λ layer. refl))
+directed_at_once on_directories.PackKey scope name list stack =
+    asked_then (tuple_operand stack) _ (λ tuple. subspace_at_once (prefix_of (current list)) _ (λ prefix. tt))
+directed_at_once on_directories.UnpackKey scope name list stack =
+    asked_then (bytes_operand stack) _ (λ key. subspace_at_once (prefix_of (current list)) _ (λ prefix. inside_at_once (begins_with key.0 prefix)
+    (unpacked (read_tuple (behind prefix key.0))) (unpacked_at_once (read_tuple (behind prefix key.0)))))
+directed_at_once on_directories.Range scope name list stack =
+    asked_then (tuple_operand stack) _ (λ tuple. subspace_at_once (prefix_of (current list)) _ (λ prefix. tt))
+directed_at_once on_directories.Contains scope name list stack =
+    asked_then (bytes_operand stack) _ (λ key. subspace_at_once (prefix_of (current list)) _ (λ prefix. tt))
+directed_at_once on_directories.OpenSubspace scope name list stack =
+    asked_then (tuple_operand stack) _ (λ tuple. subspace_at_once (prefix_of (current list)) _ (λ prefix. tt))
+directed_at_once on_directories.LogSubspace scope name list stack =
+    asked_then (bytes_operand stack) _ (λ key. subspace_at_once (prefix_of (current list)) _ (λ prefix. refl))
+directed_at_once on_directories.LogDirectory scope name list stack =
+    asked_then (bytes_operand stack) _ (λ raw. called_at_once (Some name) kind.Log _ (current list) _ (λ layer. refl))
+directed_at_once on_directories.StripPrefix scope name list stack =
+    asked_then (bytes_operand stack) _ (λ key. subspace_at_once (prefix_of (current list)) _
+    (λ prefix. inside_at_once (begins_with key.0 prefix) (Gives (elem.Bytes (behind prefix key.0) ∷ [])) tt))
+
+directs_to_bounded : (polls number : ℕ) (appends : Bool) (registers : Registers) (directed : Directed) (stack : List Item) → IsDirectedAtOnce directed
+    → IsBoundedAct polls (room polls stack) (directs_to number appends registers directed)
+directs_to_bounded polls number appends registers (Appends object) stack at_once = tt
+directs_to_bounded polls number appends registers (Gives elements) stack at_once = tt
+directs_to_bounded polls number appends registers (Chooses index) stack at_once = tt
+directs_to_bounded polls number appends registers (FallsTo index) stack at_once = tt
+directs_to_bounded polls number appends registers (Faults name) stack at_once = tt
+directs_to_bounded polls number appends registers (directories.Asks request awaits) stack at_once =
+    at_once_bounded polls (errand_of awaits) registers.stack stack at_once
+
+directs_bounded : (polls number : ℕ) (appends : Bool) (registers : Registers) (popped : Popped Directed) → IsAskedAtOnce popped
+    → IsOf popped registers.stack → IsBoundedAct polls (room polls registers.stack) (directs number appends registers popped)
+directs_bounded polls number appends registers (Ok popped) is of =
+    directs_to_bounded polls number appends (with_stack registers popped.1) popped.0 registers.stack is
+directs_bounded polls number appends registers (Err refusal) is fair = refused_bounded polls number registers refusal fair
+
 -- LOG_STACK polls for an item among those that it takes, or has fewer items afterwards
 batch_bounded : (polls : ℕ) (life : Option ℕ) (registers : Registers) (prefix : List ℕ)
     → first_life (take LOG_BATCH registers.stack) ≡ life
@@ -289,6 +444,10 @@ act_bounded polls number registers (Some (instruction.OnTransaction operation)) 
 act_bounded polls number registers (Some (instruction.OnDatabase operation scope)) =
     calls_bounded polls number registers scope (call_of operation scope registers.stack) (call_at_once operation scope registers.stack)
     (of_call operation scope registers.stack)
+act_bounded polls number registers (Some (instruction.OnDirectories operation scope)) =
+    directs_bounded polls number (appends operation) registers (directed operation scope registers.name registers.directories registers.stack)
+    (directed_at_once operation scope registers.name registers.directories registers.stack)
+    (of_directed operation scope registers.name registers.directories registers.stack)
 act_bounded polls number registers (Some instruction.LogStack) =
     logs_stack_bounded polls number registers (bytes_operand registers.stack) (of_bytes registers.stack)
 act_bounded polls number registers (Some instruction.StartThread) =
@@ -335,9 +494,39 @@ load_known polls element stack some =
 
 -- ---- each reply
 
+-- the reply to a call on the directories doesn't let LOG_STACK go on
+directory_never_logs : (appends : Bool) (told : DirReply → Use) (given : Reply) (prefix : List ℕ)
+    → ((answer : DirReply) → told answer ≡ LogsOn prefix → ⊥) → directory_use appends told given ≡ LogsOn prefix → ⊥
+directory_never_logs appends told (reply.Dir answer) prefix never is = never answer is
+directory_never_logs appends told (reply.DirFault fault) prefix never is = cc
+directory_never_logs appends told given prefix never is = cc
+
+opened_never_logs : (layer : Layer) (prefix : List ℕ) (answer : DirReply) → opened_use layer answer ≡ LogsOn prefix → ⊥
+opened_never_logs layer prefix (directory.Opened own path layer_name) is = cc
+opened_never_logs layer prefix answer is = cc
+
+names_never_log : (prefix : List ℕ) (answer : DirReply) → names_use answer ≡ LogsOn prefix → ⊥
+names_never_log prefix (directory.Names names) is = cc
+names_never_log prefix answer is = cc
+
+existence_never_logs : (prefix : List ℕ) (answer : DirReply) → existence_use answer ≡ LogsOn prefix → ⊥
+existence_never_logs prefix (directory.Is is') is = cc
+existence_never_logs prefix answer is = cc
+
+subspace_never_logs : (given : Reply) (prefix : List ℕ) → subspace_use given ≡ LogsOn prefix → ⊥
+subspace_never_logs (reply.Fault code) prefix is = cc
+subspace_never_logs given prefix is = cc
+
 -- LOG_STACK goes on only where its next items are to be logged
 logs_on_logged : (awaiting : Awaits) (given : Reply) (prefix : List ℕ) → use_of awaiting given ≡ LogsOn prefix
     → errand_of awaiting ≡ Logs
+logs_on_logged (awaits.Opened layer) given prefix is =
+    absurd (directory_never_logs true (opened_use layer) given prefix (opened_never_logs layer prefix) is)
+logs_on_logged awaits.DirectoryDone given prefix is = absurd (directory_never_logs false (λ answer. Goes) given prefix (λ answer is. cc) is)
+logs_on_logged awaits.Names given prefix is = absurd (directory_never_logs false names_use given prefix (names_never_log prefix) is)
+logs_on_logged awaits.Existence given prefix is =
+    absurd (directory_never_logs false existence_use given prefix (existence_never_logs prefix) is)
+logs_on_logged awaits.SubspaceLogged given prefix is = absurd (subspace_never_logs given prefix is)
 logs_on_logged awaiting (reply.Fault code) prefix is = absurd cc
 logs_on_logged awaits.NotPresent reply.Done prefix is = absurd cc
 logs_on_logged awaits.Value (reply.Value value) prefix is = absurd cc
@@ -366,6 +555,8 @@ use_bounded polls number bound registers (LogsOn prefix) logged =
     bounded_above polls (room polls registers.stack) bound (logs_on registers prefix) (logged prefix refl)
     (logs_bounded polls registers prefix)
 use_bounded polls number bound registers LacksMachine logged = tt
+use_bounded polls number bound registers (machines.Appends object) logged = tt
+use_bounded polls number bound registers (machines.Faults appends name) logged = tt
 
 used_bounded : (polls number : ℕ) (registers : Registers) (awaiting : Awaits) (given : Reply)
     → IsBoundedAct polls (effort polls (errand_of awaiting) registers.stack) (used number registers (use_of awaiting given))

@@ -25,6 +25,9 @@ use Rattle.machine_rules.specs.declared.DatabaseOperation.TheVariants as on_data
 use Rattle.machine_rules.specs.declared.Scope.{Scope}
 use Rattle.machine_rules.specs.Operands.{Refusal, Missing, Unfit, Waiting, ◌>>=◌, Popped, known_by, bytes_of, string_of, int_of, count_of, code_of, flag_of, offset_of, limit_of, mode_of, item_operand, fitting, operand_by, operands_by, two_operands, element_operand, elements_operand, tuple_operand, byte_strings_operand, count_operand, bytes_operand, string_operand, int_operand, code_operand, flag_operand, offset_operand, limit_operand, mode_operand}
 use Rattle.machine_rules.specs.StackOperations.{pushed, stamp_answer, dup, swapped, pushed_integer, joined, pushed_or_unfit, pushed_stamped, pushed_elements, read_tuples, pushed_in_order, operated}
+use Rattle.machine_rules.specs.declared.directories.DirectoryOperation.{DirectoryOperation}
+use Rattle.machine_rules.specs.declared.directories.DirectoryOperation.TheVariants as on_directories
+use Rattle.machine_rules.specs.Directories.{Directories, text_of, path_operand, bytes_if_any, name_operand, given_of, path_where, path_if_given, directed}
 use Rattle.machine_rules.specs.Calls.{selector_operand, manner_operand, call_of, range_request, key_request, request_of}
 
 -- ---- items that wait
@@ -315,3 +318,61 @@ of_request on_transaction.ReadConflictKey name seen stack = of_key_request name 
 of_request on_transaction.WriteConflictKey name seen stack = of_key_request name call.WriteConflict stack
 of_request on_transaction.DisableWriteConflict name seen stack = left_itself stack
 of_request on_transaction.GetVersionstamp name seen stack = left_itself stack
+
+-- ---- operations on the directories
+
+of_path : (stack : List Item) → IsOf (path_operand stack) stack
+of_path stack =
+    of_then (count_operand stack) _ stack (of_count stack)
+    (λ count. of_operands (λ stack. operand_by text_of stack) count.0 count.1 (of_kind text_of))
+
+of_name : (stack : List Item) → IsOf (name_operand stack) stack
+of_name stack = of_kind bytes_if_any stack
+
+of_path_where : (given : Bool) (stack : List Item) → IsOf (path_where given stack) stack
+of_path_where true stack = of_path stack
+of_path_where false stack = left_itself stack
+
+of_path_if_given : (stack : List Item) → IsOf (path_if_given stack) stack
+of_path_if_given stack = of_then (operand_by given_of stack) _ stack (of_kind given_of stack) (λ given. of_path_where given.0 given.1)
+
+-- one operand, whatever is made of it
+of_one : {A B : Type 0} (popped : Popped A) (made : A → B) (stack : List Item) → IsOf popped stack
+    → IsOf (popped >>= (λ operand. Ok (made operand.0, operand.1))) stack
+of_one popped made stack of = of_then popped (λ operand. Ok (made operand.0, operand.1)) stack of (λ operand. left_itself operand.1)
+
+of_path_and_name : (stack : List Item) → IsOf (two_operands path_operand name_operand stack) stack
+of_path_and_name stack = of_two path_operand name_operand stack of_path of_name
+
+pub of_directed : (operation : DirectoryOperation) (scope : Scope) (name : List ℕ) (directories : Directories) (stack : List Item)
+    → IsOf (directed operation scope name directories stack) stack
+unfolding directed
+of_directed on_directories.CreateSubspace scope name directories stack =
+    of_one (two_operands tuple_operand bytes_operand stack) _ stack (of_two tuple_operand bytes_operand stack of_tuple of_bytes)
+of_directed on_directories.CreateLayer scope name directories stack =
+    of_then (two_operands int_operand int_operand stack) _ stack (of_two int_operand int_operand stack of_int of_int)
+    (λ indices. of_one (flag_operand indices.1) _ indices.1 (of_flag indices.1))
+of_directed on_directories.CreateOrOpen scope name directories stack =
+    of_one (two_operands path_operand name_operand stack) _ stack (of_path_and_name stack)
+of_directed on_directories.Create scope name directories stack =
+    of_then (two_operands path_operand name_operand stack) _ stack (of_path_and_name stack)
+    (λ operands. of_one (name_operand operands.1) _ operands.1 (of_name operands.1))
+of_directed on_directories.Open scope name directories stack =
+    of_one (two_operands path_operand name_operand stack) _ stack (of_path_and_name stack)
+of_directed on_directories.Change scope name directories stack = of_one (int_operand stack) _ stack (of_int stack)
+of_directed on_directories.SetErrorIndex scope name directories stack = of_one (int_operand stack) _ stack (of_int stack)
+of_directed on_directories.Move scope name directories stack =
+    of_one (two_operands path_operand path_operand stack) _ stack (of_two path_operand path_operand stack of_path of_path)
+of_directed on_directories.MoveTo scope name directories stack = of_one (path_operand stack) _ stack (of_path stack)
+of_directed on_directories.Remove scope name directories stack = of_one (path_if_given stack) _ stack (of_path_if_given stack)
+of_directed on_directories.RemoveIfExists scope name directories stack = of_one (path_if_given stack) _ stack (of_path_if_given stack)
+of_directed on_directories.List scope name directories stack = of_one (path_if_given stack) _ stack (of_path_if_given stack)
+of_directed on_directories.Exists scope name directories stack = of_one (path_if_given stack) _ stack (of_path_if_given stack)
+of_directed on_directories.PackKey scope name directories stack = of_one (tuple_operand stack) _ stack (of_tuple stack)
+of_directed on_directories.UnpackKey scope name directories stack = of_one (bytes_operand stack) _ stack (of_bytes stack)
+of_directed on_directories.Range scope name directories stack = of_one (tuple_operand stack) _ stack (of_tuple stack)
+of_directed on_directories.Contains scope name directories stack = of_one (bytes_operand stack) _ stack (of_bytes stack)
+of_directed on_directories.OpenSubspace scope name directories stack = of_one (tuple_operand stack) _ stack (of_tuple stack)
+of_directed on_directories.LogSubspace scope name directories stack = of_one (bytes_operand stack) _ stack (of_bytes stack)
+of_directed on_directories.LogDirectory scope name directories stack = of_one (bytes_operand stack) _ stack (of_bytes stack)
+of_directed on_directories.StripPrefix scope name directories stack = of_one (bytes_operand stack) _ stack (of_bytes stack)

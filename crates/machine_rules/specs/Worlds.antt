@@ -1,5 +1,5 @@
 -- The world, which all machines share, and the step that a request makes in it.
-use Rattle.std.specs.Prelude.{◌≡◌, ℕ, ◌==◌, nat_lt, Bool, true, false, if◌then◌else◌, List, [], ◌∷◌, ◌++◌, length, replicate, slice_set, slice_index_or, Option, Some, None, unwrap_or, is_some}
+use Rattle.std.specs.Prelude.{◌≡◌, ℕ, ◌+◌, ◌==◌, nat_lt, Bool, true, false, if◌then◌else◌, List, [], ◌∷◌, ◌++◌, length, replicate, slice_set, slice_index_or, Option, Some, None, Result, Ok, Err, unwrap_or, is_some}
 use Rattle.std.specs.FinMap as finite
 use Rattle.std.specs.List.{filter, list_any}
 use Rattle.key_bytes.specs.Keys.{begins_with, key_cmp, within}
@@ -13,6 +13,14 @@ use Rattle.command_rules.specs.declared.args.RunArgs.{RunArgs}
 use Rattle.outside.specs.Seeds.{words_of_seed}
 use Rattle.database_rules.specs.Transactions.{Transaction, fresh, with_version}
 use Rattle.database_rules.specs.declared.TheConstants.{TRANSACTION_CANCELLED}
+use Rattle.directory_types.specs.declared.Layer.{Layer}
+use Rattle.directory_types.specs.declared.DirArgs.{DirArgs}
+use Rattle.directory_types.specs.declared.DirKind.{DirKind}
+use Rattle.directory_types.specs.declared.DirReply.{DirReply}
+use Rattle.directory_types.specs.declared.fault.DirFault.{DirFault}
+use Rattle.directory_types.specs.declared.fault.DirFault.TheVariants as fault
+use Rattle.directory_rules.specs.Courses.{Reached}
+use Rattle.directory_rules.specs.Calls.{effect}
 use Rattle.fdb_calls.specs.declared.Outcome.{Outcome}
 use Rattle.fdb_calls.specs.declared.Outcome.TheVariants as outcome
 use Rattle.fdb_calls.specs.Outcomes.{outcome_of}
@@ -159,6 +167,43 @@ and_commit world made =
     let called' = made drawn (fresh_at_last world) in
     commit_made (called_apart drawn (fresh_at_last world) called') called'
 
+-- ---- directories
+
+-- what a call of a directory layer answered
+abbrev pub directory_reply : Result DirReply DirFault → Reply
+directory_reply (Ok answer) = reply.Dir answer
+directory_reply (Err fault) = reply.DirFault fault
+
+-- such a call on a transaction
+abbrev pub directory_called : Reached DirReply → Called
+directory_called reached = record { transaction = reached.transaction; commits = []; lives = 0; reply = directory_reply reached.end }
+
+-- so many of the random words were drawn
+abbrev pub with_drawn : World → (count : ℕ) → World
+with_drawn world count = record world { words = λ place. world.words (count + place) }
+
+-- on the transaction of a name
+abbrev pub directory_named : World → (name : List ℕ) → DirKind → Layer → DirArgs → Stepped
+directory_named world name kind layer args =
+    let reached = effect kind layer args world.setting world.words (transaction_of world name) in
+    stepped (with_drawn world reached.words) name (directory_called reached)
+
+-- a commit that is refused refuses the call
+abbrev pub refusing : Reply → Reply
+refusing (reply.Fault code) = reply.DirFault (fault.Tr code)
+refusing reply = reply
+
+-- on a transaction of its own, which is committed where the call wasn't refused
+abbrev pub directory_alone : World → DirKind → Layer → DirArgs → Stepped
+directory_alone world kind layer args =
+    let reached = effect kind layer args world.setting world.words (fresh_at_last world) in
+    let made = and_commit (with_drawn world reached.words) (λ drawn transaction. directory_called reached) in
+    record made { reply = refusing made.reply }
+
+abbrev pub directory_step : World → Option (List ℕ) → DirKind → Layer → DirArgs → Stepped
+directory_step world (Some name) kind layer args = directory_named (with_named world name) name kind layer args
+directory_step world None kind layer args = directory_alone world kind layer args
+
 -- ---- promises
 
 -- the reply to a poll
@@ -194,6 +239,7 @@ unfoldable pub step : World → Request → Stepped
 step world (request.New name) = record { world = with_new world name; reply = reply.Done }
 step world (request.On name call) = call_named (with_named world name) name call
 step world (request.Database call) = and_commit world (λ drawn transaction. called drawn.setting (next_life drawn) transaction call)
+step world (request.Directory name layer kind args) = directory_step world name kind layer args
 step world (request.Log prefix entries) = and_commit world (λ drawn transaction. in_turn (logs prefix entries) transaction)
 step world (request.PollStamp life) = record { world = world; reply = promised (slice_index_or world.lives life None) }
 step world (request.PollEmpty prefix) =

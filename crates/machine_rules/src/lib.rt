@@ -9,6 +9,10 @@
 //! The few types that the machine and its definitions share stand in `src/`.
 #![tactic(auto)]
 
+mod directories;
+
+pub use directories::{DirectoryOperation, Object};
+use directory_types::Layer;
 use fdb_tuple::Elem;
 use key_bytes::Bytes;
 
@@ -43,7 +47,7 @@ pub enum End {
     MachineLimit(u64),
 }
 
-/// An error that a machine noted: the number of the instruction that was run, and the digits of the code.
+/// An error that a machine noted: the number of the instruction that was run, and the digits of the code or the name of the fault.
 #[derive(Debug, Drop)]
 pub struct ErrorNote {
     pub instruction: u64,
@@ -104,6 +108,16 @@ pub enum Awaits {
     /// The fixed text `WAITED_FOR_EMPTY` is pushed once no key begins with the prefix. So many polls were answered that it
     /// isn't so yet.
     Empty { prefix: Bytes, polled: u32 },
+    /// The directory of this layer that was opened is appended to the list of directories, or null where the call is refused.
+    Opened { layer: Layer },
+    /// Nothing is pushed of a call on a directory that has nothing to tell.
+    DirectoryDone,
+    /// The names of the directories are pushed, as one packed tuple.
+    Names,
+    /// 1 is pushed where there is such a directory, and else 0.
+    Existence,
+    /// Nothing is pushed; the prefix of a subspace was logged.
+    SubspaceLogged,
 }
 
 /// What a machine is about to do.
@@ -236,6 +250,8 @@ pub enum Instruction {
     OnTransaction(TransactionOperation),
     /// Calls the database in one of its forms.
     OnDatabase(DatabaseOperation, Scope),
+    /// Works on the directories, in one of its forms where it asks a layer.
+    OnDirectories(DirectoryOperation, Scope),
     /// Pops a prefix, and writes all items of the stack under it, at most `LOG_BATCH` in one commit.
     LogStack,
     /// Pops a prefix, and starts a machine under it.

@@ -1,32 +1,40 @@
 -- Each world that deeds reach holds a grown history, and each of its transactions is held.
 use Rattle.std.proofs.Common.{◌≡◌, ℕ, Bool, true, false, cond, List, [], ◌∷◌, ◌++◌, length, Option, Some, None, refl, sym, ap, subst, ◌∙◌}
-use Rattle.std.specs.Prelude.{is_some, nat_lt, unwrap_or}
+use Rattle.std.specs.Prelude.{is_some, length, nat_lt, option_map, slice_get, unwrap_or}
 use Rattle.std.specs.FinMap as finite
 use Rattle.std.specs.Ordering.{eq_by_cmp}
 use Rattle.std.specs.Cmp.Lexicographic.{nat_list_cmp_total}
 use Rattle.std.proofs.lemmas.Bool.{cond_both}
 use Rattle.std.proofs.lemmas.List.{append_assoc, append-nil}
-use Rattle.std.proofs.lemmas.Option.{none-some, same_Some}
+use Rattle.std.proofs.lemmas.Option.{none-some, option_and_then_some, same_Some}
 use Rattle.key_bytes.specs.Keys.{key_cmp}
 use Rattle.command_rules.specs.declared.args.RunArgs.{RunArgs}
 use Rattle.database_rules.specs.Histories.{Commit, History, Setting, loaded}
-use Rattle.database_rules.specs.Transactions.{Transaction, fresh}
-use Rattle.fdb_calls.specs.declared.Reply.TheVariants as reply
+use Rattle.database_rules.specs.Transactions.{Transaction, fresh, view}
 use Rattle.fdb_calls.specs.declared.Request.{Request}
 use Rattle.fdb_calls.specs.declared.Request.TheVariants as request
 use Rattle.fdb_calls.specs.declared.TxnCall.{TxnCall}
 use Rattle.fdb_calls.specs.declared.TxnCall.TheVariants as call
-use Rattle.fdb_calls.specs.Calling.{Called, answers, called, in_turn, is_fault, logs}
+use Rattle.fdb_calls.specs.Calling.{Called, called, in_turn, is_fault, logs}
 use Rattle.machine_rules.specs.declared.TheConstants.{MACHINES}
 use Rattle.machine_rules.specs.Worlds.{World, Transactions, and_commit, begun, call_named, called_apart, database_by, fresh_at_last, next_life, start_by, step, stepped, transaction_of, with_lives, with_named, with_new}
 use Rattle.allocator_rules.specs.Granting.{Ending, Grants, IsFull, IsNoCounter, IsRefused, allocated}
-use Rattle.prefix_laws.specs.Allocating.{Deed, Takes, Allocates, all_done, done, with_call, world_after}
-use Rattle.prefix_laws.specs.Prefixes.{ArePrefixesApart}
+use Rattle.machine_rules.specs.Machines.{Progress}
+use Rattle.machine_rules.specs.Runs.{Run, start, taken, replied, take_place, run_from}
+use Rattle.machine_rules.specs.Worlds.{directory_called, directory_named, directory_alone, directory_step, with_drawn}
+use Rattle.directory_types.specs.declared.Layer.{Layer}
+use Rattle.directory_types.specs.declared.DirArgs.{DirArgs}
+use Rattle.directory_types.specs.declared.DirKind.{DirKind}
+use Rattle.allocator_rules.proofs.Keeping.{EachKeeps}
+use Rattle.directory_rules.specs.Calls.{course, effect}
+use Rattle.directory_rules.proofs.Keeping.{run_keeps}
+use Rattle.prefix_laws.specs.Worlds.{all_taken, world_after}
+use Rattle.prefix_laws.specs.Prefixes.{ArePrefixesApart, RunsArePrefixesApart}
 use Rattle.prefix_laws.specs.Held.{AreHeld, AreSound, IsGrown, IsHeld, IsReached}
 use Rattle.prefix_laws.proofs.Fitting.{grown_apart}
 use Rattle.prefix_laws.proofs.Granting.{granted_has, other_grown}
 use Rattle.prefix_laws.proofs.Holding.{fresh_held, granted_held, grown_held, later_held, version_held}
-use Rattle.prefix_laws.proofs.Stepping.{IsGood, answers_good, called_good, in_turn_good, logs_keeping}
+use Rattle.prefix_laws.proofs.Stepping.{IsGood, act_good, called_good, in_turn_good, logs_keeping}
 
 -- ---- histories
 
@@ -162,24 +170,7 @@ start_reached : (there_is_room : Bool) (world : World) (prefix : List ℕ) → I
 start_reached true world prefix reached = record { grown = reached.grown; held = reached.held }
 start_reached false world prefix reached = reached
 
--- ---- deeds
-
--- a request leaves a reached world
-step_reached : (world : World) (given : Request) → IsReached world → IsReached (step world given).world
-unfolding step
-step_reached world (request.New name) reached = new_reached world name reached
-step_reached world (request.On name its_call) reached = call_reached world name its_call reached
-step_reached world (request.Database its_call) reached =
-    let drawn = record world { lives = with_lives world.lives 1 } in
-    and_commit_reached world (λ drawn transaction. called drawn.setting (next_life drawn) transaction its_call) reached
-    (called_good world.setting (next_life drawn) (fresh_at_last world) its_call (own_held world))
-step_reached world (request.Log prefix entries) reached =
-    and_commit_reached world (λ drawn transaction. in_turn (logs prefix entries) transaction) reached
-    (in_turn_good world.setting.history (logs prefix entries) (fresh_at_last world) (logs_keeping world.setting.history prefix entries)
-    (own_held world))
-step_reached world (request.PollStamp life) reached = reached
-step_reached world (request.PollEmpty prefix) reached = reached
-step_reached world (request.Start prefix) reached = start_reached (nat_lt (length world.started) MACHINES) world prefix reached
+-- ---- calls of directory layers
 
 -- a call of an allocator keeps what is held, whatever it ended with
 allocated_held : (setting : Setting) (transaction : Transaction) (space : List ℕ) (words : ℕ → ℕ)
@@ -200,24 +191,68 @@ allocated_held setting transaction space words held = by (allocated setting tran
     by (IsNoCounter key) is = other (λ number grants. absurd cc)
     by (IsRefused code) is = other (λ number grants. absurd cc)
 
--- a call of an allocator on the transaction of a name leaves a reached world
-with_call_reached : (world : World) (name space : List ℕ) → IsReached world → IsReached (with_call world name space)
-with_call_reached world name space reached =
-    let made = answers (allocated world.setting (transaction_of world name) space world.words).transaction reply.Done in
-    let left = stepped_reached world name made reached (answers_good world.setting.history made.transaction reply.Done
-    (allocated_held world.setting (transaction_of world name) space world.words (named_held world name reached))) in
+-- each act of one keeps what is held
+acts_keep : (setting : Setting) → EachKeeps setting (IsHeld setting.history)
+acts_keep setting transaction act held = (act_good setting transaction act held).held
+
+-- a call of a directory layer leaves a transaction that is held, and makes no commit
+directory_good : (setting : Setting) (its_call : DirKind) (layer : Layer) (args : DirArgs) (words : ℕ → ℕ) (transaction : Transaction)
+    → IsHeld setting.history transaction → IsGood setting.history (directory_called (effect its_call layer args setting words transaction))
+unfolding effect
+directory_good setting its_call layer args words transaction held = record {
+  held = run_keeps setting (IsHeld setting.history) words (course its_call (length (finite.entries (view setting transaction))) layer args) transaction
+      (acts_keep setting) (λ t space words held. allocated_held setting t space words held) held;
+  sound = tt;
+}
+
+-- one on the transaction of a name
+directory_named_reached : (world : World) (name : List ℕ) (its_call : DirKind) (layer : Layer) (args : DirArgs) → IsReached world
+    → IsReached (directory_named world name its_call layer args).world
+directory_named_reached world name its_call layer args reached =
+    let made = effect its_call layer args world.setting world.words (transaction_of world name) in
+    let left = stepped_reached world name (directory_called made) reached
+    (directory_good world.setting its_call layer args world.words (transaction_of world name) (named_held world name reached)) in
     record { grown = left.grown; held = left.held }
 
--- and so does each deed
-done_reached : (world : World) (deed : Deed) → IsReached world → IsReached (done world deed)
-done_reached world (Takes request) reached = step_reached world request reached
-done_reached world (Allocates name space) reached =
-    with_call_reached (with_named world name) name space (named_reached world name reached)
+-- and one on a transaction of its own, which is committed
+directory_alone_reached : (world : World) (its_call : DirKind) (layer : Layer) (args : DirArgs) → IsReached world
+    → IsReached (directory_alone world its_call layer args).world
+directory_alone_reached world its_call layer args reached =
+    let made = effect its_call layer args world.setting world.words (fresh_at_last world) in
+    and_commit_reached (with_drawn world made.words) (λ drawn transaction. directory_called made)
+    (record { grown = reached.grown; held = reached.held })
+    (directory_good world.setting its_call layer args world.words (fresh_at_last world) (own_held world))
 
--- and deeds one after the other
-all_done_reached : (world : World) (deeds : List Deed) → IsReached world → IsReached (all_done world deeds)
-all_done_reached world [] reached = reached
-all_done_reached world (deed ∷ deeds) reached = all_done_reached (done world deed) deeds (done_reached world deed reached)
+directory_reached : (world : World) (name : Option (List ℕ)) (its_call : DirKind) (layer : Layer) (args : DirArgs) → IsReached world
+    → IsReached (directory_step world name its_call layer args).world
+directory_reached world None its_call layer args reached = directory_alone_reached world its_call layer args reached
+directory_reached world (Some name) its_call layer args reached =
+    directory_named_reached (with_named world name) name its_call layer args (named_reached world name reached)
+
+-- ---- requests
+
+-- a request leaves a reached world
+step_reached : (world : World) (given : Request) → IsReached world → IsReached (step world given).world
+unfolding step
+step_reached world (request.New name) reached = new_reached world name reached
+step_reached world (request.On name its_call) reached = call_reached world name its_call reached
+step_reached world (request.Database its_call) reached =
+    let drawn = record world { lives = with_lives world.lives 1 } in
+    and_commit_reached world (λ drawn transaction. called drawn.setting (next_life drawn) transaction its_call) reached
+    (called_good world.setting (next_life drawn) (fresh_at_last world) its_call (own_held world))
+step_reached world (request.Directory name layer its_call args) reached = directory_reached world name its_call layer args reached
+step_reached world (request.Log prefix entries) reached =
+    and_commit_reached world (λ drawn transaction. in_turn (logs prefix entries) transaction) reached
+    (in_turn_good world.setting.history (logs prefix entries) (fresh_at_last world) (logs_keeping world.setting.history prefix entries)
+    (own_held world))
+step_reached world (request.PollStamp life) reached = reached
+step_reached world (request.PollEmpty prefix) reached = reached
+step_reached world (request.Start prefix) reached = start_reached (nat_lt (length world.started) MACHINES) world prefix reached
+
+-- and so do requests one after the other
+all_taken_reached : (world : World) (requests : List Request) → IsReached world → IsReached (all_taken world requests)
+all_taken_reached world [] reached = reached
+all_taken_reached world (given ∷ requests) reached = all_taken_reached (step world given).world requests (step_reached world given reached)
 
 -- the world at the beginning is reached, whatever the random words are
 begun_reached : (pairs : List (List ℕ × List ℕ)) (arguments : RunArgs) (words : ℕ → ℕ)
@@ -231,7 +266,34 @@ begun_reached pairs arguments words = record {
 
 -- the numbers that an allocator granted in transactions that committed are apart
 pub prefixes_apart : ArePrefixesApart
-prefixes_apart pairs arguments words deeds space =
-    let world = world_after pairs arguments words deeds in
-    let reached = all_done_reached (record (begun pairs arguments) { words = words }) deeds (begun_reached pairs arguments words) in
+prefixes_apart pairs arguments words requests space =
+    let world = world_after pairs arguments words requests in
+    let reached = all_taken_reached (record (begun pairs arguments) { words = words }) requests (begun_reached pairs arguments words) in
     grown_apart world.setting.history reached.grown space
+
+-- the request of a machine is a step
+place_reached : (machine_number : ℕ) (run after : Run) → IsReached run.world → take_place machine_number run ≡ Some after → IsReached after.world
+unfolding take_place
+place_reached machine_number run after reached is =
+    option_and_then_some (λ progress. taken run machine_number progress) (slice_get run.machines machine_number) after is
+    (λ progress found asked. by progress progress.asks asked)
+  where
+    by : (progress : Progress) (asks : Option Request)
+        → option_map (λ given. replied run machine_number progress.machine given (step run.world given)) asks ≡ Some after → IsReached after.world
+    by progress None asked = absurd (none-some after asked)
+    by progress (Some given) asked =
+        subst (λ (left : Run). IsReached left.world)
+        (same_Some (replied run machine_number progress.machine given (step run.world given)) after asked) (step_reached run.world given reached)
+
+run_reached : (order : List ℕ) (run after : Run) → IsReached run.world → run_from order run ≡ Some after → IsReached after.world
+unfolding run_from
+run_reached [] run after reached is = subst (λ (left : Run). IsReached left.world) (same_Some run after is) reached
+run_reached (machine_number ∷ order) run after reached is =
+    option_and_then_some (λ next. run_from order next) (take_place machine_number run) after is
+    (λ next found goes_on. run_reached order next after (place_reached machine_number run next reached found) goes_on)
+
+-- and so in each run of machines
+pub runs_apart : RunsArePrefixesApart
+runs_apart pairs arguments order run is space =
+    let reached = run_reached order (start pairs arguments) run (begun_reached pairs arguments (begun pairs arguments).words) is in
+    grown_apart run.world.setting.history reached.grown space

@@ -15,11 +15,13 @@ use Rattle.database_rules.specs.Histories.{History, Setting, at, conflicts, last
 use Rattle.database_rules.specs.Modes.{lacks_limit}
 use Rattle.database_rules.specs.Reads.{Read}
 use Rattle.database_rules.specs.Reads as read
-use Rattle.database_rules.specs.Transactions.{Transaction, atomic_code, clear_code, commit_code, conflict_checks, first_failing, is_ahead, is_cancelled, is_read_only, is_retryable, late_checks, phase_code, range_code, read_code, set_code, set_version_code, version_in, with_phase, with_version, cancelled}
+use Rattle.database_rules.specs.Transactions.{Transaction, atomic_code, clear_code, commit_code, conflict_checks, first_failing, is_ahead, is_cancelled, is_read_only, is_retryable, late_checks, op_code, phase_code, range_code, read_code, set_code, set_version_code, version_in, with_phase, with_version, cancelled}
 use Rattle.fdb_calls.specs.declared.Reply.{Reply}
 use Rattle.fdb_calls.specs.declared.TxnCall.{TxnCall}
 use Rattle.fdb_calls.specs.declared.TxnCall.TheVariants as call
 use Rattle.fdb_calls.specs.Calling.{Called, answers, atomic_by, called, code_of, commit_allowed, commit_at_version, commit_by, commit_of, commit_refused, does_by, error_handled, in_turn, is_fault, logs, next_version, on_error_by, read_at_version, read_by, read_called, reset, set_called, write_by}
+use Rattle.database_rules.specs.Intervals.{one}
+use Rattle.allocator_rules.specs.Acts.{Act, Draws, Reads, Writes, Silences, Declares, act_called}
 use Rattle.prefix_laws.specs.Prefixes.{IsGranting}
 use Rattle.prefix_laws.specs.Held.{AreSound, HasGrown, IsFitCommit, IsGrantIn, IsGrantOf, IsHeld, IsSpent}
 use Rattle.prefix_laws.proofs.Holding.{cancelled_held, fresh_held, grown_held, phase_held, version_held}
@@ -237,6 +239,27 @@ called_good setting life transaction (call.OnError code) held =
 called_good setting life transaction call.Reset held = reset_good setting.history life
 called_good setting life transaction call.Cancel held =
     answers_good setting.history (cancelled transaction) _ (cancelled_held setting.history transaction held)
+
+-- ---- acts
+
+-- each act of a layer
+pub act_good : (setting : Setting) (transaction : Transaction) (act : Act) → IsHeld setting.history transaction
+    → IsGood setting.history (act_called setting transaction act)
+act_good setting transaction Draws held = answers_good setting.history transaction _ held
+act_good setting transaction (Reads read snapshot) held = read_good setting transaction false snapshot read held
+act_good setting transaction (Writes (Set key value)) held = set_good setting.history transaction key value held
+act_good setting transaction (Writes (Clear key)) held =
+    write_good setting.history (clear_code transaction.phase key) transaction (Clear key) held
+act_good setting transaction (Writes (ClearRange begin end)) held =
+    write_good setting.history (range_code transaction.phase begin end) transaction (ClearRange begin end) held
+act_good setting transaction (Writes (Atomic op key operand)) held =
+    write_good setting.history (op_code transaction.phase op key operand) transaction (Atomic op key operand) held
+act_good setting transaction Silences held =
+    grown_good setting.history transaction _ (no_commit_does (phase_code transaction.phase) transaction _ _)
+    (no_write_conflict_called_grown transaction) held
+act_good setting transaction (Declares key) held =
+    grown_good setting.history transaction _ (no_commit_does (range_code transaction.phase (one key).begin (one key).end) transaction _ _)
+    (write_conflict_called_grown transaction (one key)) held
 
 -- ---- calls made one after the other
 

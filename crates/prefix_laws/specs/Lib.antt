@@ -1,3 +1,3 @@
-pub mod Allocating
+pub mod Worlds
 pub mod Prefixes
 pub mod Held

@@ -2,11 +2,13 @@
 use Rattle.std.specs.Prelude.{◌≡◌, ℕ, ◌+◌, ◌<◌, ◌≤◌, ⊤, Bool, true, false, if◌then◌else◌, List, [], ◌∷◌, drop, flat_map, Some, slice_get, bytes_eq}
 use Rattle.key_bytes.specs.Keys.{begins_with}
 use Rattle.database_rules.specs.Databases.{Mutation}
-use Rattle.database_rules.specs.Histories.{Script, Entry, Wrote, HasRead, Granted, Commit, stamp_of}
+use Rattle.database_rules.specs.Histories.{Script, Entry, Wrote, HasRead, Granted, Commit, History, stamp_of}
 use Rattle.database_rules.specs.States.{filled, touches}
 use Rattle.command_rules.specs.declared.args.RunArgs.{RunArgs}
 use Rattle.allocator_rules.specs.Counters.{packed}
-use Rattle.prefix_laws.specs.Allocating.{Deed, world_after}
+use Rattle.fdb_calls.specs.declared.Request.{Request}
+use Rattle.machine_rules.specs.Runs.{Run, run_from, start}
+use Rattle.prefix_laws.specs.Worlds.{world_after}
 
 -- ---- the premise
 
@@ -61,8 +63,16 @@ abbrev pub AreApart : List ℕ → Type 0
 AreApart numbers = (place later one other : ℕ) → place < later → slice_get numbers place ≡ Some one → slice_get numbers later ≡ Some other
     → IsApart one other
 
--- whatever pairs were loaded, whatever the random words are and whatever is done
+-- in a history past its first commit, where the allocator of a subspace alone wrote there
+abbrev pub GrantsAreApart : History → Type 0
+GrantsAreApart history = (space : List ℕ) → AreGranting space 1 (drop 1 history) → AreApart (all_grants space (drop 1 history))
+
+-- whatever pairs were loaded, whatever the random words are and whatever is asked
 abbrev pub ArePrefixesApart : Type 0
-ArePrefixesApart = (pairs : List (List ℕ × List ℕ)) (arguments : RunArgs) (words : ℕ → ℕ) (deeds : List Deed) (space : List ℕ)
-    → AreGranting space 1 (drop 1 (world_after pairs arguments words deeds).setting.history)
-    → AreApart (all_grants space (drop 1 (world_after pairs arguments words deeds).setting.history))
+ArePrefixesApart = (pairs : List (List ℕ × List ℕ)) (arguments : RunArgs) (words : ℕ → ℕ) (requests : List Request)
+    → GrantsAreApart (world_after pairs arguments words requests).setting.history
+
+-- and in each run of machines
+abbrev pub RunsArePrefixesApart : Type 0
+RunsArePrefixesApart = (pairs : List (List ℕ × List ℕ)) (arguments : RunArgs) (order : List ℕ) (run : Run)
+    → run_from order (start pairs arguments) ≡ Some run → GrantsAreApart run.world.setting.history

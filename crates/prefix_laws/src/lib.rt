@@ -1,16 +1,17 @@
-//! What holds of the numbers that allocators grant, in every history that requests and calls of allocators leave: those that one
-//! allocator granted in transactions that committed are distinct, and no packed one begins with another.
+//! What holds of the numbers that allocators grant, in every history that requests leave: those that one allocator granted in
+//! transactions that committed are distinct, and no packed one begins with another.
 //!
 //! It is so under a premise on the allocator's subspace: every write past the first commit that touches one of its keys was made
-//! by a call of the allocator on it that granted a number (`specs/Prefixes.antt`). Such a call is a step of its own here
-//! (`specs/Allocating.antt`). It is a law of the definitions, proved once.
+//! by a call of the allocator on it that granted a number (`specs/Prefixes.antt`). Calls of directory layers call the allocator. It is a
+//! law of the definitions, proved once: for any requests, and for the runs of machines.
 #![tactic(auto)]
 
-ghost use Rattle.prefix_laws.specs.Prefixes.{ArePrefixesApart};
+ghost use Rattle.prefix_laws.specs.Prefixes.{ArePrefixesApart, RunsArePrefixesApart};
 
 /// For proofs: the numbers that an allocator granted in transactions that committed are apart. It does nothing when it runs.
 pub fn prefixes_are_apart()
-    ensures { ArePrefixesApart }
+    ensures requests { ArePrefixesApart }
+    ensures runs { RunsArePrefixesApart }
 {}
 
 #[cfg(test)]

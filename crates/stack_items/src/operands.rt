@@ -134,8 +134,8 @@ impl<'a> Operands<'a> {
         string_of(self.element()?).ok_or(StackFault::Operand)
     }
 
-    // An integer.
-    pub(crate) fn int(&mut self) -> Result<i128, StackFault>
+    /// An integer.
+    pub fn int(&mut self) -> Result<i128, StackFault>
         ensures { Looks (λ number. number) result int_operand self.old self.new }
     {
         int_of(self.element()?).ok_or(StackFault::Operand)
@@ -150,8 +150,8 @@ impl<'a> Operands<'a> {
         Ok((first, second))
     }
 
-    // An integer from 0 upward.
-    pub(crate) fn count(&mut self) -> Result<u128, StackFault>
+    /// An integer from 0 upward.
+    pub fn count(&mut self) -> Result<u128, StackFault>
         ensures { Looks (λ count. count) result count_operand self.old self.new }
     {
         int_of(self.element()?)
@@ -212,8 +212,8 @@ impl<'a> Operands<'a> {
         Ok(())
     }
 
-    // The next item, where it is known.
-    fn element(&mut self) -> Result<&'a Elem, StackFault>
+    /// An element of any kind.
+    pub fn element(&mut self) -> Result<&'a Elem, StackFault>
         ensures { Looks (λ element. element.now) result element_operand self.old self.new }
     {
         let item = self.next().ok_or(StackFault::Underflow)?;

@@ -1,5 +1,5 @@
 pub mod Names
 pub mod Again
-pub mod Elements
 pub mod Forms
 pub mod Within
+pub mod Replied

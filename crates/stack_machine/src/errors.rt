@@ -1,28 +1,20 @@
 //! The errors that a machine notes.
 
-ghost use Rattle.std.specs.Prelude.{◌≡◌, [], ◌∷◌, ◌++◌, decimal, codes, IfOk, OnOk};
+ghost use Rattle.std.specs.Prelude.{◌≡◌, ◌∷◌, [], ◌++◌, codes, IfOk, OnOk};
 ghost use Rattle.fdb_tuple.specs.Tuples.{Empty, Single};
 ghost use Rattle.fdb_tuple.specs.Tuples as scalar;
 ghost use Rattle.fdb_tuple.specs.Listed.{elements_of};
 ghost use Rattle.machine_rules.specs.Machines.{error_item};
 
 use fdb_tuple::{Elem, PushFault, Tuple, pack};
-use itoa::Buffer;
 use key_bytes::Bytes;
 use lists::List;
 use machine_rules::ErrorNote;
+use stack_directories::digits_of;
 use std::alloc::{AllocError, Global};
 
 /// The errors that a machine noted, in the order in which they arose.
 pub type Errors = List<ErrorNote>;
-
-/// The digits of a code.
-pub fn digits_of(alloc: Global, code: u16) -> Result<Bytes, AllocError>
-    ensures { IfOk result (λ digits. digits ≡ decimal code) }
-{
-    let mut buffer = Buffer::new();
-    Bytes::from_slice(alloc, buffer.format(code).as_bytes())
-}
 
 /// The item that tells of a code.
 pub fn error_item(alloc: Global, code: u16) -> Result<Elem, AllocError>

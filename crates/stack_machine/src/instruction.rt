@@ -4,15 +4,17 @@ ghost use Rattle.std.specs.Prelude.{◌≡◌, [], ◌∷◌, Some, Ok, IfOk, If
 ghost use Rattle.fdb_tuple.specs.Reading.{read_tuple};
 ghost use Rattle.fdb_tuple.specs.Tuples.{Empty, Single, Text};
 ghost use Rattle.machine_rules.specs.Operands.{bytes_of};
-ghost use Rattle.machine_rules.specs.Instructions.{stack_operation, transaction_operation, database_operation};
+ghost use Rattle.machine_rules.specs.Instructions.{stack_operation, transaction_operation, database_operation, directory_operation};
 ghost use Rattle.machine_rules.specs.Instructions.{bare_instruction, named_instruction, instruction_in, instruction_of};
-ghost use Rattle.stack_machine.specs.Forms.{read_form, write_form};
+ghost use Rattle.stack_machine.specs.Forms.{read_form, write_form, removal_operation, listing_operation, subspace_operation};
 ghost use Rattle.stack_machine.specs.Pushes.{PushesAnElement};
 ghost use Rattle.fdb_tuple.specs.Listed.{IsElement};
-ghost use Rattle.stack_machine.specs.Pushes.{AreElements};
+ghost use Rattle.stack_directories.specs.Directing.{AreElements};
 
 use fdb_tuple::{Elem, UnpackFault, unpack};
-use machine_rules::{DatabaseOperation, Instruction, Scope, StackOperation, TransactionOperation};
+use machine_rules::{
+    DatabaseOperation, DirectoryOperation, Instruction, Scope, StackOperation, TransactionOperation,
+};
 use stack_items::bytes_of;
 use std::alloc::{AllocError, Global};
 
@@ -125,6 +127,9 @@ fn bare_instruction(name: &[u8]) -> Option<Instruction>
     if let Some((operation, scope)) = database_operation(name) {
         return Some(Instruction::OnDatabase(operation, scope));
     }
+    if let Some((operation, scope)) = directory_operation(name) {
+        return Some(Instruction::OnDirectories(operation, scope));
+    }
     stack_operation(name).map(Instruction::OnStack)
 }
 
@@ -189,6 +194,83 @@ fn database_operation(name: &[u8]) -> Option<(DatabaseOperation, Scope)>
         Some((DatabaseOperation::ClearRangeStartsWith, scope))
     } else if let Some(scope) = write_form(name, b"ATOMIC_OP") {
         Some((DatabaseOperation::AtomicOp, scope))
+    } else {
+        None
+    }
+}
+
+fn directory_operation(name: &[u8]) -> Option<(DirectoryOperation, Scope)>
+    ensures { result ≡ directory_operation name.now }
+{
+    if name == b"DIRECTORY_CREATE_SUBSPACE".as_slice() {
+        Some((DirectoryOperation::CreateSubspace, Scope::Transaction))
+    } else if name == b"DIRECTORY_CREATE_LAYER".as_slice() {
+        Some((DirectoryOperation::CreateLayer, Scope::Transaction))
+    } else if let Some(scope) = write_form(name, b"DIRECTORY_CREATE_OR_OPEN") {
+        Some((DirectoryOperation::CreateOrOpen, scope))
+    } else if let Some(scope) = write_form(name, b"DIRECTORY_CREATE") {
+        Some((DirectoryOperation::Create, scope))
+    } else if let Some(scope) = read_form(name, b"DIRECTORY_OPEN") {
+        Some((DirectoryOperation::Open, scope))
+    } else if name == b"DIRECTORY_CHANGE".as_slice() {
+        Some((DirectoryOperation::Change, Scope::Transaction))
+    } else if name == b"DIRECTORY_SET_ERROR_INDEX".as_slice() {
+        Some((DirectoryOperation::SetErrorIndex, Scope::Transaction))
+    } else {
+        removal_operation(name)
+    }
+}
+
+// The operation of a name of those that move or remove, and of those behind them.
+fn removal_operation(name: &[u8]) -> Option<(DirectoryOperation, Scope)>
+    ensures { result ≡ removal_operation name.now }
+{
+    if let Some(scope) = write_form(name, b"DIRECTORY_MOVE") {
+        Some((DirectoryOperation::Move, scope))
+    } else if let Some(scope) = write_form(name, b"DIRECTORY_MOVE_TO") {
+        Some((DirectoryOperation::MoveTo, scope))
+    } else if let Some(scope) = write_form(name, b"DIRECTORY_REMOVE") {
+        Some((DirectoryOperation::Remove, scope))
+    } else if let Some(scope) = write_form(name, b"DIRECTORY_REMOVE_IF_EXISTS") {
+        Some((DirectoryOperation::RemoveIfExists, scope))
+    } else {
+        listing_operation(name)
+    }
+}
+
+// The operation of a name of those that list or find, and of those behind them.
+fn listing_operation(name: &[u8]) -> Option<(DirectoryOperation, Scope)>
+    ensures { result ≡ listing_operation name.now }
+{
+    if let Some(scope) = read_form(name, b"DIRECTORY_LIST") {
+        Some((DirectoryOperation::List, scope))
+    } else if let Some(scope) = read_form(name, b"DIRECTORY_EXISTS") {
+        Some((DirectoryOperation::Exists, scope))
+    } else {
+        subspace_operation(name)
+    }
+}
+
+// The operation of a name of those on subspaces and logs.
+fn subspace_operation(name: &[u8]) -> Option<(DirectoryOperation, Scope)>
+    ensures { result ≡ subspace_operation name.now }
+{
+    if name == b"DIRECTORY_PACK_KEY".as_slice() {
+        Some((DirectoryOperation::PackKey, Scope::Transaction))
+    } else if name == b"DIRECTORY_UNPACK_KEY".as_slice() {
+        Some((DirectoryOperation::UnpackKey, Scope::Transaction))
+    } else if name == b"DIRECTORY_RANGE".as_slice() {
+        Some((DirectoryOperation::Range, Scope::Transaction))
+    } else if name == b"DIRECTORY_CONTAINS".as_slice() {
+        Some((DirectoryOperation::Contains, Scope::Transaction))
+    } else if name == b"DIRECTORY_OPEN_SUBSPACE".as_slice() {
+        Some((DirectoryOperation::OpenSubspace, Scope::Transaction))
+    } else if name == b"DIRECTORY_LOG_SUBSPACE".as_slice() {
+        Some((DirectoryOperation::LogSubspace, Scope::Transaction))
+    } else if name == b"DIRECTORY_LOG_DIRECTORY".as_slice() {
+        Some((DirectoryOperation::LogDirectory, Scope::Transaction))
+    } else if name == b"DIRECTORY_STRIP_PREFIX".as_slice() {
+        Some((DirectoryOperation::StripPrefix, Scope::Transaction))
     } else {
         None
     }

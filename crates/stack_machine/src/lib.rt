@@ -7,6 +7,8 @@
 mod act;
 mod asked;
 mod call;
+mod directing;
+mod directory_replies;
 mod errors;
 mod instruction;
 mod machine;

@@ -3,6 +3,7 @@
 ghost use Rattle.std.specs.Prelude.{◌≡◌, ◌+◌, ◌<◌, false, true, pos, [], length, Some, Ok, option_copied, slice_get, IfOk, IsErr, OnErr};
 ghost use Rattle.machine_rules.specs.declared.State.TheVariants.{Running};
 ghost use Rattle.machine_rules.specs.Machines.{stopped, done, silent, acted, instruction_at, next_act, advance, resumed};
+ghost use Rattle.machine_rules.specs.Directories.{first_directories};
 ghost use Rattle.stack_machine.specs.Pushes.{PushesAnElement};
 ghost use Rattle.stack_machine.specs.Acts.{act_with};
 
@@ -89,7 +90,7 @@ impl Machine {
           instructions = values_of instructions;
           next = 0;
           polls = polls;
-          registers = record { name = prefix; last_seen = pos 0; stack = []; errors = [] };
+          registers = record { name = prefix; last_seen = pos 0; stack = []; errors = []; directories = first_directories };
           state = Running;
         }) }
         ensures ready { IfOk result (λ machine. machine.is_out_of_memory ≡ false) }
@@ -102,7 +103,7 @@ impl Machine {
             instructions,
             next: 0,
             polls,
-            registers: Registers::new(alloc, name),
+            registers: Registers::new(alloc, name)?,
             state: State::Running,
             is_out_of_memory: false,
             alloc,
@@ -206,36 +207,37 @@ impl Machine {
         requires { self.old.is_out_of_memory ≡ false }
         ensures { IfOk result (λ step. Moves self.old (resumed self.old.machine reply.now) step self.new) }
     {
-        match &self.state {
-            State::Running => Ok(Step::Again),
-            State::Awaiting(Awaits::Stamp(wait)) => {
+        let number = self.next as u64;
+        let awaits = match &self.state {
+            State::Running => return Ok(Step::Again),
+            State::Awaiting(awaits) => awaits,
+            State::Stopped(end) => return Ok(Step::Stopped(*end)),
+        };
+        match awaits {
+            Awaits::Stamp(wait) => {
                 let wait = *wait;
                 let instruction = self.instruction()?;
-                let number = self.next as u64;
                 let act = self
                     .registers
                     .resume_poll(number, self.polls, wait, instruction, reply)?;
                 Ok(self.act(act))
             }
-            State::Awaiting(Awaits::LoggedStamp { prefix, wait }) => {
-                let number = self.next as u64;
+            Awaits::LoggedStamp { prefix, wait } => {
                 let act = self
                     .registers
                     .resume_log(number, self.polls, prefix, *wait, reply)?;
                 Ok(self.act(act))
             }
-            State::Awaiting(Awaits::Empty { prefix, polled }) => {
-                let number = self.next as u64;
+            Awaits::Empty { prefix, polled } => {
                 let act = self
                     .registers
                     .resume_watch(number, self.polls, prefix, *polled, reply)?;
                 Ok(self.act(act))
             }
-            State::Awaiting(awaits) => {
-                let act = self.registers.use_reply(self.next as u64, awaits, reply)?;
+            _ => {
+                let act = self.registers.use_reply(number, awaits, reply)?;
                 Ok(self.act(act))
             }
-            State::Stopped(end) => Ok(Step::Stopped(*end)),
         }
     }
 

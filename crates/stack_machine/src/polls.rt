@@ -10,12 +10,13 @@ ghost use Rattle.stack_machine.specs.Pushes.{PushesAnElement};
 
 use crate::act::{Act, ask_empty};
 use crate::asked::Asked;
-use crate::errors::{digits_of, error_item};
+use crate::errors::error_item;
 use crate::registers::Registers;
 use fdb_calls::{Code, Reply, Request};
 use fdb_tuple::Elem;
 use key_bytes::Bytes;
 use machine_rules::{Awaits, End, Instruction, Wait};
+use stack_directories::digits_of;
 use std::alloc::AllocError;
 
 /// What the reply to a poll comes to.

@@ -6,7 +6,8 @@ ghost use Rattle.machine_rules.specs.Operands.{bytes_operand};
 ghost use Rattle.machine_rules.specs.StackOperations.{operated};
 ghost use Rattle.machine_rules.specs.Calls.{call_of, request_in, request_of, awaits_of, start_request};
 ghost use Rattle.machine_rules.specs.Machines.{act_of, pushing, does, uses, asks, calls, logs_stack, logs_on, logs_batch, waits_empty, first_life, with_stack, knowing, below_waiting, used};
-ghost use Rattle.machine_rules.specs.Machines.{Does, PushesWaiting};
+ghost use Rattle.machine_rules.specs.Machines.{Does, PushesWaiting, directs, appending};
+ghost use Rattle.machine_rules.specs.Directories.{first_directories, directed, appends};
 ghost use Rattle.machine_rules.specs.declared.TheConstants.{LOG_BATCH};
 ghost use Rattle.stack_machine.specs.Acts.{act_with};
 ghost use Rattle.stack_machine.specs.Pushes.{PushesAnElement};
@@ -14,15 +15,17 @@ ghost use Rattle.stack_machine.specs.Pushes.{PushesAnElement};
 use crate::act::{Act, ask_empty, refused};
 use crate::asked::Asked;
 use crate::call::call_of;
+use crate::directing::appends;
 use crate::errors::Errors;
 use crate::requests::{awaits_of, request_of};
 use fdb_calls::{Request, TxnCall};
 use fdb_tuple::Elem;
 use key_bytes::Bytes;
 use machine_rules::{
-    Awaits, DatabaseOperation, End, ErrorNote, Instruction, Item, ItemValue, Scope, StackOperation,
-    TransactionOperation, Wait,
+    Awaits, DatabaseOperation, DirectoryOperation, End, ErrorNote, Instruction, Item, ItemValue,
+    Object, Scope, StackOperation, TransactionOperation, Wait,
 };
+use stack_directories::{Directories, directed};
 use stack_items::Stack;
 use std::alloc::{AllocError, Global};
 use std::marker::Model;
@@ -34,6 +37,7 @@ pub struct Registers {
     last_seen: i64,
     stack: Stack,
     errors: Errors,
+    directories: Directories,
     alloc: Global,
 }
 
@@ -52,21 +56,25 @@ impl Model for Registers {
       last_seen = registers.last_seen;
       stack = registers.stack;
       errors = registers.errors;
+      directories = registers.directories;
     } };
 }
 
 impl Registers {
-    /// The registers as a machine is started: a current name, 0 as the last version seen, no item and no error.
-    pub fn new(alloc: Global, name: Bytes) -> Registers
-        ensures { result ≡ record { name = name; last_seen = pos 0; stack = []; errors = [] } }
+    /// The registers as a machine is started: a current name, 0 as the last version seen, no item and no error, and the
+    /// default layer as the only directory. It is refused for want of memory alone.
+    pub fn new(alloc: Global, name: Bytes) -> Result<Registers, AllocError>
+        ensures { IfOk result (λ registers. registers
+            ≡ record { name = name; last_seen = pos 0; stack = []; errors = []; directories = first_directories }) }
     {
-        Registers {
+        Ok(Registers {
             name,
             last_seen: 0,
             stack: Stack::new(alloc),
             errors: Errors::new(alloc),
+            directories: Directories::new(alloc)?,
             alloc,
-        }
+        })
     }
 
     /// The items. It takes no memory.
@@ -98,6 +106,9 @@ impl Registers {
             Some(Instruction::OnDatabase(operation, scope)) => {
                 self.on_database(number, operation, scope)
             }
+            Some(Instruction::OnDirectories(operation, scope)) => {
+                self.on_directories(number, operation, scope)
+            }
             Some(Instruction::LogStack) => self.log_stack(number),
             Some(Instruction::StartThread) => self.start_thread(number),
             Some(Instruction::WaitEmpty) => self.wait_empty(number),
@@ -109,11 +120,20 @@ impl Registers {
         requires { IsElement element }
         ensures { IfOk result (λ act. act_with self.new act ≡ Does (pushing number self.old element)) }
     {
+        self.put(number, element)?;
+        Ok(Act::Does)
+    }
+
+    // An element lies on top that the instruction of this number pushes.
+    pub(crate) fn put(&mut self, number: u64, element: Elem) -> Result<(), AllocError>
+        requires { IsElement element }
+        ensures { OnOk result (self.new ≡ pushing number self.old element) }
+    {
         self.stack.put(Item {
             value: ItemValue::Known(element),
             instruction: number,
         })?;
-        Ok(Act::Does)
+        Ok(())
     }
 
     // The instruction of this number pushes an item that waits for a life.
@@ -220,6 +240,54 @@ impl Registers {
             }
             Scope::Database => Asked::new(self.alloc, Request::Database { call }),
         }
+    }
+
+    // An operation on the directories, in one of its forms where it asks a layer.
+    fn on_directories(
+        &mut self,
+        number: u64,
+        operation: DirectoryOperation,
+        scope: Scope,
+    ) -> Result<Act, AllocError>
+        ensures { IfOk result (λ act. act_with self.new act ≡ directs number (appends operation) self.old
+            (directed operation scope self.old.name self.old.directories self.old.stack)) }
+    {
+        let mut operands = self.stack.operands();
+        let (name, directories) = (&self.name, &self.directories);
+        let found = directed(
+            &mut operands,
+            self.alloc,
+            operation,
+            scope,
+            name,
+            directories,
+        );
+        let popped = operands.popped();
+        match self.stack.settle(popped, found) {
+            Ok(found) => self.direct(number, appends(operation), found),
+            Err(fault) => refused(self.alloc, number, fault),
+        }
+    }
+
+    // An object is appended to the list of directories.
+    pub(crate) fn append(&mut self, object: Object) -> Result<(), AllocError>
+        ensures { OnOk result (self.new ≡ appending self.old object) }
+    {
+        self.directories.append(object)
+    }
+
+    // The current directory is that of this index from now on.
+    pub(crate) fn choose(&mut self, index: usize)
+        ensures { self.new ≡ record self.old { directories = record self.old.directories { index = index } } }
+    {
+        self.directories.choose(index);
+    }
+
+    // This index is taken in place of that of a null directory from now on.
+    pub(crate) fn fall_to(&mut self, index: usize)
+        ensures { self.new ≡ record self.old { directories = record self.old.directories { error_index = index } } }
+    {
+        self.directories.fall_to(index);
     }
 
     // LOG_STACK pops the prefix, and writes the items under it.

@@ -7,13 +7,14 @@ ghost use Rattle.stack_machine.specs.Acts.{act_with};
 
 use crate::act::Act;
 use crate::call::prefix_end;
-use crate::errors::{digits_of, error_item};
+use crate::errors::error_item;
 use crate::packed::pack_within;
 use crate::registers::Registers;
 use fdb_calls::{Code, Reply};
 use fdb_tuple::Elem;
 use key_bytes::{Bytes, Key, Pairs, is_below};
 use machine_rules::{Awaits, End};
+use stack_directories::digits_of;
 use std::alloc::{AllocError, Global};
 
 impl Registers {
@@ -29,6 +30,11 @@ impl Registers {
         ensures { IfOk result (λ act. act_with self.new act ≡ used number self.old (use_of awaits.now reply.now)) }
     {
         match (awaits, reply) {
+            (Awaits::Opened { layer }, _) => self.use_opened(number, layer, reply),
+            (Awaits::DirectoryDone, _) => self.use_done(number, reply),
+            (Awaits::Names, _) => self.use_names(number, reply),
+            (Awaits::Existence, _) => self.use_existence(number, reply),
+            (Awaits::SubspaceLogged, _) => self.use_logged(number, reply),
             (_, Reply::Fault(code)) => self.fail(number, *code),
             (Awaits::NotPresent, Reply::Done) => self.push_not_present(number),
             (Awaits::Value, Reply::Value(value)) => self.push_value(number, value),

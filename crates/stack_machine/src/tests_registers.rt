@@ -55,7 +55,7 @@ fn lay(
 
 // Registers with these items, the first the oldest, by the instructions of their places.
 fn registers_with(alloc: Global, items: &[Lying]) -> Result<Registers, AllocError> {
-    let mut registers = Registers::new(alloc, Bytes::from_slice(alloc, b"p")?);
+    let mut registers = Registers::new(alloc, Bytes::from_slice(alloc, b"p")?)?;
     for (place, item) in items.iter().enumerate() {
         lay(alloc, &mut registers, *item, place as u64)?;
     }

@@ -31,6 +31,8 @@ stands_after reply.NotYet core words stepped is answers = answers
 stands_after (reply.Fault code) core words stepped is answers = answers
 stands_after reply.Empty core words stepped is answers = answers
 stands_after (reply.Started machine instructions) core words stepped is answers = answers
+stands_after (reply.Dir answer) core words stepped is answers = answers
+stands_after (reply.DirFault fault) core words stepped is answers = answers
 stands_after reply.NoMachine core words stepped is answers = answers
 stands_after reply.NoMemory core words stepped is answers = absurd (is refl)
 

@@ -11,6 +11,7 @@ use Rattle.dump_text.specs.declared.fault.LineFault.{LineFault}
 use Rattle.dump_text.specs.declared.fault.LineFault.TheVariants as line
 use Rattle.dump_text.specs.Reading.{Fails}
 use Rattle.history_laws.specs.Whole.{AreRunsLegal}
+use Rattle.prefix_laws.specs.Prefixes.{RunsArePrefixesApart}
 use Rattle.input_rules.specs.declared.input.Form.{Form}
 use Rattle.input_rules.specs.declared.input.Input.{Input}
 use Rattle.input_rules.specs.Forms.{input_of}
@@ -24,7 +25,7 @@ use Rattle.tester_run.specs.declared.fault.OrderFault.TheVariants as order
 use Rattle.tester_run.specs.Arguments.{arguments_of, form_of}
 use Rattle.tester_run.specs.Faults.{InputFault, IsFaultOf, IsMisfitOf, line_in, order_in}
 use Rattle.tester_run.specs.Inputs.{IsFaulty, IsJudged, IsMade, IsRead, IsRefusedBy, read_limit}
-use Rattle.tester_run.specs.Outcomes.{write_fault, IsFinal, IsLawful, IsLegal, HasRun, Finishes, BreaksOff}
+use Rattle.tester_run.specs.Outcomes.{write_fault, IsFinal, IsLawful, IsLegal, HasRun, Finishes, BreaksOff, KeepsPrefixesApart}
 use Rattle.tester_run.specs.Rendered.{IsOrderOf}
 use Rattle.tester_run.specs.declared.running.Rendered.{Rendered}
 use Rattle.tester_run.specs.declared.top.Refusal.{Refusal}
@@ -166,6 +167,11 @@ pub kept_legal : (words : Option Args) (asked : Args) (rendered : Rendered) (ord
 kept_legal words asked rendered order words_are is short law =
     subst (λ (w : Option Args). IfSome w (λ its. IsLegal its order)) (sym words_are)
     (λ pairs run small runs. law pairs (arguments_of asked) order run small (subst (λ (o : List ℕ). length o < 2 ^ 62) (sym is) short) runs.runs)
+
+-- the numbers that allocators granted are apart in each run of the order
+pub kept_apart : (words : Option Args) (order : List ℕ) → RunsArePrefixesApart → IfSome words (λ its. KeepsPrefixesApart its order)
+kept_apart None order law = tt
+kept_apart (Some asked) order law = λ pairs run runs. law pairs (arguments_of asked) order run runs.runs
 
 -- where no sink failed, the status is final
 pub delivered_lawful : (words : Option Args) (left : Option (List ℕ)) (rendered_status status : ℕ)

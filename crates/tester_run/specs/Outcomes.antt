@@ -4,6 +4,7 @@ use Rattle.std.specs.Io.KnownBytes.{Appends}
 use Rattle.outside.specs.Streams.{AppendsFront}
 use Rattle.std.specs.List.{AllByRecursion}
 use Rattle.history_laws.specs.Whole.{IsOneLegalHistory}
+use Rattle.prefix_laws.specs.Prefixes.{GrantsAreApart}
 use Rattle.line_rules.specs.Inputs.{IsSmall}
 use Rattle.outside.specs.Counts.{Rose}
 use Rattle.command_rules.specs.declared.args.Args.{Args}
@@ -65,6 +66,12 @@ pub record BreaksOff (left : Option (List ℕ)) (asked : Args) (order : List ℕ
 abbrev pub IsLegal : (asked : Args) → (order : List ℕ) → Type 0
 IsLegal asked order = (pairs : List (List ℕ × List ℕ)) (run : Run) → AllByRecursion IsSmall pairs
     → RunsTo pairs (arguments_of asked) order run → IsOneLegalHistory run.world.setting.history
+
+-- In each complete run of the order, the numbers that the allocator of a subspace granted in transactions that committed are distinct,
+-- and no packed one begins with another, where all that wrote there past the first commit were calls of it that granted one.
+abbrev pub KeepsPrefixesApart : (asked : Args) → (order : List ℕ) → Type 0
+KeepsPrefixesApart asked order = (pairs : List (List ℕ × List ℕ)) (run : Run) → RunsTo pairs (arguments_of asked) order run
+    → GrantsAreApart run.world.setting.history
 
 -- The words and the input are lawful, the order of a replay included, and neither source nor out counted a fault.
 pub record IsLawful (asked : Option Args) (left : Option (List ℕ)) (read_faults read_after write_faults write_after : ℕ) : Type 0 where

@@ -5,6 +5,7 @@ use std::sync::Wait;
 use std::test::Fail;
 use std::thread::Threads;
 
+mod directories;
 mod machines;
 mod replays;
 

@@ -11,7 +11,7 @@ ghost use Rattle.command_rules.specs.Grammar.{args_of};
 ghost use Rattle.input_rules.specs.Forms.{input_of};
 ghost use Rattle.tester_run.specs.Arguments.{form_of};
 ghost use Rattle.tester_run.specs.Faults.{InputFault, HasFault, IsMisfitOf, order_in};
-ghost use Rattle.tester_run.specs.Outcomes.{usage, bad_input, read_fault, write_fault, out_of_memory, IsFinal, IsLawful, IsLegal, IsSilent, Finishes, BreaksOff};
+ghost use Rattle.tester_run.specs.Outcomes.{usage, bad_input, read_fault, write_fault, out_of_memory, IsFinal, IsLawful, IsLegal, IsSilent, Finishes, BreaksOff, KeepsPrefixesApart};
 ghost use Rattle.tester_run.specs.Inputs.{IsRefusedBy, IsJudged, IsMade, IsRead, IsReadOut, ReadsWithin};
 ghost use Rattle.tester_run.specs.Rendered.{IsRendered};
 ghost use Rattle.tester_run.specs.Tellings.{IsTold, IsUnasked, IsWritten, Refuses, Tells};
@@ -25,6 +25,7 @@ use command_words::{ArgFault, ArgWords, Args, read_args};
 use dump_text::{Form, Input, LineFault, Order, read_lines};
 use history_laws::runs_are_legal;
 use outside::{Gate, Input as Bytes, Sink, Source, read_all, write_all};
+use prefix_laws::prefixes_are_apart;
 use std::alloc::Global;
 use std::sync::Wait;
 use std::thread::Threads;
@@ -95,6 +96,10 @@ pub fn tester<R: Threads + Wait + Sync, S: Source, K: Sink, N: Sink, G: Gate>(
     // a write with its conflict range switched off fell between.
     ensures legal { IsFinal result.status → IfSome (args_of args.now) (λ asked. IsLegal asked result.order) }
 
+    // In that run the prefixes that one allocator gave to directories, in transactions that committed, are apart, where it alone
+    // wrote in its subspace.
+    ensures apart { IsFinal result.status → IfSome (args_of args.now) (λ asked. KeepsPrefixesApart asked result.order) }
+
     // 4 and 5: the source, or out, has counted a fault in this call.
     ensures read { result.status ≡ read_fault → Rose (S.faults source.old) (S.faults source.new) }
     ensures write { result.status ≡ write_fault → Rose (K.faults out.old) (K.faults out.new) }
@@ -127,6 +132,7 @@ pub fn tester<R: Threads + Wait + Sync, S: Source, K: Sink, N: Sink, G: Gate>(
         Err(refusal) => refused(alloc, err, &refusal),
         Ok(rendered) => {
             runs_are_legal();
+            prefixes_are_apart();
             shows_short(&rendered.order);
             deliver(out, err, rendered)
         }

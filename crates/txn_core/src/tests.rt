@@ -85,12 +85,7 @@ fn tell(answer: &Answer) -> Told<'_> {
         Reply::Life(life) => Told::Life(*life),
         Reply::Fault(code) => Told::Fault(code.0),
         // no call of a transaction answers these
-        Reply::Stamp(_)
-        | Reply::NotYet
-        | Reply::Empty
-        | Reply::Started { .. }
-        | Reply::NoMachine
-        | Reply::NoMemory => Told::NoMemory,
+        _ => Told::NoMemory,
     }
 }
 

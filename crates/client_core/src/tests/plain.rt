@@ -191,7 +191,7 @@ impl Plain {
         Ok(Reply::Done)
     }
 
-    /// The step of a request.
+    /// The step of a request. Calls of directory layers are none of its requests.
     pub fn take(&mut self, request: &Request) -> Result<Reply, AllocError> {
         match request {
             Request::New { name } => self.make_new(name),
@@ -211,6 +211,7 @@ impl Plain {
                 let reply = self.log(&mut life, prefix, entries)?;
                 self.and_commit(&mut life, reply)
             }
+            Request::Directory { .. } => Err(AllocError),
             Request::PollStamp { life } => Ok(self.fates.poll(*life)),
             Request::PollEmpty { prefix } => match self.maps.last() {
                 Some(map) => watched(map, prefix),

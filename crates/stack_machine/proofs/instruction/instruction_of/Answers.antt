@@ -1,6 +1,6 @@
 use Rattle.std.proofs.Common.{subst, sym}
-use Rattle.stack_machine.specs.Pushes.{AreElements}
-use Rattle.stack_machine.proofs.Elements.{AreElements-elements_of}
+use Rattle.stack_directories.specs.Directing.{AreElements}
+use Rattle.stack_directories.proofs.Elements.{AreElements-elements_of}
 use Rattle.stack_machine.proofs.instruction.instruction_of.Goals as goal
 
 pub instruction_in-requires : goal.instruction_in-requires

@@ -3,7 +3,7 @@ use Rattle.std.specs.Prelude.{IfSome}
 use Rattle.command_rules.specs.declared.args.Args.{Args}
 use Rattle.tester_run.specs.Faults.{InputFault, HasFault}
 use Rattle.tester_run.proofs.Tellings.{refused_by, refused_short, told_by_words}
-use Rattle.tester_run.proofs.Tops.{delivered, delivered_lawful, broken_off, made_final}
+use Rattle.tester_run.proofs.Tops.{delivered, delivered_lawful, broken_off, kept_apart, made_final}
 use Rattle.tester_run.proofs.top.tester.Goals as goal
 
 pub returns-in-Err-rendered-clause-input : goal.returns-in-Err-rendered-clause-input
@@ -40,3 +40,6 @@ pub returns-clause-complete : goal.returns-clause-complete
 returns-clause-complete g c = λ lawful.
     inl (delivered_lawful _ _ c.in-Ok-rendered.rendered.status c.deliver.result.status _ _ _ _
     (made_final c.in-Ok.asked _ _ c.in-Ok-rendered.rendered c.in-Ok-rendered.ensures.made) c.deliver.ensures.status c.deliver.ensures.cause lawful)
+
+pub returns-clause-apart : goal.returns-clause-apart
+returns-clause-apart g c = λ final. kept_apart _ c.deliver.result.order c.prefixes_are_apart.ensures.runs

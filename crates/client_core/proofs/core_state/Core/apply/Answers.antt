@@ -6,7 +6,8 @@ use Rattle.machine_rules.specs.Worlds.{step}
 use Rattle.client_core.specs.Stands.{CoreModel, HasStarted, StandsFor, contents_in}
 use Rattle.client_core.specs.Sound.{IsSound}
 use Rattle.client_core.specs.Contents.{core_of, model_of}
-use Rattle.client_core.proofs.Steps.{took_answers, words_kept, stands_counted, sound_taken, sound_enough, sound_later, on_database, none_started, database_stands, start_answers}
+use Rattle.client_core.proofs.Steps.{took_answers, words_kept, stands_counted, sound_taken, sound_drawn, sound_enough, sound_later, on_database, none_drawn, none_started, database_stands, start_answers}
+use Rattle.client_core.proofs.Steps.{directory_answers, directory_starts_none}
 use Rattle.client_core.proofs.core_state.Core.apply.Goals as goal
 
 pub invariant_of-self-in-Ok : goal.invariant_of-self-in-Ok
@@ -20,7 +21,7 @@ take-requires g c =
     record {
       sound = sound_enough (model_of c.self.inside.contents) c.self.inside.contents.applied (c.self.inside.contents.applied + 1) few
           (c.self.invariant c.if-self.false);
-      database = on_database c.args.request.now c.in_default.not-Start;
+      database = on_database c.args.request.now c.in_default.not-Directory c.in_default.not-Start;
     }
 
 pub invariant_of-self-in-Ok-take : goal.invariant_of-self-in-Ok-take
@@ -49,7 +50,7 @@ returns-in-Ok-clause-started g c =
 pub returns-in-Ok-take : goal.returns-in-Ok-take
 returns-in-Ok-take g c =
     let its = model_of c.self.inside.contents in
-    let on = on_database c.args.request.now c.in_default.not-Start in
+    let on = on_database c.args.request.now c.in_default.not-Directory c.in_default.not-Start in
     record {
       step = λ world stands has.
           let before : StandsFor (core_of c.self.inside.contents c.self.inside.machines) world =
@@ -57,7 +58,41 @@ returns-in-Ok-take g c =
           let took = c.in-Ok-take.ensures.step world (stands_counted its (c.self.inside.contents.applied + 1) world before.contents) in
           took_answers c.in-Ok-take.reply _ _ (step world c.args.request.now) took.reply_is
           (database_stands (model_of c.take.new.self) _ c.in-Ok-take.reply world c.args.request.now refl before.started on took)
-          (words_kept world c.args.request.now _ has);
+          (words_kept world c.args.request.now _ (none_drawn c.args.request.now on) has);
       applied = c.take.ensures.applied ∙ ap (λ (k : CoreModel). k.applied + 1) c.self.view_is;
       started = none_started c.args.request.now c.in-Ok-take.reply _ _ on (ap (λ (k : CoreModel). k.started) c.self.view_is);
+    }
+
+pub call_directory-requires : goal.call_directory-requires
+call_directory-requires g c =
+    let few : c.self.inside.contents.applied < 2 ^ 62 =
+    subst (λ n. n < 2 ^ 62) (sym (ap (λ (k : CoreModel). k.applied) c.self.view_is)) c.requires in
+    sound_enough (model_of c.self.inside.contents) c.self.inside.contents.applied (c.self.inside.contents.applied + 1) few
+    (c.self.invariant c.if-self.false)
+
+pub invariant_of-self-in-Ok-call_directory : goal.invariant_of-self-in-Ok-call_directory
+invariant_of-self-in-Ok-call_directory g c = λ still.
+    let its = model_of c.self.inside.contents in
+    let asked = c.in-Directory in
+    subst (λ n. IsSound (model_of c.call_directory.new.self) (n + 1)) (sym c.call_directory.ensures.applied)
+    (sound_drawn its (model_of c.call_directory.new.self) asked.name asked.layer asked.kind asked.args c.in-Ok-call_directory.reply _ _
+    c.self.inside.contents.applied
+    (λ world stands. c.in-Ok-call_directory.ensures.step world (stands_counted its (c.self.inside.contents.applied + 1) world stands))
+    (c.self.invariant c.if-self.false))
+
+pub returns-in-Ok-call_directory : goal.returns-in-Ok-call_directory
+returns-in-Ok-call_directory g c =
+    let its = model_of c.self.inside.contents in
+    let asked = c.in-Directory in
+    record {
+      step = λ world stands has.
+          let before : StandsFor (core_of c.self.inside.contents c.self.inside.machines) world =
+          subst (λ (k : CoreModel). StandsFor k world) (sym c.self.view_is) stands in
+          let counted = stands_counted its (c.self.inside.contents.applied + 1) world before.contents in
+          let drew = c.in-Ok-call_directory.ensures.step world counted has in
+          directory_answers (model_of c.call_directory.new.self) _ _ world c.args.request.now asked.name asked.layer asked.kind asked.args
+          c.in-Ok-call_directory.reply asked.is refl before.started drew;
+      applied = c.call_directory.ensures.applied ∙ ap (λ (k : CoreModel). k.applied + 1) c.self.view_is;
+      started = directory_starts_none c.args.request.now asked.name asked.layer asked.kind asked.args c.in-Ok-call_directory.reply _ _
+          asked.is (ap (λ (k : CoreModel). k.started) c.self.view_is);
     }

@@ -2,7 +2,7 @@
 use Rattle.std.proofs.Common.{◌≤◌, arith}
 use Rattle.fdb_tuple.specs.Tuples.{Scalar, Null, Bytes, Text, Int, Boolean, Uuid, Stamp, Elements, Empty, Single, Nested, depth_of}
 use Rattle.fdb_tuple.specs.Listed.{IsElement, element_of, elements_of}
-use Rattle.stack_machine.specs.Pushes.{AreElements}
+use Rattle.stack_directories.specs.Directing.{AreElements}
 
 IsElement-element_of : (scalar : Scalar) → IsElement (element_of scalar)
 IsElement-element_of Null = tt

@@ -1,0 +1,119 @@
+//! What the reply to a call of a directory layer is used for (directoryLayerTester.md).
+
+ghost use Rattle.std.specs.Prelude.{◌≡◌, ◌++◌, ◌∷◌, List, ℕ, IfOk, OnOk};
+ghost use Rattle.machine_rules.specs.Machines.{packed_names, used, use_of, Faults};
+ghost use Rattle.machine_rules.specs.Directories.{fault_name};
+ghost use Rattle.stack_machine.specs.Acts.{act_with};
+ghost use Rattle.stack_machine.specs.Packed.{spelled_names};
+
+use crate::act::Act;
+use crate::registers::Registers;
+use directory_types::{DirFault, DirReply, Layer};
+use fdb_calls::Reply;
+use fdb_tuple::{Elem, Text, pack_element_into};
+use key_bytes::Bytes;
+use machine_rules::Awaits;
+use stack_directories::{digits_of, directory_of, fault_name};
+use std::alloc::{AllocError, Global};
+
+impl Registers {
+    /// The directory of this layer that was opened is appended, or null where the call was refused.
+    pub fn use_opened(
+        &mut self,
+        number: u64,
+        layer: &Layer,
+        reply: &Reply,
+    ) -> Result<Act, AllocError>
+        ensures { IfOk result (λ act. act_with self.new act ≡ used number self.old (use_of (Awaits.Opened layer.now) reply.now)) }
+    {
+        match reply {
+            Reply::Dir(
+                DirReply::Opened {
+                    prefix,
+                    path,
+                    layer: layer_name,
+                },
+            ) => {
+                self.append(directory_of(self.alloc(), layer, path, prefix, layer_name)?)?;
+                Ok(Act::Does)
+            }
+            Reply::DirFault(fault) => self.use_fault(number, true, fault),
+            _ => Ok(Act::Does),
+        }
+    }
+
+    /// Nothing is pushed.
+    pub fn use_done(&mut self, number: u64, reply: &Reply) -> Result<Act, AllocError>
+        ensures { IfOk result (λ act. act_with self.new act ≡ used number self.old (use_of Awaits.DirectoryDone reply.now)) }
+    {
+        match reply {
+            Reply::DirFault(fault) => self.use_fault(number, false, fault),
+            _ => Ok(Act::Does),
+        }
+    }
+
+    /// The names are pushed, as one packed tuple.
+    pub fn use_names(&mut self, number: u64, reply: &Reply) -> Result<Act, AllocError>
+        ensures { IfOk result (λ act. act_with self.new act ≡ used number self.old (use_of Awaits.Names reply.now)) }
+    {
+        match reply {
+            Reply::Dir(DirReply::Names(names)) => {
+                let packed = pack_names(self.alloc(), names.as_slice())?;
+                self.push(number, Elem::Bytes(packed))
+            }
+            Reply::DirFault(fault) => self.use_fault(number, false, fault),
+            _ => Ok(Act::Does),
+        }
+    }
+
+    /// 1 is pushed where there is such a directory, and else 0.
+    pub fn use_existence(&mut self, number: u64, reply: &Reply) -> Result<Act, AllocError>
+        ensures { IfOk result (λ act. act_with self.new act ≡ used number self.old (use_of Awaits.Existence reply.now)) }
+    {
+        match reply {
+            Reply::Dir(DirReply::Is(is)) => self.push(number, Elem::Int(i128::from(*is))),
+            Reply::DirFault(fault) => self.use_fault(number, false, fault),
+            _ => Ok(Act::Does),
+        }
+    }
+
+    /// Nothing is pushed of a subspace that was logged.
+    pub fn use_logged(&mut self, number: u64, reply: &Reply) -> Result<Act, AllocError>
+        ensures { IfOk result (λ act. act_with self.new act ≡ used number self.old (use_of Awaits.SubspaceLogged reply.now)) }
+    {
+        match reply {
+            Reply::Fault(code) => {
+                let digits = digits_of(self.alloc(), code.0)?;
+                self.fault(number, false, digits)
+            }
+            _ => Ok(Act::Does),
+        }
+    }
+
+    // A call of a layer was refused.
+    fn use_fault(&mut self, number: u64, appends: bool, fault: &DirFault) -> Result<Act, AllocError>
+        ensures { IfOk result (λ act. act_with self.new act ≡ used number self.old (Faults appends (fault_name fault.now))) }
+    {
+        let name = fault_name(self.alloc(), fault)?;
+        self.fault(number, appends, name)
+    }
+}
+
+// Names as one packed tuple of Unicode strings.
+fn pack_names(alloc: Global, names: &[Text]) -> Result<Bytes, AllocError>
+    ensures { IfOk result (λ packed. Elem.Bytes packed ≡ packed_names names.now) }
+{
+    let mut packed = Vec::new(alloc);
+    for name in names {
+        add_name(&mut packed, name)?;
+    }
+    Bytes::from_vec(packed)
+}
+
+// Adds a name.
+fn add_name(to: &mut Vec<u8>, name: &Text) -> Result<(), AllocError>
+    ensures { OnOk result ((rest : List (List ℕ)) → to.new.items ++ spelled_names rest
+        ≡ to.old.items ++ spelled_names (name.now ∷ rest)) }
+{
+    pack_element_into(to, &Elem::Text(name.copy()?))
+}
