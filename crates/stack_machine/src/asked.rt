@@ -35,4 +35,12 @@ impl Asked {
     {
         &self.request
     }
+
+    /// The request, to keep. It takes no memory.
+    pub fn into_request(self) -> Request
+        ensures { result ≡ self }
+    {
+        let Asked { request } = self;
+        Box::into_inner(request)
+    }
 }

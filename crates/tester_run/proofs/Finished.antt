@@ -20,9 +20,10 @@ use Rattle.machine_rules.specs.Worlds.{World, HasWords, begun, instruction_pairs
 use Rattle.machine_rules.specs.Machines.{Progress, silent}
 use Rattle.machine_rules.specs.Laws.{is_awaiting}
 use Rattle.machine_rules.specs.Runs.{AreByTurns, at_rest, started, run_from, is_running, has_stopped, has_ended, end_line, stack_lines, error_lines, dump}
-use Rattle.tester_run.specs.declared.seat.Seat.{Seat}
+use Rattle.machine_seat.specs.declared.seat.Seat.{Seat}
 use Rattle.tester_run.specs.declared.running.Rendered.{Rendered}
-use Rattle.tester_run.specs.Driving.{asks_at, progress_of, AreFirst, AreSeated, IsGoing, IsSeated, Leads, LeadsByTurns}
+use Rattle.machine_seat.specs.Seats.{progress_of, IsSeated}
+use Rattle.tester_run.specs.Driving.{asks_at, AreFirst, AreSeated, IsFirst, IsGoing, IsStarted, Leads, LeadsByTurns}
 use Rattle.tester_run.specs.Dumps.{dump_of, newest_pairs}
 use Rattle.tester_run.specs.Rendered.{Renders}
 use Rattle.tester_run.proofs.Turns.{none_behind}
@@ -35,11 +36,18 @@ pub kept_newest : (core : CoreModel) (world : World) → StandsFor core world �
 kept_newest core world stands =
     ap (at core.store) stands.contents.keeps.last_is ∙ stands.contents.keeps.at_is (last world.setting.history) (omega arith)
 
+-- machine 0, as it is started over what a core keeps, is the one machine of the start
+pub is_first : (seat : Seat) (arguments : RunArgs) (core : CoreModel) → IsStarted seat arguments core → IsFirst seat arguments core
+is_first seat arguments core is pairs stands =
+    ap (λ (d : Database). at_rest (silent (started 0 arguments.prefix arguments.polls (instruction_pairs arguments.prefix d))) ∷ [])
+    (sym (kept_newest core (begun pairs arguments) stands))
+    ∙ ap (λ (p : Progress). p ∷ []) (sym is)
+
 -- before any request the empty order leads to the start
 begins : (pairs : List (List ℕ × List ℕ)) (arguments : RunArgs) (core : CoreModel) (words : ℕ → ℕ) (seat : Seat)
     → StandsFor core (begun pairs arguments)
     → HasWords (begun pairs arguments) words
-    → progress_of seat ≡ at_rest (silent (started 0 arguments.prefix arguments.polls (instruction_pairs arguments.prefix (kept_map core))))
+    → IsStarted seat arguments core
     → LeadsByTurns pairs arguments core words (seat ∷ []) [] 0
 unfolding run_from
 begins pairs arguments core words seat stands has_words is =
@@ -50,9 +58,7 @@ begins pairs arguments core words seat stands has_words is =
         stands = stands;
         has_words = has_words;
         runs =
-            ap (λ (d : Database). Some (record { world = world; machines = at_rest (silent (started 0 arguments.prefix arguments.polls (instruction_pairs arguments.prefix d))) ∷ [] }))
-            (sym (kept_newest core world stands))
-            ∙ ap (λ (p : Progress). Some (record { world = world; machines = p ∷ [] })) (sym is);
+            ap (λ (ms : List Progress). Some (record { world = world; machines = ms })) (is_first seat arguments core is pairs stands);
       };
       turns = λ front rest number run e runs. absurd (none_behind front number rest e);
       from_is = refl;

@@ -12,12 +12,13 @@ use Rattle.machine_rules.specs.Machines.{Progress, resumed}
 use Rattle.machine_rules.specs.Runs.{AreByTurns, HasTurn, Run, at_rest, replied, run_from, start, start_prefix, started_by, take_place, taken, turn_after}
 use Rattle.machine_rules.specs.declared.TheConstants.{MACHINES}
 use Rattle.machine_rules.specs.Laws.{run_from-append}
-use Rattle.tester_run.specs.declared.seat.Seat.{Seat}
-use Rattle.tester_run.specs.Driving.{progress_of, GoesOn, GoesOnByTurns, IsGoing, IsNextInTurn, IsSeated}
+use Rattle.machine_seat.specs.declared.seat.Seat.{Seat}
+use Rattle.machine_seat.specs.Seats.{progress_of, IsSeated}
+use Rattle.tester_run.specs.Driving.{GoesOn, GoesOnByTurns, IsGoing, IsNextInTurn}
 use Rattle.tester_run.proofs.Seats.{has_turn, seated_more, seated_set}
 use Rattle.tester_run.proofs.Turns.{turns_longer, turn_after-longer}
 
-stands_after : (given : Reply) (core : CoreModel) (words : ℕ → ℕ) (stepped : Stepped) → given ≢ reply.NoMemory
+pub stands_after : (given : Reply) (core : CoreModel) (words : ℕ → ℕ) (stepped : Stepped) → given ≢ reply.NoMemory
     → Answers given core words stepped
     → (stepped.reply ≡ given) × StandsFor core stepped.world × HasWords stepped.world words
 stands_after reply.Done core words stepped is answers = answers

@@ -1,4 +1,3 @@
-pub mod Resting
 pub mod Seats
 pub mod Turns
 pub mod Leading

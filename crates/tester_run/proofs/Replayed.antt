@@ -5,8 +5,9 @@ use Rattle.client_core.specs.Stands.{CoreModel}
 use Rattle.command_rules.specs.declared.args.RunArgs.{RunArgs}
 use Rattle.tester_run.specs.declared.fault.OrderFault.{OrderFault}
 use Rattle.tester_run.specs.declared.fault.OrderFault.TheVariants as order
-use Rattle.tester_run.specs.declared.seat.Seat.{Seat}
-use Rattle.tester_run.specs.Driving.{asks_at, progress_of, IsFirstAsking, Leads}
+use Rattle.machine_seat.specs.declared.seat.Seat.{Seat}
+use Rattle.machine_seat.specs.Seats.{progress_of}
+use Rattle.tester_run.specs.Driving.{asks_at, IsFirstAsking, Leads}
 use Rattle.tester_run.specs.Faults.{IsMisfit, StopsShort}
 use Rattle.tester_run.specs.Following.{HasFollowed}
 use Rattle.tester_run.proofs.Seats.{has_is_asks}

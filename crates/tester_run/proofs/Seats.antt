@@ -9,11 +9,12 @@ use Rattle.machine_rules.specs.Machines.{Progress}
 use Rattle.machine_rules.specs.Worlds.{World}
 use Rattle.machine_rules.specs.Laws.{effort_in}
 use Rattle.machine_rules.specs.Runs.{HasTurn, IsFirstFrom, has_request}
-use Rattle.tester_run.specs.declared.seat.Seat.{Seat}
+use Rattle.machine_seat.specs.declared.seat.Seat.{Seat}
 use Rattle.tester_run.specs.declared.driving.Moved.TheVariants as moved
 use Rattle.tester_run.specs.declared.driving.Pause.{Pause}
 use Rattle.tester_run.specs.declared.driving.Pause.TheVariants as pause
-use Rattle.tester_run.specs.Driving.{asks_at, effort_of, progress_of, work_left, work_of, AreSeated, HasMoved, HasPaused, IsFirstAsking, IsNearer, IsNextInTurn, IsSeated}
+use Rattle.machine_seat.specs.Seats.{progress_of, work_left, IsNearer, IsSeated}
+use Rattle.tester_run.specs.Driving.{asks_at, effort_of, work_of, AreSeated, HasMoved, HasPaused, IsFirstAsking, IsNextInTurn}
 
 -- ---- one in the place of another, and one more
 

@@ -1,56 +1,20 @@
 -- How the core and the machines stand to a run while it goes on.
-use Rattle.std.specs.Prelude.{◌≡◌, ℕ, ◌+◌, ◌-◌, ◌<◌, ◌≤◌, ◌⊎◌, Bool, true, false, cond, List, [], ◌∷◌, length, map, Option, Some, None, MatchOption, is_some, option_and_then, slice_get, ⊤}
+use Rattle.std.specs.Prelude.{◌≡◌, ℕ, ◌<◌, ◌≤◌, ◌⊎◌, Bool, true, false, List, [], ◌∷◌, length, map, Option, Some, None, MatchOption, is_some, option_and_then, slice_get, ⊤}
 use Rattle.std.specs.List.{sum_by}
-use Rattle.fdb_calls.specs.declared.Request.{Request}
 use Rattle.command_rules.specs.declared.args.RunArgs.{RunArgs}
 use Rattle.client_core.specs.Stands.{CoreModel, StandsFor}
-use Rattle.stack_machine.specs.declared.machine.Step.{Step}
-use Rattle.stack_machine.specs.declared.machine.Step.TheVariants as step
 use Rattle.machine_rules.specs.declared.TheConstants.{MACHINES}
-use Rattle.machine_rules.specs.Worlds.{World, HasWords, instruction_pairs}
+use Rattle.machine_rules.specs.Worlds.{World, HasWords, begun, instruction_pairs}
 use Rattle.version_store.specs.Versions.{at, last_of}
-use Rattle.machine_rules.specs.Machines.{Machine, Progress, silent}
-use Rattle.machine_rules.specs.Runs.{AreByTurns, at_rest, start, started, run_from, turn_after, is_running, has_stopped}
-use Rattle.machine_rules.specs.Laws.{HasItsItemIn, effort_in, is_awaiting}
-use Rattle.tester_run.specs.declared.seat.Seat.{Seat}
+use Rattle.machine_rules.specs.Machines.{silent}
+use Rattle.machine_rules.specs.Runs.{AreByTurns, at_rest, start, started, run_from, turn_after}
+use Rattle.machine_rules.specs.Laws.{effort_in}
+use Rattle.machine_seat.specs.declared.seat.Seat.{Seat}
+use Rattle.machine_seat.specs.Seats.{progress_of, work_left, IsSeated}
 use Rattle.tester_run.specs.declared.driving.Moved.{Moved}
 use Rattle.tester_run.specs.declared.driving.Moved.TheVariants as moved
 use Rattle.tester_run.specs.declared.driving.Pause.{Pause}
 use Rattle.tester_run.specs.declared.driving.Pause.TheVariants as pause
-
--- what a machine asks, by the answer of its step
-abbrev pub asked_by : Step → Option Request
-asked_by (step.Ask request) = Some request
-asked_by step.Again = None
-asked_by (step.Stopped end) = None
-
--- a machine, and what it asks, if it asks something
-abbrev pub with_asked : Machine → Option Request → Progress
-with_asked machine asks = record { machine = machine; asks = asks }
-
--- ---- one machine
-
-abbrev pub progress_of : Seat → Progress
-progress_of seat = with_asked seat.machine.machine seat.asks
-
--- The machine is at rest: it awaits a reply exactly where it asks, standing at one of its instructions, with an item that
--- waits where it polls for one; else it has stopped.
-pub record IsSeated (seat : Seat) : Type 0 where
-  pub ready : seat.machine.is_out_of_memory ≡ false
-  pub rests : is_running seat.machine.machine.state ≡ false
-  pub awaits : is_awaiting seat.machine.machine.state ≡ is_some seat.asks
-  pub item : HasItsItemIn seat.machine.machine
-  pub inside : is_awaiting seat.machine.machine.state ≡ true → seat.machine.machine.next < length seat.machine.machine.instructions
-
--- how many instructions a machine has left, and one step to end
-abbrev pub work_left : Machine → ℕ
-work_left machine = cond (has_stopped machine.state) 0 (length machine.instructions - machine.next + 1)
-
--- a machine that used a reply asks on within the same instruction, and has less to poll for and to log; or it has fewer
--- instructions left
-abbrev pub IsNearer : (asks_on : Bool) → (before after : Machine) → Type 0
-IsNearer true before after = (work_left after ≡ work_left before) × (effort_in after < effort_in before)
-IsNearer false before after = work_left after < work_left before
 
 -- ---- all machines
 
@@ -80,12 +44,21 @@ IsNextInTurn seats from None = (other : ℕ) → asks_at seats other ≡ false
 IsNextInTurn seats from (Some number) = IsFirstAsking seats from (Some number)
     ⊎ (IsFirstAsking seats from None × IsFirstAsking seats 0 (Some number))
 
--- machine 0 alone, at rest, as it is started over what a core keeps
+-- machine 0 at rest, as it is started over what a core keeps
+abbrev pub IsStarted : Seat → RunArgs → CoreModel → Type 0
+IsStarted seat arguments core = progress_of seat ≡ at_rest (silent (started 0 arguments.prefix arguments.polls
+    (instruction_pairs arguments.prefix (at core.store (last_of core.store)))))
+
+-- so it is the one machine of each start whose world the core stands for
+abbrev pub IsFirst : Seat → RunArgs → CoreModel → Type 0
+IsFirst seat arguments core = (pairs : List (List ℕ × List ℕ)) → StandsFor core (begun pairs arguments)
+    → (start pairs arguments).machines ≡ progress_of seat ∷ []
+
+-- machine 0 alone
 pub record AreFirst (seats : List Seat) (arguments : RunArgs) (core : CoreModel) : Type 0 where
   pub seat : Seat
   pub alone : seats ≡ seat ∷ []
-  pub started : progress_of seat ≡ at_rest (silent (started 0 arguments.prefix arguments.polls
-      (instruction_pairs arguments.prefix (at core.store (last_of core.store)))))
+  pub started : IsStarted seat arguments core
   pub seated : IsSeated seat
 
 -- ---- the run so far

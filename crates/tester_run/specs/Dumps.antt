@@ -5,7 +5,7 @@ use Rattle.line_rules.specs.Inputs.{pair_lines}
 use Rattle.line_rules.specs.Printing.{order_line}
 use Rattle.machine_rules.specs.Runs.{end_line, stack_lines, error_lines}
 use Rattle.version_store.specs.Versions.{Versions, at, last_of}
-use Rattle.tester_run.specs.declared.seat.Seat.{Seat}
+use Rattle.machine_seat.specs.declared.seat.Seat.{Seat}
 
 -- the pairs of the map at the last version, in the order of their keys
 abbrev pub newest_pairs : Versions → List (List ℕ × List ℕ)

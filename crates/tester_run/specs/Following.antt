@@ -2,7 +2,7 @@
 use Rattle.std.specs.Prelude.{◌≡◌, ℕ, ◌+◌, false, List, ◌∷◌, ◌++◌, length, Option, Some, None}
 use Rattle.tester_run.specs.declared.fault.OrderFault.{OrderFault}
 use Rattle.tester_run.specs.declared.fault.OrderFault.TheVariants as order
-use Rattle.tester_run.specs.declared.seat.Seat.{Seat}
+use Rattle.machine_seat.specs.declared.seat.Seat.{Seat}
 use Rattle.tester_run.specs.Driving.{asks_at}
 
 -- to a place at which the machine that it names asks nothing

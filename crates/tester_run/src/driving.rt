@@ -1,18 +1,13 @@
 //! Running the machines over the core, by turns.
 
-ghost use Rattle.std.specs.Prelude.{◌≡◌, ◌≢◌, ◌≤◌, ◌<◌, ◌+◌, ◌++◌, ◌∷◌, ◌^◌, ◌↔◌, ◌⊎◌, ℕ, true, [], length, map, option_to_list, option_copied, is_some, slice_get, option_and_then, None, Ok, Some, if◌then◌else◌, IfOk, IfSome, IsTrue, OnOk};
-ghost use Rattle.fdb_calls.specs.declared.Reply.TheVariants.{NoMemory};
-ghost use Rattle.machine_rules.specs.Machines.{silent};
-ghost use Rattle.machine_rules.specs.Runs.{at_rest, start_prefix, started, started_by};
-ghost use Rattle.tester_run.specs.Driving.{asks_at, progress_of, GoesOn, GoesOnByTurns, HasMoved, HasPaused, IsFirstAsking, IsGoing, IsNextInTurn, IsSeated};
+ghost use Rattle.std.specs.Prelude.{◌≡◌, ◌<◌, ◌+◌, ◌++◌, ◌∷◌, ◌^◌, ◌⊎◌, true, [], length, is_some, slice_get, option_and_then, None, Ok, Some, if◌then◌else◌, IfOk, OnOk};
+ghost use Rattle.tester_run.specs.Driving.{asks_at, GoesOn, GoesOnByTurns, HasMoved, HasPaused, IsFirstAsking, IsGoing, IsNextInTurn};
 
-use crate::seat::Seat;
 use client_core::Core;
 use dump_text::Order;
-use fdb_calls::{Reply, Request};
-use key_bytes::{Bytes, Pairs};
+use fdb_calls::Request;
+use machine_seat::{Seat, is_no_memory, prefix_of, seat_started};
 use outside::Words;
-use stack_machine::Machine;
 use std::alloc::{AllocError, Global};
 
 /// What came of a request.
@@ -171,54 +166,6 @@ fn request_at(seats: &[Seat], number: usize) -> &Request
     seats[number].asks.as_ref().unwrap().request()
 }
 
-// The prefix under which a request starts a machine, if it starts one.
-fn prefix_of(request: &Request) -> Result<Option<Bytes>, AllocError>
-    ensures { IfOk result (λ prefix. prefix ≡ start_prefix request.now) }
-{
-    match request {
-        Request::Start { prefix } => Ok(Some(prefix.copy()?)),
-        _ => Ok(None),
-    }
-}
-
-// The machine that was started under a prefix by this reply, if one was.
-fn seat_started(
-    alloc: Global,
-    prefix: Option<Bytes>,
-    polls: u32,
-    reply: Reply,
-) -> Result<Option<Seat>, AllocError>
-    ensures started { IfOk result (λ seat. map progress_of (option_to_list seat) ≡ started_by prefix polls reply) }
-    ensures seated { IfOk result (λ seat. IfSome seat IsSeated) }
-{
-    match (prefix, reply) {
-        (
-            Some(prefix),
-            Reply::Started {
-                machine,
-                instructions,
-            },
-        ) => Ok(Some(start(alloc, machine, prefix, polls, instructions)?)),
-        _ => Ok(None),
-    }
-}
-
-/// A machine as it is started: of this number, under this prefix, with so many polls for each wait, and with the values of
-/// these pairs as its instructions. It is refused for want of memory alone.
-#[tactic(auto, unfolding(machine_rules::specs::Runs::started))]
-pub fn start(
-    alloc: Global,
-    number: u16,
-    prefix: Bytes,
-    polls: u32,
-    instructions: Pairs,
-) -> Result<Seat, AllocError>
-    ensures started { IfOk result (λ seat. progress_of seat ≡ at_rest (silent (started number prefix polls instructions))) }
-    ensures seated { IfOk result IsSeated }
-{
-    Seat::new(Machine::new(alloc, number, prefix, instructions, polls)?)
-}
-
 // The machine whose turn it is, where the turn looks from this number on.
 fn next_in_turn(seats: &[Seat], from: usize) -> Option<usize>
     ensures { IsNextInTurn seats.now from result }
@@ -251,12 +198,6 @@ pub fn asks(seats: &[Seat], number: usize) -> bool
         Some(seat) => seat.asks.is_some(),
         None => false,
     }
-}
-
-fn is_no_memory(reply: &Reply) -> bool
-    ensures { IsTrue result ↔ (reply.now ≡ NoMemory) }
-{
-    matches!(reply, Reply::NoMemory)
 }
 
 /// For proofs: no memory holds an order of 2^62 places. It does nothing when it runs.

@@ -8,7 +8,6 @@ ghost use Rattle.machine_rules.specs.Runs.{end_line, stack_lines, error_lines};
 ghost use Rattle.line_rules.specs.Inputs.{pair_lines};
 ghost use Rattle.tester_run.specs.Dumps.{dump_of, newest_pairs, seat_end, seat_errors, seat_stack};
 
-use crate::seat::Seat;
 use client_core::Core;
 use dump_text::{
     EndWord, Order, write_error_line, write_item_line, write_machine_line, write_order_line,
@@ -16,6 +15,7 @@ use dump_text::{
 };
 use fdb_tuple::pack_element_into;
 use machine_rules::ItemValue;
+use machine_seat::Seat;
 use stack_machine::{End, Machine, State};
 use std::alloc::{AllocError, Global};
 

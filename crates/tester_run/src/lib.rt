@@ -12,7 +12,6 @@ mod dumping;
 mod fault;
 mod replaying;
 mod running;
-mod seat;
 mod telling;
 #[cfg(test)]
 mod tests;

@@ -9,10 +9,10 @@ ghost use Rattle.tester_run.specs.Rendered.{Renders};
 use crate::driving::{asks, first_asking, take};
 use crate::fault::OrderFault;
 use crate::running::{Rendered, first_seats, rendered_of};
-use crate::seat::Seat;
 use client_core::Core;
 use command_words::RunArgs;
 use dump_text::{Input, Order};
+use machine_seat::Seat;
 use outside::{PcgWords, Words};
 use std::alloc::{AllocError, Global};
 

@@ -3,17 +3,18 @@
 ghost use Rattle.std.specs.Prelude.{◌≡◌, if◌then◌else◌, IfOk};
 ghost use Rattle.std.specs.List.{list_all};
 ghost use Rattle.machine_rules.specs.Runs.{has_ended, AreByTurns};
-ghost use Rattle.tester_run.specs.Driving.{AreFirst};
+ghost use Rattle.machine_seat.specs.Seats.{IsSeated};
+ghost use Rattle.tester_run.specs.Driving.{AreFirst, IsFirst, IsStarted};
 ghost use Rattle.tester_run.specs.Dumps.{dump_of, newest_pairs};
 ghost use Rattle.tester_run.specs.Rendered.{Renders};
 
-use crate::driving::{drive, start};
+use crate::driving::drive;
 use crate::dumping::render;
-use crate::seat::Seat;
 use client_core::Core;
 use command_words::RunArgs;
 use dump_text::Order;
 use key_bytes::Pairs;
+use machine_seat::{Seat, start};
 use outside::PcgWords;
 use stack_machine::{End, State};
 use std::alloc::{AllocError, Global};
@@ -74,13 +75,23 @@ pub fn rendered_of(
     })
 }
 
+/// Machine 0 as it is started.
+pub fn first_seat(alloc: Global, arguments: &RunArgs, core: &Core) -> Result<Seat, AllocError>
+    ensures started { IfOk result (λ seat. IsStarted seat arguments.now core.now) }
+    ensures first { IfOk result (λ seat. IsFirst seat arguments.now core.now) }
+    ensures seated { IfOk result IsSeated }
+{
+    let instructions = core.instructions(arguments.prefix.as_slice())?;
+    let prefix = arguments.prefix.copy()?;
+    let seat = start(alloc, 0, prefix, arguments.polls, instructions)?;
+    Ok(seat)
+}
+
 /// Machine 0 alone, as it is started.
 pub fn first_seats(alloc: Global, arguments: &RunArgs, core: &Core) -> Result<Vec<Seat>, AllocError>
     ensures { IfOk result (λ seats. AreFirst seats.items arguments.now core.now) }
 {
-    let instructions = core.instructions(arguments.prefix.as_slice())?;
-    let prefix = arguments.prefix.copy()?;
-    let first = start(alloc, 0, prefix, arguments.polls, instructions)?;
+    let first = first_seat(alloc, arguments, core)?;
     let mut seats = Vec::new(alloc);
     seats.push(first)?;
     Ok(seats)

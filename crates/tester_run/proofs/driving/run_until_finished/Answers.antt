@@ -1,5 +1,5 @@
 use Rattle.std.proofs.Common.{List, Some, subst, ◌∙◌}
-use Rattle.tester_run.specs.declared.seat.Seat.{Seat}
+use Rattle.machine_seat.specs.declared.seat.Seat.{Seat}
 use Rattle.tester_run.specs.declared.driving.Moved.{Moved}
 use Rattle.tester_run.specs.declared.driving.Moved.TheVariants.{AsksOn}
 use Rattle.tester_run.specs.Driving.{HasMoved, IsNextInTurn}

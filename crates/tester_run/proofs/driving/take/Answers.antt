@@ -6,8 +6,9 @@ use Rattle.machine_rules.specs.Machines.{Progress}
 use Rattle.client_core.specs.Stands.{HasStarted}
 use Rattle.machine_rules.specs.Runs.{started_by}
 use Rattle.tester_run.specs.declared.driving.Moved.{Moved}
-use Rattle.tester_run.specs.declared.seat.Seat.{Seat}
-use Rattle.tester_run.specs.Driving.{progress_of, HasMoved, IsGoing, IsSeated}
+use Rattle.machine_seat.specs.declared.seat.Seat.{Seat}
+use Rattle.machine_seat.specs.Seats.{progress_of, IsSeated}
+use Rattle.tester_run.specs.Driving.{HasMoved, IsGoing}
 use Rattle.tester_run.proofs.Seats.{asks_there, get_within, nearer_moved}
 use Rattle.tester_run.proofs.Leading.{going_more, going_on, taken_goes_on, takes_by}
 use Rattle.tester_run.proofs.driving.take.Goals as goal

@@ -2,7 +2,7 @@ use Rattle.std.proofs.Common.{◌+◌, ◌∷◌, [], ◌++◌, List, ℕ, drop,
 use Rattle.std.proofs.Math.Seq.{split_at}
 use Rattle.std.proofs.lemmas.List.{take_more}
 use Rattle.std.specs.Prelude.{slice_index_or}
-use Rattle.tester_run.specs.declared.seat.Seat.{Seat}
+use Rattle.machine_seat.specs.declared.seat.Seat.{Seat}
 use Rattle.tester_run.specs.Driving.{asks_at}
 use Rattle.tester_run.proofs.Seats.{asks_within}
 use Rattle.tester_run.proofs.replaying.follow.Goals as goal

@@ -1,6 +1,6 @@
 use Rattle.std.proofs.Common.{ℕ, List, Option, subst, sym, ◌∙◌}
 use Rattle.tester_run.specs.declared.fault.OrderFault.{OrderFault}
-use Rattle.tester_run.specs.declared.seat.Seat.{Seat}
+use Rattle.machine_seat.specs.declared.seat.Seat.{Seat}
 use Rattle.tester_run.specs.Driving.{IsFirstAsking}
 use Rattle.tester_run.specs.Following.{HasFollowed}
 use Rattle.tester_run.proofs.Finished.{going_first, leads_first, rendered_finishes}

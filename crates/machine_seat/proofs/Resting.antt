@@ -1,6 +1,6 @@
 -- What a machine comes to that runs on, or uses the reply to what it asked.
 use Rattle.std.proofs.Common.{◌≡◌, ◌≢◌, ℕ, ◌+◌, ◌-◌, ◌<◌, ◌≤◌, Bool, true, false, cond}
-use Rattle.std.proofs.Common.{List, length, Option, Some, None, IsSome, refl, sym, ap, subst, ◌∙◌, arith}
+use Rattle.std.proofs.Common.{List, length, Option, Some, None, IsSome, is_some, refl, sym, ap, subst, ◌∙◌, arith}
 use Rattle.fdb_calls.specs.declared.Request.{Request}
 use Rattle.fdb_calls.specs.declared.Reply.{Reply}
 use Rattle.stack_machine.specs.MachineModel.{MachineModel}
@@ -14,8 +14,8 @@ use Rattle.machine_rules.specs.Machines.{Machine, Progress, silent, advance, res
 use Rattle.machine_rules.specs.Runs.{at_rest, is_running, has_stopped}
 use Rattle.machine_rules.specs.Laws.{HasItsItemIn, effort_in, is_awaiting, quiet_item, advance_item, resumed_item, advance_finishes, advance_asks, advance_quiet, advance_still, advance_asks_inside}
 use Rattle.machine_rules.specs.Laws.{GoesOn as HasUsed, Further, Again, Halts, resumed_goes, at_rest_advance, at_rest_still}
-use Rattle.tester_run.specs.declared.seat.Seat.{Seat}
-use Rattle.tester_run.specs.Driving.{asked_by, with_asked, progress_of, work_left, IsNearer, IsSeated}
+use Rattle.machine_seat.specs.declared.seat.Seat.{Seat}
+use Rattle.machine_seat.specs.Seats.{asked_by, with_asked, progress_of, work_left, Awaits, IsNearer, IsSeated}
 
 -- ---- what an answer of a step says
 
@@ -141,7 +141,8 @@ turn_again old new answer moves quiet e =
     let finishes = advance_finishes old.machine was runs in
     record {
       awaits_none = awaits_none;
-      nearer = less_left old.machine new.machine (running_not_stopped old.machine.state was) (ap (λ (m : Machine). m.instructions) moves.machine ∙ finishes.instructions)
+      nearer = less_left old.machine new.machine (running_not_stopped old.machine.state was)
+          (ap (λ (m : Machine). m.instructions) moves.machine ∙ finishes.instructions)
           (ap (λ (m : Machine). m.next) moves.machine ∙ finishes.next) finishes.inside;
     }
 
@@ -286,7 +287,8 @@ again_rests old new answer moves e =
 -- the machine has used its reply
 pub taken_used : (old new : MachineModel) (given : Reply) (answer : Step) (asks : Option Request)
     → Moves old (resumed old.machine given) answer new → asked_by answer ≡ asks → is_awaiting old.machine.state ≡ true
-    → HasItsItemIn old.machine → (with_asked new.machine asks ≡ resumed old.machine given) × HasUsed old.machine (with_asked new.machine asks)
+    → HasItsItemIn old.machine
+    → (with_asked new.machine asks ≡ resumed old.machine given) × HasUsed old.machine (with_asked new.machine asks)
 taken_used old new given answer asks moves e awaits item =
     let is : resumed old.machine given ≡ with_asked new.machine asks =
     moved_asking old new (resumed old.machine given) answer asks moves e in
@@ -309,6 +311,10 @@ used_asks before after request (Further instructions next runs silent_is) = absu
 used_asks before after request (Again instructions next awaits asked asks_is lighter) =
     record { instructions = instructions; next = next; awaits = awaits; lighter = lighter }
 used_asks before after request (Halts instructions next stops silent_is) = absurd cc
+
+-- a machine at its seat that asked this
+abbrev pub asked_seat : MachineModel → Request → Seat
+asked_seat machine asked = record { machine = machine; asks = Some asked }
 
 -- a machine that used its reply is at rest, and nearer to its end
 pub record RestsAfter (seat : Seat) (given : Reply) (asks_on : Bool) (after : Seat) : Type 0 where
@@ -380,3 +386,14 @@ reply_goes_on seat new given answer seated asks moves e =
     let both = taken_used old new given answer None moves (ap asked_by e) was seated.item in
     let gone = used_gone old.machine new.machine both.1 (awaiting_not_stopped old.machine.state was) (seated.inside was) in
     record { silent_is = both.0; awaits_none = gone.0; nearer = gone.1 }
+
+-- a machine at its seat that asks something awaits the reply
+pub awaits_reply : (seat : Seat) → IsSeated seat → IsSome seat.asks → Awaits seat.machine
+awaits_reply seat seated asks = by seat.asks refl
+  where
+    by : (asked : Option Request) → seat.asks ≡ asked → Awaits seat.machine
+    by None is = absurd (let none : is_some seat.asks ≡ false = ap is_some is in let both : true ≡ false = sym asks ∙ none in cc)
+    by (Some request) is = record {
+      asked = request;
+      seated = subst (λ (a : Option Request). IsSeated (record { machine = seat.machine; asks = a })) is seated;
+    }

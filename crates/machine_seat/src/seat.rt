@@ -5,9 +5,9 @@ ghost use Rattle.fdb_calls.specs.declared.Reply.TheVariants.{NoMemory};
 ghost use Rattle.machine_rules.specs.Machines.{silent, resumed};
 ghost use Rattle.machine_rules.specs.Runs.{at_rest};
 ghost use Rattle.machine_rules.specs.Laws.{is_awaiting};
-ghost use Rattle.tester_run.specs.Driving.{progress_of, with_asked, work_left, IsNearer, IsSeated};
+ghost use Rattle.machine_seat.specs.Seats.{progress_of, with_asked, work_left, Awaits, IsNearer, IsSeated};
 
-use fdb_calls::Reply;
+use fdb_calls::{Reply, Request};
 use stack_machine::{Asked, Machine, Step};
 use std::alloc::AllocError;
 
@@ -36,6 +36,26 @@ impl Seat {
     pub fn use_reply(&mut self, reply: &Reply) -> Result<bool, AllocError>
         requires seated { IsSeated self.old }
         requires asks { IsSome self.old.asks }
+        requires memory { reply.now ≢ NoMemory }
+        ensures rests { OnOk result (progress_of self.new ≡ at_rest (resumed self.old.machine.machine reply.now)) }
+        ensures seated { OnOk result (IsSeated self.new) }
+        ensures nearer { IfOk result (λ asks_on. IsNearer asks_on self.old.machine.machine self.new.machine.machine) }
+    {
+        self.use_awaited(reply)
+    }
+
+    /// Hands over what the machine asks: it awaits the reply then (`use_awaited`). It takes no memory.
+    pub fn hand_over(&mut self) -> Request
+        requires asks { IsSome self.old.asks }
+        ensures request { self.old.asks ≡ Some result }
+        ensures machine { self.new.machine ≡ self.old.machine }
+    {
+        self.asks.take().unwrap().into_request()
+    }
+
+    /// `use_reply`, where what the machine asked may have been handed over.
+    pub fn use_awaited(&mut self, reply: &Reply) -> Result<bool, AllocError>
+        requires awaits { Awaits self.old.machine }
         requires memory { reply.now ≢ NoMemory }
         ensures rests { OnOk result (progress_of self.new ≡ at_rest (resumed self.old.machine.machine reply.now)) }
         ensures seated { OnOk result (IsSeated self.new) }

@@ -1,6 +1,6 @@
 use Rattle.std.proofs.Common.{◌∙◌}
-use Rattle.tester_run.proofs.Resting.{again_rests, asks_rests, at_most_below, at_most_further, stops_rests, turn_again}
-use Rattle.tester_run.proofs.seat.run_on.Goals as goal
+use Rattle.machine_seat.proofs.Resting.{again_rests, asks_rests, at_most_below, at_most_further, stops_rests, turn_again}
+use Rattle.machine_seat.proofs.seat.run_on.Goals as goal
 
 pub returns-in-Ask-clause-rests : goal.returns-in-Ask-clause-rests
 returns-in-Ask-clause-rests c =

@@ -2,8 +2,8 @@ use Rattle.std.proofs.Common.{◌≡◌, ◌≤◌, false}
 use Rattle.machine_rules.specs.Machines.{silent}
 use Rattle.machine_rules.specs.Runs.{at_rest}
 use Rattle.machine_rules.specs.Laws.{is_awaiting}
-use Rattle.tester_run.specs.Driving.{work_left}
-use Rattle.tester_run.proofs.seat.run_on.Given as goal
+use Rattle.machine_seat.specs.Seats.{work_left}
+use Rattle.machine_seat.proofs.seat.run_on.Given as goal
 
 abbrev pub invariant-loop-request : goal.invariant-loop-request
 invariant-loop-request l = record {
