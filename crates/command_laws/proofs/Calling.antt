@@ -11,8 +11,8 @@ use Rattle.clap.specs.Values.{kind_of}
 use Rattle.clap.specs.declared.error.Error.{Error}
 use Rattle.clap.specs.declared.error.kind.ErrorKind.{ErrorKind}
 use Rattle.clap.specs.declared.error.kind.ErrorKind.TheVariants.{OutOfMemory}
-use Rattle.command_rules.specs.Grammar.{args_of, polls_given, prefix_in, run_with, seed_given}
-use Rattle.command_laws.specs.Found.{EachUtf8, asked_by, asked_in, listed}
+use Rattle.command_rules.specs.Grammar.{args_of, polls_given, prefix_in, run_with, seed_given, workers_in}
+use Rattle.command_laws.specs.Found.{EachUtf8, asked_by, asked_in, listed, workers_asked_in}
 use Rattle.command_laws.specs.Program.{program}
 use Rattle.command_laws.proofs.Asking.{no_polls, no_seed}
 use Rattle.command_laws.proofs.Deciding.{Decided, decided}
@@ -56,6 +56,11 @@ texts_of text = listed (option_map (λ t. t.now) text)
 
 value_is : (found : Found) (id : List ℕ) (text : Option (Bor (List ℕ))) → option_map (λ t. t.now) text ≡ first_value found id → listed (first_of id (rows_of found)) ≡ texts_of text
 value_is found id text is = ap listed (sym (is ∙ first_value-rows found id))
+
+-- of the argument of `gen`
+pub workers_are : (found : Found) (text : Option (Bor (List ℕ))) → option_map (λ t. t.now) text ≡ first_value found (codes "workers")
+    → workers_asked_in (rows_of found) ≡ workers_in (texts_of text)
+workers_are found text is = ap workers_in (value_is found (codes "workers") text is)
 
 module _ (found : Found) where
   abbrev rows : List Row

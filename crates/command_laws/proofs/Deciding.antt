@@ -14,15 +14,16 @@ use Rattle.clap.specs.declared.error.kind.ErrorKind.{ErrorKind}
 use Rattle.clap.specs.declared.error.kind.ErrorKind.TheVariants.{InvalidSubcommand, MissingRequiredArgument, MissingSubcommand, UnknownArgument}
 use Rattle.clap.proofs.WalkLemmas.{walk_stopped}
 use Rattle.clap.proofs.FaultLemmas.{past as past_first, stopped_fault}
-use Rattle.command_rules.specs.declared.args.Args.TheVariants.{Run, Replay}
-use Rattle.command_rules.specs.Grammar.{WordKind, apart, args_of, joined, kind_in, polls, polls_given, positional, prefix_in, run_in, run_with, seed, seed_given, separator, unknown}
-use Rattle.command_laws.specs.Found.{EachUtf8, asked_by, asked_in, listed}
+use Rattle.command_rules.specs.declared.args.Args.TheVariants.{Run, Replay, Gen}
+use Rattle.command_rules.specs.Grammar.{WordKind, apart, args_of, gen_in, joined, kind_in, polls, polls_given, positional, prefix_in, run_in, run_with, seed, seed_given, separator, unknown}
+use Rattle.command_laws.specs.Found.{EachUtf8, asked_by, asked_in, listed, workers_asked_in}
 use Rattle.command_laws.specs.Program.{program}
 use Rattle.command_laws.proofs.WordKinds.{IsUnknown, Meets, by_character, by_name, is_separator, meets}
 use Rattle.command_laws.proofs.Leaves.{ArgumentId, Holds, Tally, api, holds_nothing, id_text, leaf, nothing, option, prefix, row_for, run_rules}
 use Rattle.command_laws.proofs.Steps.{at, first}
 use Rattle.command_laws.proofs.Readings.{Agrees, end_rows, fault_from, read_words, reads}
 use Rattle.command_laws.proofs.Asking.{asked, asks_run}
+use Rattle.command_laws.proofs.Workers.{gen_decided, gen_fault, gen_rows}
 
 -- ---- what the matches hold
 
@@ -204,6 +205,10 @@ replay_stops : (words : List (List ℕ)) → top_end (codes "replay" ∷ words) 
 unfolding walked
 replay_stops words = sym (walk_stopped top.rules names top_start (codes "replay") [] words)
 
+gen_stops : (words : List (List ℕ)) → top_end (codes "gen" ∷ words) ≡ stopped_at (codes "gen") words
+unfolding walked
+gen_stops words = sym (walk_stopped top.rules names top_start (codes "gen") [] words)
+
 run_walks : (words : List (List ℕ)) → walk_fault top names top_start (codes "run" ∷ words) ≡ []
 unfolding walk_fault walked
 run_walks words = stopped_fault top names top_start (codes "run", []) words
@@ -211,6 +216,10 @@ run_walks words = stopped_fault top names top_start (codes "run", []) words
 replay_walks : (words : List (List ℕ)) → walk_fault top names top_start (codes "replay" ∷ words) ≡ []
 unfolding walk_fault walked
 replay_walks words = stopped_fault top names top_start (codes "replay", []) words
+
+gen_walks : (words : List (List ℕ)) → walk_fault top names top_start (codes "gen" ∷ words) ≡ []
+unfolding walk_fault walked
+gen_walks words = stopped_fault top names top_start (codes "gen", []) words
 
 run_behind : (words : List (List ℕ)) → behind_walk (stopped_at (codes "run") words) ≡ leaf_fault (codes "run") words
 unfolding defaults_fault
@@ -220,6 +229,10 @@ replay_behind : (words : List (List ℕ)) → behind_walk (stopped_at (codes "re
 unfolding defaults_fault
 replay_behind words = none_behind (leaf_fault (codes "replay") words)
 
+gen_behind : (words : List (List ℕ)) → behind_walk (stopped_at (codes "gen") words) ≡ gen_fault words
+unfolding defaults_fault
+gen_behind words = none_behind (gen_fault words)
+
 run_fault : (words : List (List ℕ)) → fault_of program (codes "run" ∷ words) ≡ leaf_fault (codes "run") words
 run_fault words =
     fault_parts (codes "run" ∷ words) ∙ past_first _ _ (run_walks words) ∙ ap behind_walk (run_stops words) ∙ run_behind words
@@ -228,11 +241,18 @@ replay_fault : (words : List (List ℕ)) → fault_of program (codes "replay" �
 replay_fault words =
     fault_parts (codes "replay" ∷ words) ∙ past_first _ _ (replay_walks words) ∙ ap behind_walk (replay_stops words) ∙ replay_behind words
 
+gen_is_fault : (words : List (List ℕ)) → fault_of program (codes "gen" ∷ words) ≡ gen_fault words
+gen_is_fault words =
+    fault_parts (codes "gen" ∷ words) ∙ past_first _ _ (gen_walks words) ∙ ap behind_walk (gen_stops words) ∙ gen_behind words
+
 run_found : (words : List (List ℕ)) → subcommand_of program (codes "run" ∷ words) ≡ Some (codes "run", leaf_rows words)
 run_found words = ap (λ (end : Walk). entered (built program) end.stopped) (run_stops words)
 
 replay_found : (words : List (List ℕ)) → subcommand_of program (codes "replay" ∷ words) ≡ Some (codes "replay", leaf_rows words)
 replay_found words = ap (λ (end : Walk). entered (built program) end.stopped) (replay_stops words)
+
+gen_found : (words : List (List ℕ)) → subcommand_of program (codes "gen" ∷ words) ≡ Some (codes "gen", gen_rows words)
+gen_found words = ap (λ (end : Walk). entered (built program) end.stopped) (gen_stops words)
 
 -- ---- words that begin with no command
 
@@ -240,27 +260,28 @@ no_words : fault_of program [] ≡ MissingSubcommand ∷ []
 unfolding walk_fault defaults_fault
 no_words = refl
 
-module _ (word : List ℕ) (not_run : bytes_eq (codes "run") word ≡ false) (not_replay : bytes_eq (codes "replay") word ≡ false) where
+module _ (word : List ℕ) (not_run : bytes_eq (codes "run") word ≡ false) (not_replay : bytes_eq (codes "replay") word ≡ false)
+    (not_gen : bytes_eq (codes "gen") word ≡ false) where
   abbrev first_fault : Kinds
   first_fault = turn_fault top names top_start word
 
   long_fails : (name : List ℕ) (value : Option (List ℕ)) → is_separator word ≡ false → long_of word ≡ Some (name, value) → first_fault ≡ UnknownArgument ∷ []
-  long_fails name value e long = rw (not_run, not_replay, e, long) refl
+  long_fails name value e long = rw (not_run, not_replay, not_gen, e, long) refl
 
   unknown_fails : is_separator word ≡ false → IsUnknown word → first_fault ≡ UnknownArgument ∷ []
   unfolding flags_fault
-  unknown_fails e (by_name name value long differs) = rw (not_run, not_replay, e, long) refl
-  unknown_fails e (by_character x xs c long short is) = rw (not_run, not_replay, e, long, short, is) refl
+  unknown_fails e (by_name name value long differs) = rw (not_run, not_replay, not_gen, e, long) refl
+  unknown_fails e (by_character x xs c long short is) = rw (not_run, not_replay, not_gen, e, long, short, is) refl
 
   plain_fails : is_separator word ≡ false → long_of word ≡ None → short_of word ≡ None → first_fault ≡ UnknownArgument ∷ InvalidSubcommand ∷ []
-  plain_fails e long short = rw (not_run, not_replay, e, long, short) refl
+  plain_fails e long short = rw (not_run, not_replay, not_gen, e, long, short) refl
 
   separator_passes : is_separator word ≡ true → first_fault ≡ []
-  separator_passes e = rw (not_run, not_replay, e) refl
+  separator_passes e = rw (not_run, not_replay, not_gen, e) refl
 
   separator_walks : is_separator word ≡ true → walked top.rules names top_start word ≡ record top_start { is_trailing = true }
   unfolding walked
-  separator_walks e = rw (not_run, not_replay, e) refl
+  separator_walks e = rw (not_run, not_replay, not_gen, e) refl
 
 abbrev behind_separator : Walk
 behind_separator = record top_start { is_trailing = true }
@@ -295,12 +316,12 @@ refused_behind word (other ∷ words) walks none =
     cc
 
 no_command : (word : List ℕ) (words : List (List ℕ)) → bytes_eq (codes "run") word ≡ false → bytes_eq (codes "replay") word ≡ false
-    → (of_word : WordKind) → Meets of_word word → fault_of program (word ∷ words) ≡ [] → ⊥
-no_command word words not_run not_replay separator met = refused_behind word words (separator_walks word not_run not_replay met)
-no_command word words not_run not_replay (joined name value) met = refused_at word words _ _ (long_fails word not_run not_replay _ _ met.0 met.1)
-no_command word words not_run not_replay (apart name) met = refused_at word words _ _ (long_fails word not_run not_replay _ _ met.0 met.1)
-no_command word words not_run not_replay unknown met = refused_at word words _ _ (unknown_fails word not_run not_replay met.0 met.1)
-no_command word words not_run not_replay positional met = refused_at word words _ _ (plain_fails word not_run not_replay met.0 met.1 met.2)
+    → bytes_eq (codes "gen") word ≡ false → (of_word : WordKind) → Meets of_word word → fault_of program (word ∷ words) ≡ [] → ⊥
+no_command word words not_run not_replay not_gen separator met = refused_behind word words (separator_walks word not_run not_replay not_gen met)
+no_command word words not_run not_replay not_gen (joined name value) met = refused_at word words _ _ (long_fails word not_run not_replay not_gen _ _ met.0 met.1)
+no_command word words not_run not_replay not_gen (apart name) met = refused_at word words _ _ (long_fails word not_run not_replay not_gen _ _ met.0 met.1)
+no_command word words not_run not_replay not_gen unknown met = refused_at word words _ _ (unknown_fails word not_run not_replay not_gen met.0 met.1)
+no_command word words not_run not_replay not_gen positional met = refused_at word words _ _ (plain_fails word not_run not_replay not_gen met.0 met.1 met.2)
 
 -- ---- every list of words
 
@@ -319,6 +340,14 @@ replay_decided : (words : List (List ℕ)) → LeafDecided (codes "replay") word
 replay_decided words (inl passes) = inl (replay_fault words ∙ passes.0, ap asked_by (replay_found words) ∙ ap (option_map Replay) passes.1)
 replay_decided words (inr refuses) = inr (λ none. refuses.0 (sym (replay_fault words) ∙ none), ap (option_map Replay) refuses.1)
 
+gen_by : (words : List (List ℕ)) → EachUtf8 words → Decided (codes "gen" ∷ words)
+gen_by words each = go (gen_decided words each)
+  where
+    go : ((gen_fault words ≡ []) × (workers_asked_in (gen_rows words) ≡ gen_in words)) ⊎ ((gen_fault words ≡ [] → ⊥) × (gen_in words ≡ None))
+        → Decided (codes "gen" ∷ words)
+    go (inl passes) = inl (gen_is_fault words ∙ passes.0, ap asked_by (gen_found words) ∙ ap (option_map Gen) passes.1)
+    go (inr refuses) = inr (λ none. refuses.0 (sym (gen_is_fault words) ∙ none), ap (option_map Gen) refuses.1)
+
 turned : (a b : List ℕ) → bytes_eq a b ≡ false → bytes_eq b a ≡ false
 turned a b e = go (bytes_eq b a) refl
   where
@@ -331,14 +360,22 @@ decided [] each = inr (λ none. nothing_missing (sym no_words ∙ none), refl)
   where
     nothing_missing : ◌≡◌ {A = Kinds} (MissingSubcommand ∷ []) [] → ⊥
     nothing_missing e = cc
-decided (word ∷ words) each = go (bytes_eq word (codes "run")) refl (bytes_eq word (codes "replay")) refl
+decided (word ∷ words) each = go (bytes_eq word (codes "run")) refl (bytes_eq word (codes "replay")) refl (bytes_eq word (codes "gen")) refl
   where
-    go : (b : Bool) → bytes_eq word (codes "run") ≡ b → (c : Bool) → bytes_eq word (codes "replay") ≡ c → Decided (word ∷ words)
-    go true same c replay =
+    go : (b : Bool) → bytes_eq word (codes "run") ≡ b → (c : Bool) → bytes_eq word (codes "replay") ≡ c → (d : Bool) → bytes_eq word (codes "gen") ≡ d
+        → Decided (word ∷ words)
+    go true same c replay d gen =
         let is : word ≡ codes "run" = (bytes_eq-Decides word (codes "run")).0 same in
         subst (λ w. Decided (w ∷ words)) (sym is) (run_decided words (leaf_decided (codes "run") words each.1))
-    go false run true same =
+    go false run true same d gen =
         let is : word ≡ codes "replay" = (bytes_eq-Decides word (codes "replay")).0 same in
         subst (λ w. Decided (w ∷ words)) (sym is) (replay_decided words (leaf_decided (codes "replay") words each.1))
-    go false run false replay =
-        inr (no_command word words (turned word (codes "run") run) (turned word (codes "replay") replay) (kind_in word) (meets word each.0), rw (run, replay) refl)
+    go false run false replay true same =
+        let is : word ≡ codes "gen" = (bytes_eq-Decides word (codes "gen")).0 same in
+        subst (λ w. Decided (w ∷ words)) (sym is) (gen_by words each.1)
+    go false run false replay false gen =
+        inr (
+          no_command word words (turned word (codes "run") run) (turned word (codes "replay") replay) (turned word (codes "gen") gen) (kind_in word)
+              (meets word each.0),
+          rw (run, replay, gen) refl,
+        )

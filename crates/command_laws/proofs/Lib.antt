@@ -5,5 +5,6 @@ pub mod Steps
 pub mod Readings
 pub mod Asking
 pub mod Deciding
+pub mod Workers
 pub mod Numbers
 pub mod Calling

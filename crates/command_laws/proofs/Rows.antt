@@ -3,7 +3,7 @@ use Rattle.std.proofs.Common.{◌≡◌, [], ◌∷◌, Some, None, replicate, c
 use Rattle.clap.specs.Words.{is_simple_and_free}
 use Rattle.command_rules.specs.Grammar.{args_of}
 use Rattle.command_laws.specs.Program.{program}
-use Rattle.command_rules.specs.declared.args.Args.TheVariants.{Run, Replay}
+use Rattle.command_rules.specs.declared.args.Args.TheVariants.{Run, Replay, Gen}
 
 run_plain : args_of (codes "run" ∷ codes "t" ∷ codes "630" ∷ []) ≡ Some (Run (record { prefix = codes "t"; seed = 0; polls = 10000 }))
 run_plain = refl
@@ -44,8 +44,35 @@ no_command = refl
 unknown_command : args_of (codes "start" ∷ codes "t" ∷ codes "630" ∷ []) ≡ None
 unknown_command = refl
 
-gen_is_no_command_yet : args_of (codes "gen" ∷ codes "5" ∷ []) ≡ None
-gen_is_no_command_yet = refl
+gen_plain : args_of (codes "gen" ∷ codes "5" ∷ []) ≡ Some (Gen 5)
+gen_plain = refl
+
+gen_most : args_of (codes "gen" ∷ codes "--" ∷ codes "30" ∷ []) ≡ Some (Gen 30)
+gen_most = refl
+
+gen_separator_last : args_of (codes "gen" ∷ codes "1" ∷ codes "--" ∷ []) ≡ Some (Gen 1)
+gen_separator_last = refl
+
+gen_none : args_of (codes "gen" ∷ []) ≡ None
+gen_none = refl
+
+gen_too_few : args_of (codes "gen" ∷ codes "0" ∷ []) ≡ None
+gen_too_few = refl
+
+gen_too_many : args_of (codes "gen" ∷ codes "31" ∷ []) ≡ None
+gen_too_many = refl
+
+gen_leading_zero : args_of (codes "gen" ∷ codes "05" ∷ []) ≡ None
+gen_leading_zero = refl
+
+gen_two : args_of (codes "gen" ∷ codes "5" ∷ codes "5" ∷ []) ≡ None
+gen_two = refl
+
+gen_with_an_option : args_of (codes "gen" ∷ codes "--seed=1" ∷ codes "5" ∷ []) ≡ None
+gen_with_an_option = refl
+
+gen_with_an_option_behind : args_of (codes "gen" ∷ codes "5" ∷ codes "--seed" ∷ codes "1" ∷ []) ≡ None
+gen_with_an_option_behind = refl
 
 command_behind_the_separator : args_of (codes "--" ∷ codes "run" ∷ codes "t" ∷ codes "630" ∷ []) ≡ None
 command_behind_the_separator = refl

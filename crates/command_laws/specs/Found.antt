@@ -5,8 +5,8 @@ use Rattle.clap.specs.Words.{Row, first_of}
 use Rattle.key_bytes.specs.Keys.{begins_with}
 use Rattle.command_rules.specs.declared.args.RunArgs.{RunArgs}
 use Rattle.command_rules.specs.declared.args.Args.{Args}
-use Rattle.command_rules.specs.declared.args.Args.TheVariants.{Run, Replay}
-use Rattle.command_rules.specs.Grammar.{polls_given, prefix_in, run_with, seed_given}
+use Rattle.command_rules.specs.declared.args.Args.TheVariants.{Run, Replay, Gen}
+use Rattle.command_rules.specs.Grammar.{polls_given, prefix_in, run_with, seed_given, workers_in}
 
 -- a value as the list of an argument's values, which has one or none
 abbrev pub listed : Option (List ℕ) → List (List ℕ)
@@ -19,12 +19,17 @@ asked_in rows =
     run_with (prefix_in (listed (first_of (codes "prefix") rows) ++ listed (first_of (codes "api") rows)))
     (seed_given (listed (first_of (codes "seed") rows))) (polls_given (listed (first_of (codes "polls") rows)))
 
+-- of `gen`
+abbrev pub workers_asked_in : List Row → Option ℕ
+workers_asked_in rows = workers_in (listed (first_of (codes "workers") rows))
+
 -- of the subcommand of this name
 abbrev pub asked_as : List ℕ → List Row → Option Args
 asked_as name rows =
     if bytes_eq name (codes "run") then option_map Run (asked_in rows)
     else (if bytes_eq name (codes "replay") then option_map Replay (asked_in rows)
-    else None)
+    else (if bytes_eq name (codes "gen") then option_map Gen (workers_asked_in rows)
+    else None))
 
 -- of the subcommand that was met, with its matches
 abbrev pub asked_by : Option (List ℕ × List Row) → Option Args

@@ -17,6 +17,10 @@ run_app name =
     with_rule (with_rule (with_rule (with_rule (new_app name) (positional_rule (codes "prefix"))) (positional_rule (codes "api")))
     (option_rule seed)) (option_rule polls)
 
+-- `gen`
+abbrev pub gen_app : App
+gen_app = with_rule (new_app (codes "gen")) (positional_rule (codes "workers"))
+
 -- no program's name comes first, there are no words for help, and a command must be named
 abbrev pub top_shape : Shape
 top_shape = record (new_shape (codes "fdbtester")) {
@@ -26,7 +30,11 @@ top_shape = record (new_shape (codes "fdbtester")) {
   subcommand_required = true;
 }
 
-abbrev pub program : App
-program =
+abbrev pub run_program : App
+run_program =
     with_subcommand (with_subcommand (record { top = top_shape; subs = [] }) (run_app (codes "run")).top)
     (run_app (codes "replay")).top
+
+-- with `gen`
+abbrev pub program : App
+program = with_subcommand run_program gen_app.top

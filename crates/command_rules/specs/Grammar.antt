@@ -5,7 +5,7 @@ use Rattle.std.specs.Str.Parse.{digits_value}
 use Rattle.key_bytes.specs.Keys.{begins_with}
 use Rattle.command_rules.specs.declared.args.RunArgs.{RunArgs}
 use Rattle.command_rules.specs.declared.args.Args.{Args}
-use Rattle.command_rules.specs.declared.args.Args.TheVariants.{Run, Replay}
+use Rattle.command_rules.specs.declared.args.Args.TheVariants.{Run, Replay, Gen}
 
 -- ---- one word
 
@@ -141,10 +141,27 @@ run_of arguments =
 abbrev pub run_in : List (List ℕ) → Option RunArgs
 run_in words = option_and_then run_of (arguments_in None words)
 
+-- `gen` has one argument, how many workers there are to be, and no option
+abbrev pub workers_in : List (List ℕ) → Option ℕ
+workers_in [] = None
+workers_in (word ∷ []) = number_in 1 30 word
+workers_in (word ∷ other ∷ more) = None
+
+abbrev pub workers_of : List Argument → Option ℕ
+workers_of [] = None
+workers_of (given name value ∷ rest) = None
+workers_of (placed word ∷ []) = number_in 1 30 word
+workers_of (placed word ∷ other ∷ more) = None
+
+-- what the words after `gen` ask for
+abbrev pub gen_in : List (List ℕ) → Option ℕ
+gen_in words = option_and_then workers_of (arguments_in None words)
+
 -- what the words after the program's name ask for
 abbrev pub args_of : List (List ℕ) → Option Args
 args_of [] = None
 args_of (command ∷ words) =
     if bytes_eq command (codes "run") then option_map Run (run_in words)
     else (if bytes_eq command (codes "replay") then option_map Replay (run_in words)
-    else None)
+    else (if bytes_eq command (codes "gen") then option_map Gen (gen_in words)
+    else None))

@@ -13,11 +13,13 @@ pub struct RunArgs {
     pub polls: u32,
 }
 
-/// A command of the program. `gen` is none in this release.
+/// A command of the program.
 #[derive(Debug, Drop)]
 pub enum Args {
     /// Runs the instructions of an input.
     Run(RunArgs),
     /// Runs them by the order that the input names.
     Replay(RunArgs),
+    /// Runs the instructions that are made for so many workers, and tells of the run in a summary.
+    Gen(u32),
 }

@@ -4,7 +4,7 @@ ghost use Rattle.std.specs.Prelude.{◌≡◌, IfOk, Some, false};
 ghost use Rattle.clap.specs.Walk.{rule_of};
 ghost use Rattle.clap.specs.Simple.{app_of, new_rule};
 ghost use Rattle.clap.specs.declared.Command.TheViews.{out-Command};
-ghost use Rattle.command_laws.specs.Program.{positional_rule, program, run_app};
+ghost use Rattle.command_laws.specs.Program.{gen_app, positional_rule, program, run_app, run_program};
 
 use clap::{Arg, Command};
 use std::alloc::{AllocError, Global};
@@ -37,9 +37,17 @@ fn run_command<'a>(alloc: Global, name: &'a str) -> Result<Command<'a>, AllocErr
         .arg(option(alloc, "polls"))
 }
 
-// The whole command. It has no words for help, and its first word is no program's name.
-pub(crate) fn program<'a>(alloc: Global) -> Result<Command<'a>, AllocError>
-    ensures app { IfOk result (λ command. app_of command ≡ program) }
+// `gen`.
+fn gen_command<'a>(alloc: Global) -> Result<Command<'a>, AllocError>
+    ensures app { IfOk result (λ command. app_of command ≡ gen_app) }
+    ensures local { IfOk result (λ command. (out-Command command).has_globals ≡ false) }
+{
+    Command::new(alloc, "gen").arg(positional(alloc, "workers"))
+}
+
+// The command with `run` and `replay`. It has no words for help, and its first word is no program's name.
+fn run_program<'a>(alloc: Global) -> Result<Command<'a>, AllocError>
+    ensures app { IfOk result (λ command. app_of command ≡ run_program) }
 {
     Command::new(alloc, "fdbtester")
         .no_binary_name(true)
@@ -48,4 +56,11 @@ pub(crate) fn program<'a>(alloc: Global) -> Result<Command<'a>, AllocError>
         .subcommand_required(true)
         .subcommand(run_command(alloc, "run")?)?
         .subcommand(run_command(alloc, "replay")?)
+}
+
+// The whole command.
+pub(crate) fn program<'a>(alloc: Global) -> Result<Command<'a>, AllocError>
+    ensures app { IfOk result (λ command. app_of command ≡ program) }
+{
+    run_program(alloc)?.subcommand(gen_command(alloc)?)
 }

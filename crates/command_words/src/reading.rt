@@ -7,7 +7,7 @@ ghost use Rattle.clap.specs.Walk.{rows_of};
 ghost use Rattle.clap.specs.Simple.{subcommand_rows_of};
 ghost use Rattle.clap.specs.declared.error.kind.ErrorKind.TheVariants.{OutOfMemory};
 ghost use Rattle.command_rules.specs.Grammar.{args_of, number_given, number_in, prefix_in};
-ghost use Rattle.command_laws.specs.Found.{asked_by, asked_in, is_marked, listed};
+ghost use Rattle.command_laws.specs.Found.{asked_by, asked_in, is_marked, listed, workers_asked_in};
 
 use crate::args::ArgWords;
 use crate::command::program;
@@ -30,8 +30,11 @@ const POLLS: u64 = 10_000;
 // How many it may have at most.
 const POLLS_LIMIT: u64 = 100_000;
 
+// How many workers `gen` may be asked for at most.
+const WORKERS_LIMIT: u64 = 30;
+
 /// What the words after the program's name ask for. Usage comes only where they are no command, or a value isn't in its
-/// range, and NoMemory where memory ran out; `args` is only read. `gen` is no command in this release.
+/// range, and NoMemory where memory ran out; `args` is only read.
 pub fn read_args(alloc: Global, args: &ArgWords) -> Result<Args, ArgFault>
     ensures { MatchResult result (λ asked. args_of args.now ≡ Some asked) (λ fault. fault ≡ ArgFault.Usage → args_of args.now ≡ None) }
 {
@@ -65,6 +68,8 @@ fn args_found(alloc: Global, matches: &ArgMatches) -> Result<Args, ArgFault>
         Ok(Args::Run(run_found(alloc, found)?))
     } else if name == "replay" {
         Ok(Args::Replay(run_found(alloc, found)?))
+    } else if name == "gen" {
+        Ok(Args::Gen(workers_found(found)?))
     } else {
         Err(ArgFault::Usage)
     }
@@ -89,6 +94,20 @@ fn run_found(alloc: Global, matches: &ArgMatches) -> Result<RunArgs, ArgFault>
         seed,
         polls: polls as u32,
     })
+}
+
+// What the argument of `gen` asks for.
+fn workers_found(matches: &ArgMatches) -> Result<u32, ArgFault>
+    ensures { MatchResult result (λ workers. workers_asked_in (rows_of (found_of matches.now)) ≡ Some workers)
+        (λ fault. fault ≡ ArgFault.Usage → workers_asked_in (rows_of (found_of matches.now)) ≡ None) }
+{
+    match matches.get_str("workers") {
+        Some(word) => match number(word, 1, WORKERS_LIMIT) {
+            Some(workers) => Ok(workers as u32),
+            None => Err(ArgFault::Usage),
+        },
+        None => Err(ArgFault::Usage),
+    }
 }
 
 // The prefix, where it isn't too long and the API version is the one that is spoken.

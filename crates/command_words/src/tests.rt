@@ -45,7 +45,18 @@ const REFUSED: &[&[&str]] = &[
     &[],
     &["--"],
     &["start", "t", "630"],
-    &["gen", "5"],
+    &["gen"],
+    &["gen", "0"],
+    &["gen", "31"],
+    &["gen", "05"],
+    &["gen", "+5"],
+    &["gen", "5", "5"],
+    &["gen", "--"],
+    &["gen", "--", "5", "--"],
+    &["gen", "--seed=1", "5"],
+    &["gen", "5", "--seed", "1"],
+    &["gen", "--polls", "5"],
+    &["gen", "-"],
     &["--", "run", "t", "630"],
     &["--seed=1", "run", "t", "630"],
     &["help"],
@@ -159,6 +170,25 @@ fn takes_prefix(alloc: Global, length: usize) -> Result<bool, AllocError> {
 fn prefixes_have_a_limit(rt: HostRuntime) -> Result<(), Fail> {
     assert!(rt; takes_prefix(rt.alloc(), 1_000)?);
     assert!(rt; !takes_prefix(rt.alloc(), 1_001)?);
+    Ok(())
+}
+
+// Whether so many workers are asked for.
+fn asks_for_workers(alloc: Global, line: &[&str], wanted: u32) -> Result<bool, AllocError> {
+    let words = words_of(alloc, line)?;
+    Ok(match read_args(alloc, &words) {
+        Ok(Args::Gen(workers)) => workers == wanted,
+        _ => false,
+    })
+}
+
+#[test]
+fn workers_are_read(rt: HostRuntime) -> Result<(), Fail> {
+    let alloc = rt.alloc();
+    assert!(rt; asks_for_workers(alloc, &["gen", "1"], 1)?);
+    assert!(rt; asks_for_workers(alloc, &["gen", "30"], 30)?);
+    assert!(rt; asks_for_workers(alloc, &["gen", "--", "5"], 5)?);
+    assert!(rt; asks_for_workers(alloc, &["gen", "5", "--"], 5)?);
     Ok(())
 }
 

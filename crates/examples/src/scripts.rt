@@ -9,7 +9,7 @@ pub struct Script {
 }
 
 /// All of them.
-pub const SCRIPTS: [Script; 29] = [
+pub const SCRIPTS: [Script; 32] = [
     Script {
         input: "first.kv",
         words: &["run", "p", "630"],
@@ -183,5 +183,23 @@ pub const SCRIPTS: [Script; 29] = [
         words: &["run", "p", "630"],
         status: 0,
         dump: "directories.dump",
+    },
+    Script {
+        input: "no_line.kv",
+        words: &["gen", "1"],
+        status: 0,
+        dump: "gen_1.dump",
+    },
+    Script {
+        input: "no_line.kv",
+        words: &["gen", "8"],
+        status: 0,
+        dump: "gen_8.dump",
+    },
+    Script {
+        input: "no_line.kv",
+        words: &["gen", "30"],
+        status: 0,
+        dump: "gen_30.dump",
     },
 ];

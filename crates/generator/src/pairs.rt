@@ -1,6 +1,8 @@
 //! The pairs that are loaded.
 
-ghost use Rattle.std.specs.Prelude.{◌≡◌, ◌++◌, OnOk, IfOk, pos};
+ghost use Rattle.std.specs.Prelude.{◌≡◌, ◌≤◌, ◌++◌, OnOk, IfOk, pos};
+ghost use Rattle.std.specs.List.{AllByRecursion};
+ghost use Rattle.line_rules.specs.Inputs.{IsSmall};
 ghost use Rattle.generator.specs.Generated.{placed, instruction_key, gen_pairs, worker_pairs, busy_pairs};
 
 use crate::names::{busy_key, worker_prefix};
@@ -10,9 +12,18 @@ use key_bytes::{Bytes, Pair, Pairs};
 use std::alloc::{AllocError, Global};
 
 /// What a run of main and `count` workers loads: the packed instructions of main under `g`, those of each worker w from 1 on
-/// under `w` and its number, and for each worker the key `busy` and its number, with an empty value; in this order. It is
-/// refused for want of memory alone.
+/// under `w` and its number, and for each worker the key `busy` and its number, with an empty value; in this order. An input may
+/// have these pairs where there are at most 30 workers. It is refused for want of memory alone.
 pub fn gen_pairs(alloc: Global, count: u32) -> Result<Pairs, AllocError>
+    ensures made { IfOk result (λ pairs. pairs ≡ gen_pairs count) }
+    ensures small { IfOk result (λ pairs. count ≤ 30 → AllByRecursion IsSmall pairs) }
+{
+    let pairs = all_pairs(alloc, count)?;
+    Ok(pairs)
+}
+
+// The same, of any number of workers.
+fn all_pairs(alloc: Global, count: u32) -> Result<Pairs, AllocError>
     ensures { IfOk result (λ pairs. pairs ≡ gen_pairs count) }
 {
     let mut pairs = Pairs::new(alloc);

@@ -101,7 +101,7 @@ at_rest_stopped (state.Stopped end) runs awaits = refl
 seat_stopped : (seat : Seat) → IsSeated seat → is_some seat.asks ≡ false → has_stopped seat.machine.machine.state ≡ true
 seat_stopped seat seated none = at_rest_stopped seat.machine.machine.state seated.rests (seated.awaits ∙ none)
 
-all_stopped : (seats : List Seat) → AreSeated seats → ((number : ℕ) → asks_at seats number ≡ false)
+pub all_stopped : (seats : List Seat) → AreSeated seats → ((number : ℕ) → asks_at seats number ≡ false)
     → list_all (λ (progress : Progress). has_stopped progress.machine.state) (map progress_of seats) ≡ true
 all_stopped [] all none = refl
 all_stopped (seat ∷ seats) all none =
@@ -137,7 +137,7 @@ dump_is_of order world seats =
 finishes : (pairs : List (List ℕ × List ℕ)) (arguments : RunArgs) (core : CoreModel) (words : ℕ → ℕ) (seats : List Seat)
     (rendered : Rendered)
     → Leads pairs arguments core words seats rendered.order → AreSeated seats → ((number : ℕ) → asks_at seats number ≡ false)
-    → rendered.dump.items ≡ dump_of seats rendered.order (finite.entries (kept_map core))
+    → rendered.output.items ≡ dump_of seats rendered.order (finite.entries (kept_map core))
     → rendered.status ≡ cond (list_all (λ (seat : Seat). has_ended seat.machine.machine.state) seats) 0 3
     → Renders pairs arguments rendered
 finishes pairs arguments core words seats rendered leads seated none dump_is status_is = record {
@@ -154,7 +154,7 @@ finishes pairs arguments core words seats rendered leads seated none dump_is sta
 pub rendered_finishes : (pairs : List (List ℕ × List ℕ)) (arguments : RunArgs) (core : CoreModel) (words : ℕ → ℕ) (seats : List Seat)
     (order : List ℕ) (rendered : Rendered)
     → Leads pairs arguments core words seats order → AreSeated seats → ((number : ℕ) → asks_at seats number ≡ false)
-    → rendered.order ≡ order → rendered.dump.items ≡ dump_of seats order (newest_pairs core.store)
+    → rendered.order ≡ order → rendered.output.items ≡ dump_of seats order (newest_pairs core.store)
     → rendered.status ≡ cond (list_all (λ (seat : Seat). has_ended seat.machine.machine.state) seats) 0 3
     → Renders pairs arguments rendered
 rendered_finishes pairs arguments core words seats order rendered leads seated none order_is dump_is status_is =
@@ -167,7 +167,7 @@ pub run_renders : (pairs : List (List ℕ × List ℕ)) (arguments : RunArgs) (c
     (order : List ℕ) (result : Result Rendered AllocError)
     → Leads pairs arguments core words seats order → AreSeated seats → ((number : ℕ) → asks_at seats number ≡ false)
     → IfOk result (λ rendered. rendered.order ≡ order)
-    → IfOk result (λ rendered. rendered.dump.items ≡ dump_of seats order (newest_pairs core.store))
+    → IfOk result (λ rendered. rendered.output.items ≡ dump_of seats order (newest_pairs core.store))
     → IfOk result (λ rendered. rendered.status ≡ cond (list_all (λ (seat : Seat). has_ended seat.machine.machine.state) seats) 0 3)
     → IfOk result (Renders pairs arguments)
 run_renders pairs arguments core words seats order (Ok rendered) leads seated none order_is dump_is status_is =

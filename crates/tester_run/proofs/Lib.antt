@@ -7,3 +7,5 @@ pub mod Replayed
 pub mod Tops
 pub mod Tellings
 pub mod Rows
+pub mod Workers
+pub mod Summaries

@@ -27,10 +27,7 @@ lawful_run : (bytes : List ℕ) (input : Input) → input_of form.Run bytes ≡ 
 lawful_run bytes input read = record {
   its_args = args.Run asked;
   words = refl;
-  bytes = bytes;
-  told = refl;
-  faultless = faultless;
-  read = no_rise;
+  input = λ reads. record { bytes = bytes; told = refl; faultless = faultless; read = no_rise };
   written = no_rise;
 }
   where

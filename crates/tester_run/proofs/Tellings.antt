@@ -1,14 +1,15 @@
 -- What the parts of the top call tell on err.
-use Rattle.std.proofs.Common.{◌≡◌, ℕ, List, Option, Some, None, ◌++◌, sym, append_assoc, ◌∙◌, subst, inl, inr, ◌⊎◌, ⊎_elim, arith}
+use Rattle.std.proofs.Common.{◌≡◌, ℕ, true, false, true≢false, ap, List, Option, Some, None, ◌++◌, refl, sym, append_assoc, ◌∙◌, subst, inl, inr, ◌⊎◌, ⊎_elim, arith}
 use Rattle.std.specs.Prelude.{IfSome, codes}
 use Rattle.outside.specs.Counts.{Rose}
-use Rattle.std.proofs.lemmas.Option.{same_Some}
+use Rattle.std.proofs.lemmas.Option.{none-some, same_Some}
 use Rattle.command_rules.specs.declared.args.Args.{Args}
 use Rattle.command_words.specs.declared.fault.ArgFault.{ArgFault}
 use Rattle.command_words.specs.declared.fault.ArgFault.TheVariants as arg
+use Rattle.tester_run.specs.Arguments.{reads_input}
 use Rattle.tester_run.specs.Faults.{InputFault, HasFault, line_in, order_in}
 use Rattle.tester_run.specs.Inputs.{IsFaulty, IsReadOut, IsRefusedBy}
-use Rattle.tester_run.specs.Outcomes.{usage, bad_input, read_fault, write_fault, out_of_memory, IsFinal, IsLawful}
+use Rattle.tester_run.specs.Outcomes.{usage, bad_input, read_fault, write_fault, out_of_memory, IsFinal, IsLawful, IsStatusAlone}
 use Rattle.tester_run.specs.Tellings.{told, IsFaultLine, IsFaultTold, IsLineOf, IsShort, IsTold, IsUnasked, IsWritten, Refuses, Tells}
 use Rattle.tester_run.specs.declared.top.Refusal.{Refusal}
 use Rattle.tester_run.specs.declared.top.Refusal.TheVariants as refusal
@@ -86,7 +87,7 @@ tells_run asked status run_status left before after faults faults_after (inl is)
 
 -- what holds where nothing was rendered of what was asked
 pub record IsRefused (its : Args) (status : ℕ) (left after before_err after_err : Option (List ℕ)) (at_first at_last faults faults_after : ℕ) : Type 0 where
-  pub is_status : (status ≡ bad_input) ⊎ (status ≡ read_fault) ⊎ (status ≡ out_of_memory)
+  pub is_status : ((status ≡ bad_input) × (reads_input its ≡ true)) ⊎ ((status ≡ read_fault) × (reads_input its ≡ true)) ⊎ (status ≡ out_of_memory)
   pub input : status ≡ bad_input → IfSome left (λ bytes. (fault : InputFault) × HasFault its bytes fault)
   pub judged : status ≡ bad_input → IsReadOut left after
   pub read : status ≡ read_fault → Rose at_first at_last
@@ -119,7 +120,7 @@ fault_refused : (its : Args) (fault : Option InputFault) (status : ℕ) (left af
 fault_refused its None status left after before_err after_err at_first at_last faults faults_after faulty (inl h) =
     no_fault its h.1 h.2
 fault_refused its (Some fault) status left after before_err after_err at_first at_last faults faults_after faulty (inl h) = record {
-  is_status = inl h.0;
+  is_status = inl (h.0, faulty.reads);
   input = λ e. has_one its fault left faulty.fault_is;
   judged = λ e. faulty.out;
   read = λ e. other status 2 4 (λ z. omega arith) h.0 e;
@@ -138,10 +139,10 @@ pub refused_by : (its : Args) (given : Refusal) (status : ℕ) (left after befor
     → IsRefusedBy its given left after at_first at_last → Refuses given status before_err after_err faults faults_after
     → IsRefused its status left after before_err after_err at_first at_last faults faults_after
 refused_by its refusal.Source status left after before_err after_err at_first at_last faults faults_after rose h = record {
-  is_status = inr (inl h.0);
+  is_status = inr (inl (h.0, rose.0));
   input = λ e. other status 4 2 (λ z. omega arith) h.0 e;
   judged = λ e. other status 4 2 (λ z. omega arith) h.0 e;
-  read = λ e. rose;
+  read = λ e. rose.1;
   tells = tells_read (Some its) status left before_err after_err faults faults_after h.0 h.1;
 }
 refused_by its (refusal.Line fault) status left after before_err after_err at_first at_last faults faults_after faulty h =
@@ -159,12 +160,23 @@ pub refused_short : (words : Option Args) (its : Args) (status : ℕ) (left afte
 refused_short words its status left after before_err after_err at_first at_last faults faults_after written written_after is refused lawful =
     ⊎_elim
     (λ bad.
-    let found = subst (λ (l : Option (List ℕ)). IfSome l (λ bytes. (fault : InputFault) × HasFault its bytes fault)) lawful.told
-    (refused.input bad) in
-    absurd (lawful.faultless found.0
-    (subst (λ (a : Args). HasFault a lawful.bytes found.0) (same_Some its lawful.its_args (sym is ∙ lawful.words)) found.1)))
-    (⊎_elim (λ failed. absurd (lawful.read (refused.read failed))) (λ short. short))
+    let whole = lawful.input (ap reads_input (sym same) ∙ bad.1) in
+    let found = subst (λ (l : Option (List ℕ)). IfSome l (λ bytes. (fault : InputFault) × HasFault its bytes fault)) whole.told
+    (refused.input bad.0) in
+    absurd (whole.faultless found.0 (subst (λ (a : Args). HasFault a whole.bytes found.0) same found.1)))
+    (⊎_elim (λ failed. absurd ((lawful.input (ap reads_input (sym same) ∙ failed.1)).read (refused.read failed.0))) (λ short. short))
     refused.is_status
+  where
+    same : its ≡ lawful.its_args
+    same = same_Some its lawful.its_args (sym is ∙ lawful.words)
+
+-- of `gen` nothing but want of memory
+pub refused_alone : (its : Args) (status : ℕ) (left after before_err after_err : Option (List ℕ)) (at_first at_last faults faults_after : ℕ)
+    → IsRefused its status left after before_err after_err at_first at_last faults faults_after → reads_input its ≡ false
+    → IsStatusAlone status
+refused_alone its status left after before_err after_err at_first at_last faults faults_after refused none =
+    ⊎_elim (λ bad. absurd (true≢false (sym bad.1 ∙ none)))
+    (⊎_elim (λ failed. absurd (true≢false (sym failed.1 ∙ none))) (λ short. inr (inr short))) refused.is_status
 
 -- what was told by the words
 pub told_by_words : (words : Option Args) (its : Args) (status : ℕ) (left before after : Option (List ℕ)) (faults faults_after : ℕ)
@@ -177,6 +189,14 @@ pub usage_told : (fault : ArgFault) (status : ℕ) (before after : Option (List 
     → status ≡ usage → IsTold (codes "usage") before after faults faults_after → IsUnasked fault status before after faults faults_after
 usage_told fault status before after faults faults_after is status_is text =
     subst (λ (f : ArgFault). IsUnasked f status before after faults faults_after) (sym is) (status_is, text)
+
+-- where the words ask for `gen`, nothing but want of memory refuses them
+pub unasked_alone : {X : Type 0} (words : Option Args) (fault : ArgFault) (status : ℕ) (source : X) (before after : Option (List ℕ))
+    (faults faults_after : ℕ) → (fault ≡ arg.Usage → words ≡ None) → IsUnasked fault status before after faults faults_after
+    → IfSome words (λ asked. reads_input asked ≡ false → (source ≡ source) × IsStatusAlone status)
+unasked_alone None fault status source before after faults faults_after none unasked = tt
+unasked_alone (Some asked) arg.Usage status source before after faults faults_after none unasked = absurd (none-some asked (sym (none refl)))
+unasked_alone (Some asked) arg.NoMemory status source before after faults faults_after none unasked = λ alone. (refl, inr (inr unasked.is_status))
 
 -- ---- the text of a place of an order
 

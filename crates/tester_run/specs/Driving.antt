@@ -11,6 +11,7 @@ use Rattle.machine_rules.specs.Runs.{AreByTurns, at_rest, start, started, run_fr
 use Rattle.machine_rules.specs.Laws.{effort_in}
 use Rattle.machine_seat.specs.declared.seat.Seat.{Seat}
 use Rattle.machine_seat.specs.Seats.{progress_of, work_left, IsSeated}
+use Rattle.tester_run.specs.declared.running.Ended.{Ended}
 use Rattle.tester_run.specs.declared.driving.Moved.{Moved}
 use Rattle.tester_run.specs.declared.driving.Moved.TheVariants as moved
 use Rattle.tester_run.specs.declared.driving.Pause.{Pause}
@@ -89,6 +90,14 @@ abbrev pub GoesOnByTurns : CoreModel → (ℕ → ℕ) → List Seat → List �
 GoesOnByTurns core words seats order from core_after words_after seats_after order_after from_after =
     (pairs : List (List ℕ × List ℕ)) (arguments : RunArgs) → LeadsByTurns pairs arguments core words seats order from
     → LeadsByTurns pairs arguments core_after words_after seats_after order_after from_after
+
+-- a run by turns has come to its end: no machine asks
+pub record EndsByTurns (pairs : List (List ℕ × List ℕ)) (arguments : RunArgs) (ended : Ended) : Type 0 where
+  pub words : ℕ → ℕ
+  pub from : ℕ
+  pub leads : LeadsByTurns pairs arguments ended.core words ended.seats.items ended.order from
+  pub seated : AreSeated ended.seats.items
+  pub none : (number : ℕ) → asks_at ended.seats.items number ≡ false
 
 -- what is so between two requests
 pub record IsGoing (core : CoreModel) (seats : List Seat) (order : List ℕ) : Type 0 where

@@ -12,7 +12,6 @@ use Rattle.line_rules.specs.Reading.{Fault, BadLine, TooLong, TooMany}
 use Rattle.machine_rules.specs.Runs.{Run, has_request, run_from, start}
 use Rattle.tester_run.specs.declared.fault.OrderFault.{OrderFault}
 use Rattle.tester_run.specs.declared.fault.OrderFault.TheVariants as order
-use Rattle.tester_run.specs.Arguments.{form_of}
 
 pub data InputFault : Type 0 where
   -- the first fault of its lines
@@ -39,12 +38,16 @@ pub record StopsShort (pairs : List (List ℕ × List ℕ)) (arguments : RunArgs
   pub machine : ℕ
   pub asks : has_request run machine ≡ true
 
--- bytes have this fault as the input of what is asked; the faults of an order are a replay's alone
+-- bytes have this fault as the input of what is asked; the faults of an order are a replay's alone, and `gen` has no input
 abbrev pub HasFault : (asked : Args) → (bytes : List ℕ) → InputFault → Type 0
-HasFault asked bytes (InLine fault) = input_of (form_of asked) bytes ≡ Err fault
+HasFault (args.Gen workers) bytes (InLine fault) = ⊥
+HasFault (args.Run arguments) bytes (InLine fault) = input_of form.Run bytes ≡ Err fault
+HasFault (args.Replay arguments) bytes (InLine fault) = input_of form.Replay bytes ≡ Err fault
+HasFault (args.Gen workers) bytes (NoRequest place machine) = ⊥
 HasFault (args.Run arguments) bytes (NoRequest place machine) = ⊥
 HasFault (args.Replay arguments) bytes (NoRequest place machine) = (input : Input) × (input_of form.Replay bytes ≡ Ok input)
     × LacksRequest input.pairs arguments input.order place machine
+HasFault (args.Gen workers) bytes EndsEarly = ⊥
 HasFault (args.Run arguments) bytes EndsEarly = ⊥
 HasFault (args.Replay arguments) bytes EndsEarly = (input : Input) × (input_of form.Replay bytes ≡ Ok input)
     × StopsShort input.pairs arguments input.order
@@ -71,7 +74,8 @@ IsMisfit (order.NoRequest place machine) pairs arguments given = LacksRequest pa
 IsMisfit order.EndsEarly pairs arguments given = StopsShort pairs arguments given
 IsMisfit order.NoMemory pairs arguments given = Unit {0}
 
--- what was asked was refused for; a run is refused for want of memory alone
+-- what was asked was refused for; a run by turns is refused for want of memory alone
 abbrev pub IsMisfitOf : (asked : Args) → OrderFault → Input → Type 0
 IsMisfitOf (args.Run arguments) fault input = fault ≡ order.NoMemory
+IsMisfitOf (args.Gen workers) fault input = fault ≡ order.NoMemory
 IsMisfitOf (args.Replay arguments) fault input = IsMisfit fault input.pairs arguments input.order

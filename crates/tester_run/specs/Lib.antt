@@ -7,3 +7,4 @@ pub mod Rendered
 pub mod Inputs
 pub mod Outcomes
 pub mod Tellings
+pub mod Summaries

@@ -1,5 +1,5 @@
 -- What the exit statuses of a run say.
-use Rattle.std.specs.Prelude.{◌≡◌, ℕ, List, Option, Some, IfSome, Ok, ◌⊎◌}
+use Rattle.std.specs.Prelude.{◌≡◌, ℕ, true, List, Option, Some, ◌⊎◌}
 use Rattle.std.specs.Io.KnownBytes.{Appends}
 use Rattle.outside.specs.Streams.{AppendsFront}
 use Rattle.std.specs.List.{AllByRecursion}
@@ -9,11 +9,10 @@ use Rattle.line_rules.specs.Inputs.{IsSmall}
 use Rattle.outside.specs.Counts.{Rose}
 use Rattle.command_rules.specs.declared.args.Args.{Args}
 use Rattle.input_rules.specs.declared.input.Input.{Input}
-use Rattle.input_rules.specs.Forms.{input_of}
-use Rattle.machine_rules.specs.Runs.{Run, RunsTo, status_of, dump}
-use Rattle.tester_run.specs.Arguments.{arguments_of, form_of}
+use Rattle.machine_rules.specs.Runs.{Run, RunsTo}
+use Rattle.tester_run.specs.Arguments.{arguments_of, reads_input, IsInputOf}
 use Rattle.tester_run.specs.Faults.{InputFault, HasFault}
-use Rattle.tester_run.specs.Rendered.{IsOrderOf}
+use Rattle.tester_run.specs.Rendered.{final_status, output_of, IsOrderOf}
 
 -- the statuses by what they say
 abbrev pub usage : ℕ
@@ -39,27 +38,31 @@ IsFinal status = (status ≡ 0) ⊎ (status ≡ 3)
 abbrev pub IsSilent : ℕ → Type 0
 IsSilent status = (status ≡ usage) ⊎ (status ≡ bad_input) ⊎ (status ≡ read_fault) ⊎ (status ≡ out_of_memory)
 
--- The complete run of an order, of what the bytes that the source had say, where it tells them; an input may have these pairs.
--- The order is that by turns, or the one that a replay was given.
+-- the statuses of `gen`: 0, 5 and 6
+abbrev pub IsStatusAlone : ℕ → Type 0
+IsStatusAlone status = (status ≡ 0) ⊎ (status ≡ write_fault) ⊎ (status ≡ out_of_memory)
+
+-- The complete run of an order, of the input of what is asked: what the bytes that the source had say, where it tells them, or what
+-- `gen` makes; an input may have these pairs. The order is that by turns, or the one that a replay was given.
 pub record HasRun (left : Option (List ℕ)) (asked : Args) (order : List ℕ) (run : Run) : Type 0 where
   pub input : Input
-  pub is_input : IfSome left (λ bytes. input_of (form_of asked) bytes ≡ Ok input)
+  pub is_input : IsInputOf asked left input
   pub small : AllByRecursion IsSmall input.pairs
   pub ordered : IsOrderOf asked input.pairs input.order order
   pub runs : RunsTo input.pairs (arguments_of asked) order run
 
--- At a final status the status is that of the run, and its dump stands behind what out held.
+-- At a final status the status is that of the run, and its dump, or its summary, stands behind what out held.
 pub record Finishes (left : Option (List ℕ)) (asked : Args) (order : List ℕ) (status : ℕ) (before after : Option (List ℕ)) : Type 0 where
   pub run : Run
   pub has_run : HasRun left asked order run
-  pub status_is : status ≡ status_of run
-  pub written : Appends before after (dump order run)
+  pub status_is : status ≡ final_status asked run
+  pub written : Appends before after (output_of asked order run)
 
--- Where out failed, a front of the dump of the run stands behind what it held.
+-- Where out failed, a front of that stands behind what it held.
 pub record BreaksOff (left : Option (List ℕ)) (asked : Args) (order : List ℕ) (before after : Option (List ℕ)) : Type 0 where
   pub run : Run
   pub has_run : HasRun left asked order run
-  pub written : AppendsFront before after (dump order run)
+  pub written : AppendsFront before after (output_of asked order run)
 
 -- In each complete run of the order, over pairs that an input may have, each transaction whose commit made a version would get
 -- the same ordinary reads run whole at its commit, unless a write that doesn't declare its keys fell between.
@@ -73,12 +76,16 @@ abbrev pub KeepsPrefixesApart : (asked : Args) → (order : List ℕ) → Type 0
 KeepsPrefixesApart asked order = (pairs : List (List ℕ × List ℕ)) (run : Run) → RunsTo pairs (arguments_of asked) order run
     → GrantsAreApart run.world.setting.history
 
--- The words and the input are lawful, the order of a replay included, and neither source nor out counted a fault.
+-- An input is lawful, the order of a replay included, and the source counted no fault.
+pub record IsFaultless (asked : Args) (left : Option (List ℕ)) (read_faults read_after : ℕ) : Type 0 where
+  pub bytes : List ℕ
+  pub told : left ≡ Some bytes
+  pub faultless : (fault : InputFault) → HasFault asked bytes fault → ⊥
+  pub read : Rose read_faults read_after → ⊥
+
+-- The words are lawful, and the input, where there is one, and neither source nor out counted a fault.
 pub record IsLawful (asked : Option Args) (left : Option (List ℕ)) (read_faults read_after write_faults write_after : ℕ) : Type 0 where
   pub its_args : Args
   pub words : asked ≡ Some its_args
-  pub bytes : List ℕ
-  pub told : left ≡ Some bytes
-  pub faultless : (fault : InputFault) → HasFault its_args bytes fault → ⊥
-  pub read : Rose read_faults read_after → ⊥
+  pub input : reads_input its_args ≡ true → IsFaultless its_args left read_faults read_after
   pub written : Rose write_faults write_after → ⊥

@@ -12,6 +12,7 @@ mod dumping;
 mod fault;
 mod replaying;
 mod running;
+mod summing;
 mod telling;
 #[cfg(test)]
 mod tests;

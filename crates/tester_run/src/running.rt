@@ -1,19 +1,22 @@
-//! The run of all machines, from the pairs of an input to the dump.
+//! The run of all machines, from the pairs of an input to the dump, or of `gen` to the summary.
 
 ghost use Rattle.std.specs.Prelude.{◌≡◌, if◌then◌else◌, IfOk};
 ghost use Rattle.std.specs.List.{list_all};
 ghost use Rattle.machine_rules.specs.Runs.{has_ended, AreByTurns};
 ghost use Rattle.machine_seat.specs.Seats.{IsSeated};
-ghost use Rattle.tester_run.specs.Driving.{AreFirst, IsFirst, IsStarted};
+ghost use Rattle.tester_run.specs.Arguments.{gen_arguments};
+ghost use Rattle.tester_run.specs.Driving.{AreFirst, EndsByTurns, IsFirst, IsStarted};
 ghost use Rattle.tester_run.specs.Dumps.{dump_of, newest_pairs};
-ghost use Rattle.tester_run.specs.Rendered.{Renders};
+ghost use Rattle.tester_run.specs.Rendered.{Renders, Summarizes};
+ghost use Rattle.tester_run.specs.Summaries.{summary_of};
 
 use crate::driving::drive;
 use crate::dumping::render;
+use crate::summing::summarize;
 use client_core::Core;
 use command_words::RunArgs;
 use dump_text::Order;
-use key_bytes::Pairs;
+use key_bytes::{Bytes, Pairs};
 use machine_seat::{Seat, start};
 use outside::PcgWords;
 use stack_machine::{End, State};
@@ -26,12 +29,29 @@ const ENDED: u8 = 0;
 /// Every machine has ended, and one of them otherwise than after its last instruction.
 const CUT_SHORT: u8 = 3;
 
-/// What a run wrote, before any of it is written: its dump, its order and its exit status.
+/// The prefix under which `gen` has main's instructions.
+const MAIN_PREFIX: &[u8] = b"g";
+
+/// The seed of the random words of `gen`.
+const GEN_SEED: u64 = 0;
+
+/// How many polls a wait of `gen` has: as many as where a command line doesn't say it.
+const GEN_POLLS: u32 = 10_000;
+
+/// What a run writes, before any of it is written: its dump or its summary, its order and its exit status.
 #[derive(Debug, Drop)]
 pub struct Rendered {
-    pub dump: Vec<u8>,
+    pub output: Vec<u8>,
     pub order: Order,
     pub status: u8,
+}
+
+/// What stands at the end of a run.
+#[derive(Drop)]
+struct Ended {
+    core: Core,
+    seats: Vec<Seat>,
+    order: Order,
 }
 
 /// Runs machine 0 over these pairs as the arguments say, and each machine that is started, by turns, until all have ended,
@@ -39,6 +59,37 @@ pub struct Rendered {
 pub fn run(alloc: Global, arguments: &RunArgs, pairs: Pairs) -> Result<Rendered, AllocError>
     ensures renders { IfOk result (Renders pairs arguments.now) }
     ensures turns { IfOk result (λ rendered. AreByTurns pairs arguments.now rendered.order) }
+{
+    let ended = run_by_turns(alloc, arguments, pairs)?;
+    rendered_of(alloc, ended.core, ended.seats, ended.order)
+}
+
+/// Runs the pairs of `gen` by turns, and renders the summary. The memory of the core and of the machines isn't given back, as in
+/// `rendered_of`.
+pub fn generate(alloc: Global, pairs: Pairs) -> Result<Rendered, AllocError>
+    ensures summarizes { IfOk result (Summarizes pairs gen_arguments) }
+    ensures turns { IfOk result (λ rendered. AreByTurns pairs gen_arguments rendered.order) }
+{
+    let arguments = gen_arguments(alloc)?;
+    let ended = run_by_turns(alloc, &arguments, pairs)?;
+    summary_of(alloc, ended.core, ended.seats, ended.order)
+}
+
+// The arguments of the run of `gen`.
+fn gen_arguments(alloc: Global) -> Result<RunArgs, AllocError>
+    ensures { IfOk result (λ arguments. arguments ≡ gen_arguments) }
+{
+    let prefix = Bytes::from_slice(alloc, MAIN_PREFIX)?;
+    Ok(RunArgs {
+        prefix,
+        seed: GEN_SEED,
+        polls: GEN_POLLS,
+    })
+}
+
+// Runs machine 0 over these pairs, and each machine that is started, by turns, until all have ended.
+fn run_by_turns(alloc: Global, arguments: &RunArgs, pairs: Pairs) -> Result<Ended, AllocError>
+    ensures { IfOk result (EndsByTurns pairs arguments.now) }
 {
     let mut core = Core::load(alloc, arguments, pairs)?;
     let mut seats = first_seats(alloc, arguments, &core)?;
@@ -48,7 +99,28 @@ pub fn run(alloc: Global, arguments: &RunArgs, pairs: Pairs) -> Result<Rendered,
     drive(
         alloc, &mut core, &mut words, &mut seats, &mut order, &mut from,
     )?;
-    rendered_of(alloc, core, seats, order)
+    Ok(Ended { core, seats, order })
+}
+
+// The summary of what stands at the end of a run.
+fn summary_of(
+    alloc: Global,
+    core: Core,
+    seats: Vec<Seat>,
+    order: Order,
+) -> Result<Rendered, AllocError>
+    ensures order { IfOk result (λ rendered. rendered.order ≡ order) }
+    ensures summary { IfOk result (λ rendered. rendered.output.items ≡ summary_of seats.items order core.store) }
+    ensures status { IfOk result (λ rendered. rendered.status ≡ 0) }
+{
+    let output = summarize(alloc, &seats, &order, &core)?;
+    forget(core);
+    forget(seats);
+    Ok(Rendered {
+        output,
+        order,
+        status: ENDED,
+    })
 }
 
 /// What stands at the end of a run, rendered. The memory of the core and of the machines isn't given back then, which would be
@@ -60,16 +132,16 @@ pub fn rendered_of(
     order: Order,
 ) -> Result<Rendered, AllocError>
     ensures order { IfOk result (λ rendered. rendered.order ≡ order) }
-    ensures dump { IfOk result (λ rendered. rendered.dump.items ≡ dump_of seats.items order (newest_pairs core.store)) }
+    ensures dump { IfOk result (λ rendered. rendered.output.items ≡ dump_of seats.items order (newest_pairs core.store)) }
     ensures status { IfOk result (λ rendered. rendered.status
         ≡ (if list_all (λ seat. has_ended seat.machine.machine.state) seats.items then 0 else 3)) }
 {
-    let dump = render(alloc, &seats, &order, &core)?;
+    let output = render(alloc, &seats, &order, &core)?;
     let status = status_of(&seats);
     forget(core);
     forget(seats);
     Ok(Rendered {
-        dump,
+        output,
         order,
         status,
     })

@@ -43,6 +43,14 @@ const SET_ALONE: &[u8] = b"K \\x01p\\x00\\x14\\=\\x02SET\\x00\n";
 const UNDERFLOW: &[u8] = b"M 0 underflow 0 p\n\
 K \\x01p\\x00\\x14\\=\\x02SET\\x00\n";
 
+const ONE_WORKER: &[u8] = b"machines 2\n\
+instructions 330\n\
+requests 205\n\
+commits 23\n\
+errors 0\n\
+items 2\n\
+keys 356\n";
+
 // A call of `tester`, and what it must do: its status, how many places its order has, the first byte that it leaves of
 // its input, and what it writes to out and to err.
 #[derive(Clone, Copy)]
@@ -98,7 +106,20 @@ fn dash_row() -> Row {
     }
 }
 
-fn rows() -> [Row; 15] {
+// The summary of one worker; nothing of a line that is no line of an input is read.
+fn gen_row() -> Row {
+    Row {
+        words: &["gen", "1"],
+        input: b"?",
+        status: 0,
+        places: 205,
+        left: Some(b'?'),
+        dump: ONE_WORKER,
+        told: b"",
+    }
+}
+
+fn rows() -> [Row; 18] {
     [
         run_row(b"", 0, 0, b"M 0 ended 0 p\n"),
         run_row(SET_ONE_KEY, 0, 2, ONE_KEY_SET),
@@ -113,7 +134,10 @@ fn rows() -> [Row; 15] {
         word_row(&["run", "-x", "630"]),
         word_row(&["run", "p", "630", "--polls", "0"]),
         word_row(&["run", "p", "630", "--seed=1", "--seed=2"]),
-        word_row(&["gen", "3"]),
+        gen_row(),
+        word_row(&["gen", "0"]),
+        word_row(&["gen", "31"]),
+        word_row(&["gen", "3", "--seed=0"]),
         word_row(&[]),
     ]
 }

@@ -55,7 +55,7 @@ fn dumped(alloc: Global, instructions: &[&[u8]]) -> Result<Vec<u8>, AllocError> 
         polls: 3,
     };
     let rendered = run(alloc, &arguments, pairs_of(alloc, instructions)?)?;
-    without_instructions(alloc, &rendered.dump)
+    without_instructions(alloc, &rendered.output)
 }
 
 // Instructions, and the dump of their run.

@@ -1,6 +1,6 @@
 //! The top call.
 
-ghost use Rattle.std.specs.Prelude.{◌≡◌, ◌≢◌, ◌<◌, ◌≤◌, ◌⊎◌, ◌++◌, ℕ, List, [], None, Ok, codes, length, IfOk, IfErr, IfSome};
+ghost use Rattle.std.specs.Prelude.{◌≡◌, ◌≢◌, ◌<◌, ◌≤◌, ◌⊎◌, ◌++◌, ℕ, true, false, List, [], None, Ok, codes, length, IfOk, IfErr, IfSome};
 ghost use Rattle.std.specs.Io.KnownBytes.{Appends, IsAtEnd};
 ghost use Rattle.outside.specs.Counts.{Rose};
 ghost use Rattle.outside.specs.Streams.{AppendsFront};
@@ -9,9 +9,10 @@ ghost use Rattle.line_rules.specs.Inputs.{IsSmall};
 ghost use Rattle.line_rules.specs.Reading.{input_limit};
 ghost use Rattle.command_rules.specs.Grammar.{args_of};
 ghost use Rattle.input_rules.specs.Forms.{input_of};
-ghost use Rattle.tester_run.specs.Arguments.{form_of};
+ghost use Rattle.generator.specs.Generated.{gen_pairs};
+ghost use Rattle.tester_run.specs.Arguments.{form_of, reads_input, HasFewWorkers};
 ghost use Rattle.tester_run.specs.Faults.{InputFault, HasFault, IsMisfitOf, order_in};
-ghost use Rattle.tester_run.specs.Outcomes.{usage, bad_input, read_fault, write_fault, out_of_memory, IsFinal, IsLawful, IsLegal, IsSilent, Finishes, BreaksOff, KeepsPrefixesApart};
+ghost use Rattle.tester_run.specs.Outcomes.{usage, bad_input, read_fault, write_fault, out_of_memory, IsFinal, IsLawful, IsLegal, IsSilent, IsStatusAlone, Finishes, BreaksOff, KeepsPrefixesApart};
 ghost use Rattle.tester_run.specs.Inputs.{IsRefusedBy, IsJudged, IsMade, IsRead, IsReadOut, ReadsWithin};
 ghost use Rattle.tester_run.specs.Rendered.{IsRendered};
 ghost use Rattle.tester_run.specs.Tellings.{IsTold, IsUnasked, IsWritten, Refuses, Tells};
@@ -19,10 +20,11 @@ ghost use Rattle.tester_run.specs.Tellings.{IsTold, IsUnasked, IsWritten, Refuse
 use crate::driving::shows_short;
 use crate::fault::OrderFault;
 use crate::replaying::replay;
-use crate::running::{Rendered, run};
+use crate::running::{Rendered, generate, run};
 use crate::telling::{line_fault_line, order_fault_line, tell};
 use command_words::{ArgFault, ArgWords, Args, read_args};
 use dump_text::{Form, Input, LineFault, Order, read_lines};
+use generator::gen_pairs;
 use history_laws::runs_are_legal;
 use outside::{Gate, Input as Bytes, Sink, Source, read_all, write_all};
 use prefix_laws::prefixes_are_apart;
@@ -65,8 +67,8 @@ enum Refusal {
 }
 
 /// Does all that the program does: reads the words after the program's name and the source to its end, runs machine 0 over
-/// what it read, by turns or by the order that a replay is given, and writes the dump to `out`. The clauses say what each
-/// status means.
+/// what it read, by turns or by the order that a replay is given, and writes the dump to `out`. With `gen` it reads nothing, runs
+/// the pairs that are made for so many workers, and writes the summary. The clauses say what each status means.
 pub fn tester<R: Threads + Wait + Sync, S: Source, K: Sink, N: Sink, G: Gate>(
     _rt: &R,
     alloc: Global,
@@ -87,10 +89,15 @@ pub fn tester<R: Threads + Wait + Sync, S: Source, K: Sink, N: Sink, G: Gate>(
         (λ bytes. (fault : InputFault) × HasFault asked bytes fault)) }
     ensures judged { result.status ≡ bad_input → IsReadOut (S.left source.old) (S.left source.new) }
 
-    // 0 and 3: the dump of the complete run of the order was written, and the status is that of the run.
+    // 0 and 3: the dump of the complete run of the order was written, and the status is that of the run; of `gen` the summary, and
+    // the status is 0.
     ensures finished { IsFinal result.status → IfSome (args_of args.now) (λ asked.
         Finishes (S.left source.old) asked result.order result.status (K.written out.old) (K.written out.new)) }
-    ensures end { IsFinal result.status → IsAtEnd (S.left source.new) }
+    ensures end { IsFinal result.status → IfSome (args_of args.now) (λ asked. reads_input asked ≡ true → IsAtEnd (S.left source.new)) }
+
+    // `gen` reads nothing, and has no other status than 0, 5 and 6.
+    ensures alone { IfSome (args_of args.now) (λ asked. reads_input asked ≡ false
+        → (source.new ≡ source.old) × IsStatusAlone result.status) }
 
     // In that run each transaction committed with a version would get the same ordinary reads run whole at its commit, unless
     // a write with its conflict range switched off fell between.
@@ -111,7 +118,7 @@ pub fn tester<R: Threads + Wait + Sync, S: Source, K: Sink, N: Sink, G: Gate>(
     ensures no_order { IsSilent result.status → result.order ≡ [] }
     ensures statuses { result.status ≤ out_of_memory }
 
-    // Where the words and the input are lawful and nothing fails, there is a dump, unless memory ran out.
+    // Where the words and the input are lawful and nothing fails, there is a dump, or a summary, unless memory ran out.
     ensures complete { IsLawful (args_of args.now) (S.left source.old) (S.faults source.old) (S.faults source.new)
         (K.faults out.old) (K.faults out.new) → IsFinal result.status ⊎ (result.status ≡ out_of_memory) }
 
@@ -195,12 +202,14 @@ fn refused<N: Sink>(alloc: Global, err: &mut N, refusal: &Refusal) -> Outcome
 
 // What is asked, rendered over what the source's bytes say, or why there is nothing.
 fn rendered<S: Source>(alloc: Global, asked: &Args, source: &mut S) -> Result<Rendered, Refusal>
+    requires { HasFewWorkers asked.now }
     ensures made { IfOk result (IsMade asked.now (S.left source.old) (S.left source.new)) }
     ensures refused { IfErr result (λ refusal. IsRefusedBy asked.now refusal (S.left source.old) (S.left source.new)
         (S.faults source.old) (S.faults source.new)) }
     ensures limit { ReadsWithin (S.left source.old) (S.left source.new) }
+    ensures alone { reads_input asked.now ≡ false → source.new ≡ source.old }
 {
-    match read_input(alloc, asked, source) {
+    match find_input(alloc, asked, source) {
         Err(refusal) => Err(refusal),
         Ok(input) => match make(alloc, asked, input) {
             Ok(rendered) => Ok(rendered),
@@ -218,6 +227,7 @@ fn make(alloc: Global, asked: &Args, input: Input) -> Result<Rendered, OrderFaul
     match asked {
         Args::Run(arguments) => Ok(run(alloc, arguments, input.pairs)?),
         Args::Replay(arguments) => replay(alloc, arguments, input),
+        Args::Gen(_) => Ok(generate(alloc, input.pairs)?),
     }
 }
 
@@ -226,13 +236,45 @@ fn form_of(asked: &Args) -> Form
     ensures { result ≡ form_of asked.now }
 {
     match asked {
-        Args::Run(_) => Form::Run,
+        Args::Run(_) | Args::Gen(_) => Form::Run,
         Args::Replay(_) => Form::Replay,
+    }
+}
+
+// The input of what is asked, or why there is none.
+fn find_input<S: Source>(alloc: Global, asked: &Args, source: &mut S) -> Result<Input, Refusal>
+    requires { HasFewWorkers asked.now }
+    ensures found { IfOk result (IsRead asked.now (S.left source.old) (S.left source.new)) }
+    ensures refused { IfErr result (λ refusal. IsRefusedBy asked.now refusal (S.left source.old) (S.left source.new)
+        (S.faults source.old) (S.faults source.new)) }
+    ensures limit { ReadsWithin (S.left source.old) (S.left source.new) }
+    ensures alone { reads_input asked.now ≡ false → source.new ≡ source.old }
+{
+    match asked {
+        Args::Gen(workers) => made_input(alloc, *workers),
+        Args::Run(_) | Args::Replay(_) => read_input(alloc, asked, source),
+    }
+}
+
+// The input of `gen`.
+fn made_input(alloc: Global, workers: u32) -> Result<Input, Refusal>
+    requires { workers ≤ 30 }
+    ensures made { IfOk result (λ input. input.pairs ≡ gen_pairs workers) }
+    ensures small { IfOk result (λ input. AllByRecursion IsSmall input.pairs) }
+    ensures refused { IfErr result (λ refusal. refusal ≡ Refusal.Memory) }
+{
+    match gen_pairs(alloc, workers) {
+        Ok(pairs) => Ok(Input {
+            order: Order::new(alloc),
+            pairs,
+        }),
+        Err(_) => Err(Refusal::Memory),
     }
 }
 
 // What the source's bytes say as the input of what is asked, which are read to their end, or why they say nothing.
 fn read_input<S: Source>(alloc: Global, asked: &Args, source: &mut S) -> Result<Input, Refusal>
+    requires { reads_input asked.now ≡ true }
     ensures found { IfOk result (IsRead asked.now (S.left source.old) (S.left source.new)) }
     ensures refused { IfErr result (λ refusal. IsRefusedBy asked.now refusal (S.left source.old) (S.left source.new)
         (S.faults source.old) (S.faults source.new)) }
@@ -248,6 +290,7 @@ fn read_input<S: Source>(alloc: Global, asked: &Args, source: &mut S) -> Result<
 
 // What these bytes say, or the first fault of their lines.
 fn judge(alloc: Global, asked: &Args, bytes: &[u8]) -> Result<Input, Refusal>
+    requires { reads_input asked.now ≡ true }
     ensures found { IfOk result (λ input. input_of (form_of asked.now) bytes.now ≡ Ok input) }
     ensures small { IfOk result (λ input. AllByRecursion IsSmall input.pairs) }
     ensures refused { IfErr result (λ refusal. IsJudged asked.now refusal bytes.now) }
@@ -263,7 +306,8 @@ fn judge(alloc: Global, asked: &Args, bytes: &[u8]) -> Result<Input, Refusal>
 
 // The first fault of bytes that are more than an input may have. It is that of all that may stand behind them.
 fn refuse(alloc: Global, asked: &Args, bytes: &[u8]) -> Refusal
-    requires { input_limit < length bytes.now }
+    requires reads { reads_input asked.now ≡ true }
+    requires long { input_limit < length bytes.now }
     ensures { (rest : List ℕ) → IsJudged asked.now result (bytes.now ++ rest) }
 {
     match judge(alloc, asked, bytes) {
@@ -272,19 +316,19 @@ fn refuse(alloc: Global, asked: &Args, bytes: &[u8]) -> Refusal
     }
 }
 
-// Writes a dump. Where the sink fails, a front of it is written, and that is told.
+// Writes what was rendered. Where the sink fails, a front of it is written, and that is told.
 fn deliver<K: Sink, N: Sink>(out: &mut K, err: &mut N, rendered: Rendered) -> Outcome
     requires { IsFinal rendered.status }
     ensures order { result.order ≡ rendered.order }
     ensures status { (result.status ≡ rendered.status) ⊎ (result.status ≡ write_fault) }
-    ensures written { result.status ≢ write_fault → Appends (K.written out.old) (K.written out.new) rendered.dump.items }
-    ensures front { result.status ≡ write_fault → AppendsFront (K.written out.old) (K.written out.new) rendered.dump.items }
+    ensures written { result.status ≢ write_fault → Appends (K.written out.old) (K.written out.new) rendered.output.items }
+    ensures front { result.status ≡ write_fault → AppendsFront (K.written out.old) (K.written out.new) rendered.output.items }
     ensures cause { result.status ≡ write_fault → Rose (K.faults out.old) (K.faults out.new) }
     ensures quiet { result.status ≢ write_fault → err.new ≡ err.old }
     ensures told { result.status ≡ write_fault
         → IsTold (codes "write fault") (N.written err.old) (N.written err.new) (N.faults err.old) (N.faults err.new) }
 {
-    if write_all(out, rendered.dump.as_slice()) {
+    if write_all(out, rendered.output.as_slice()) {
         return Outcome {
             status: rendered.status,
             order: rendered.order,

@@ -9,4 +9,4 @@ returns-in-Full-clause-refused g c =
     let judged : (rest : List ℕ) → IsJudged c.args.asked.now c.refuse.result (c.in-Full.bytes.items ++ rest) =
     subst (λ (bytes : List ℕ). (rest : List ℕ) → IsJudged c.args.asked.now c.refuse.result (bytes ++ rest)) c.deref-in-Full.ensures.value
     c.refuse.ensures in
-    refused_full c.args.asked.now c.refuse.result _ _ _ _ c.in-Full.bytes.items judged full.exact full.consumed
+    refused_full c.args.asked.now c.refuse.result _ _ _ _ c.in-Full.bytes.items c.requires judged full.exact full.consumed
