@@ -151,7 +151,7 @@ and_commit_started world made =
     database_started (is_fault first.reply) between first (called between.setting (next_life between) first.transaction call.Commit)
 
 -- no call of a directory layer starts a machine
-directory_started : (world : World) (name : Option (List ℕ)) (layer : Layer) (kind : DirKind) (args : DirArgs)
+pub directory_started : (world : World) (name : Option (List ℕ)) (layer : Layer) (kind : DirKind) (args : DirArgs)
     → (directory_step world name kind layer args).world.started ≡ world.started
 directory_started world None layer kind args =
     let reached = effect kind layer args world.setting world.words (fresh_at_last world) in

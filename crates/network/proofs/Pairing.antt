@@ -21,7 +21,7 @@ use Rattle.network.specs.Serving.{cells_of}
 use Rattle.network.specs.Pairing.{receipts_of, AsksAsOne, AsksBy, AsksFor, AsksForItsMachine, IsTakenWhole}
 use Rattle.network.proofs.Lists.{All-rest, All-first, one_place}
 
-same_test : (a b c d : ℕ) → (a ≡ b) ↔ (c ≡ d) → Dec (a ≡ b) → eqb a b ≡ eqb c d
+pub same_test : (a b c d : ℕ) → (a ≡ b) ↔ (c ≡ d) → Dec (a ≡ b) → eqb a b ≡ eqb c d
 same_test a b c d iff (yes e) = eq-eqb a b e ∙ sym (eq-eqb c d (iff.0 e))
 same_test a b c d iff (no n) = ne_eqb a b n ∙ sym (ne_eqb c d (λ e. n (iff.1 e)))
 

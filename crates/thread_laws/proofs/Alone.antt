@@ -1,15 +1,18 @@
 -- What a machine keeps while it runs by itself, and that it comes to rest.
-use Rattle.std.proofs.Common.{◌≡◌, ℕ, zero, suc, ◌+◌, ◌-◌, ◌<◌, ◌≤◌, ◌⊎◌, inl, inr, Bool, true, false, cond, List, [], ◌∷◌, length, Some, None, refl, sym, ap, ◌∙◌, arith}
+use Rattle.std.proofs.Common.{◌≡◌, ℕ, zero, suc, ◌+◌, ◌-◌, ◌<◌, ◌≤◌, ◌⊎◌, inl, inr, Bool, true, false, cond, List, [], ◌∷◌, ◌++◌, length, Option, Some, None, refl, sym, ap, ◌∙◌, arith}
 use Rattle.std.specs.Prelude.{slice_get}
-use mathlib.Core.List.{head-eq_of_cons-eq, tail-eq_of_cons-eq}
+use Rattle.std.proofs.lemmas.List.{map-append}
+use Rattle.std.proofs.lemmas.List.Sums.{fold_push}
+use mathlib.Core.List.{cons≢nil, head-eq_of_cons-eq, tail-eq_of_cons-eq}
 use Rattle.fdb_calls.specs.declared.Request.{Request}
 use Rattle.fdb_calls.specs.declared.Reply.{Reply}
+use Rattle.fdb_calls.specs.declared.Reply.TheVariants as reply
 use Rattle.machine_rules.specs.declared.State.{State}
 use Rattle.machine_rules.specs.declared.State.TheVariants as state
-use Rattle.machine_rules.specs.Machines.{Act, Does, Stops, Asks, Machine, Progress, acted, advance, advance_by, next_act, replied_act, resumed, resumed_by}
-use Rattle.machine_rules.specs.Runs.{at_rest, has_stopped, is_running, rested}
+use Rattle.machine_rules.specs.Machines.{Act, Does, Stops, Asks, Machine, Progress, acted, advance, advance_by, next_act, replied_act, resumed, resumed_by, silent}
+use Rattle.machine_rules.specs.Runs.{at_rest, has_stopped, is_running, rested, started, started_by}
 use Rattle.machine_rules.specs.Laws.{IsQuiet, advance_finishes, advance_quiet, is_awaiting}
-use Rattle.thread_laws.specs.Alone.{IsAlone, after_replies, after_reply, anew}
+use Rattle.thread_laws.specs.Alone.{IsAlone, after_replies, after_reply, anew, asked_over, begun_as}
 
 -- ---- what a machine keeps
 
@@ -164,3 +167,42 @@ pub later_alone : (begun now : Progress) (request : Request) (requests : List Re
     → IsAlone begun (request ∷ requests) (reply ∷ replies) now → IsAlone (after_reply begun reply) requests replies now
 later_alone begun now request requests reply replies alone =
     record { asked = tail-eq_of_cons-eq alone.asked; now_is = alone.now_is }
+
+asked_over-push : (begun : Progress) (replies : List Reply) (reply : Reply)
+    → asked_over begun (replies ++ reply ∷ []) ≡ asked_over begun replies ++ (after_replies begun replies).asks ∷ []
+asked_over-push begun [] reply = refl
+asked_over-push begun (first ∷ replies) reply = ap (λ l. begun.asks ∷ l) (asked_over-push (after_reply begun first) replies reply)
+
+-- one request and its reply more
+pub one_more : (begun now : Progress) (requests : List Request) (replies : List Reply) (request : Request) (reply : Reply)
+    → IsAlone begun requests replies now → now.asks ≡ Some request
+    → IsAlone begun (requests ++ request ∷ []) (replies ++ reply ∷ []) (after_reply now reply)
+one_more begun now requests replies request reply alone asks = record {
+  asked = map-append Some requests (request ∷ [])
+      ∙ (λ i. alone.asked i ++ sym (ap (λ (p : Progress). p.asks) (sym alone.now_is) ∙ asks) i ∷ [])
+      ∙ sym (asked_over-push begun replies reply);
+  now_is = ap (λ (p : Progress). after_reply p reply) alone.now_is ∙ sym (fold_push after_reply begun replies reply);
+}
+
+-- ---- machines that are started
+
+pub anew_started : (number : ℕ) (prefix : List ℕ) (polls : ℕ) (pairs : List (List ℕ × List ℕ))
+    → anew (started number prefix polls pairs) ≡ started number prefix polls pairs
+unfolding started
+anew_started number prefix polls pairs = refl
+
+-- a machine that was started is as its machine begins
+pub started_begun : (number : ℕ) (prefix : List ℕ) (polls : ℕ) (pairs : List (List ℕ × List ℕ)) (progress : Progress)
+    → progress ≡ at_rest (silent (started number prefix polls pairs)) → progress ≡ begun_as progress.machine
+started_begun number prefix polls pairs progress is =
+    let same : anew progress.machine ≡ started number prefix polls pairs =
+    ap (λ (p : Progress). anew p.machine) is ∙ at_rest_anew (silent (started number prefix polls pairs))
+    ∙ anew_started number prefix polls pairs in
+    is ∙ ap (λ (m : Machine). at_rest (silent m)) (sym same)
+
+pub begun_by : (prefix : Option (List ℕ)) (polls : ℕ) (given : Reply) (progress : Progress) → progress ∷ [] ≡ started_by prefix polls given
+    → progress ≡ begun_as progress.machine
+begun_by None polls given progress is = absurd (cons≢nil is)
+begun_by (Some prefix) polls (reply.Started number pairs) progress is =
+    started_begun number prefix polls pairs progress (head-eq_of_cons-eq is)
+begun_by (Some prefix) polls given progress is = absurd (cons≢nil is)

@@ -15,6 +15,13 @@ pub record Place : Type 0 where
   pub request : Request
   pub reply : Reply
 
+-- the places at which these requests of machines were answered so
+abbrev pub places_over : List (ℕ × Request) → List Reply → List Place
+places_over [] replies = []
+places_over (asked ∷ others) [] = []
+places_over (asked ∷ others) (reply ∷ replies) =
+    record { machine = asked.0; request = asked.1; reply = reply } ∷ places_over others replies
+
 -- the order of these places
 abbrev pub order_of : List Place → List ℕ
 order_of places = map (λ (place : Place). place.machine) places

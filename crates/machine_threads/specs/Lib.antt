@@ -1,0 +1,3 @@
+pub mod Threaded
+pub mod Teams
+pub mod Closing

@@ -1,0 +1,207 @@
+//! A machine in its thread.
+
+ghost use Rattle.std.specs.Prelude.{◌≡◌, ◌≤◌, [], ◌∷◌, map, option_to_list, Ok, Some, None, IsSome, IfOk, IfSome, OnOk};
+ghost use Rattle.fdb_calls.specs.declared.Reply.{Reply as ReplySaid};
+ghost use Rattle.future_cell.specs.declared.callback.Registered.TheVariants.{No};
+ghost use Rattle.future_cell.specs.Cells.{waiter_cell, shown, registration};
+ghost use Rattle.request_line.specs.History.{upper_half, lower_half, AreTogether};
+ghost use Rattle.request_line.specs.Line.{history, sender_line};
+ghost use Rattle.network.specs.Clients.{client_history, client_line, client_machine};
+ghost use Rattle.machine_rules.specs.Machines.{resumed};
+ghost use Rattle.machine_rules.specs.Runs.{at_rest, start_prefix, started_by};
+ghost use Rattle.thread_laws.specs.Alone.{begun_as};
+ghost use Rattle.machine_seat.specs.Seats.{progress_of, Awaits, IsSeated};
+ghost use Rattle.machine_threads.specs.Threaded.{history_of, machine_in, replies_to, HasEnded, IsLater, IsRunning, IsStartedBy};
+
+use fdb_calls::Reply;
+use future_cell::{Waiter, Wake};
+use key_bytes::Bytes;
+use machine_seat::{Seat, is_no_memory, prefix_of, seat_started_by};
+use network::{Asked, Client, Post};
+use outside::Gate;
+use request_line::Sender;
+use std::alloc::{AllocError, Global};
+use std::sync::Wait;
+
+/// A machine in its thread: the machine at its seat, its client, and the waiters of its requests, in the order in which it asked.
+#[derive(Drop)]
+pub struct ThreadedMachine {
+    pub seat: Seat,
+    pub client: Client,
+    pub waiters: Vec<Waiter<Reply, Wake>>,
+}
+
+impl ThreadedMachine {
+    /// A machine that was started, which posts by this sender. It takes no memory.
+    pub fn new(alloc: Global, seat: Seat, sender: Sender<Post>) -> ThreadedMachine
+        requires seated { IsSeated seat }
+        requires begun { progress_of seat ≡ begun_as seat.machine.machine }
+        requires fresh { (history sender).posted ≡ [] }
+        ensures running { IsRunning result }
+        ensures seat { result.seat ≡ seat }
+        ensures history { history_of result ≡ history sender }
+        ensures line { client_line result.client ≡ sender_line sender }
+    {
+        let client = Client::new(seat.machine.number(), sender);
+        ThreadedMachine::with(alloc, seat, client)
+    }
+
+    // A machine that was started, with its client.
+    fn with(alloc: Global, seat: Seat, client: Client) -> ThreadedMachine
+        requires seated { IsSeated seat }
+        requires begun { progress_of seat ≡ begun_as seat.machine.machine }
+        requires machine { client_machine client ≡ seat.machine.machine.number }
+        requires fresh { (client_history client).posted ≡ [] }
+        ensures running { IsRunning result }
+        ensures seat { result.seat ≡ seat }
+        ensures client { result.client ≡ client }
+    {
+        let waiters = Vec::new(alloc);
+        ThreadedMachine {
+            seat,
+            client,
+            waiters,
+        }
+    }
+
+    /// Asks until a machine was started, which comes back at its seat, or this one has stopped. It is refused for want of
+    /// memory alone.
+    pub(crate) fn run_until_started<R: Wait, G: Gate>(
+        &mut self,
+        rt: &R,
+        alloc: Global,
+        gate: &G,
+    ) -> Result<Option<Seat>, AllocError>
+        requires { IsRunning self.old }
+        ensures running { OnOk result (IsRunning self.new) }
+        ensures later { OnOk result (IsLater self.old self.new) }
+        ensures room { OnOk result ((history_of self.new).room ≡ (history_of self.old).room) }
+        ensures started { IfOk result (λ started. IfSome started (λ seat. IsSeated seat
+            × IsStartedBy (history_of self.new).posted (replies_to self.new) (machine_in self.new).polls (progress_of seat))) }
+        ensures ended { result ≡ Ok None → self.new.seat.asks ≡ None }
+    {
+        for _ in rt.forever() {
+            if self.seat.asks.is_none() {
+                return Ok(None);
+            }
+            if let Some(started) = self.ask(rt, alloc, gate)? {
+                return Ok(Some(started));
+            }
+        }
+        unreachable!()
+    }
+
+    // Asks what the machine asks, waits for the reply and lets the machine use it: the machine that was started by it, if one was.
+    fn ask<R: Wait, G: Gate>(
+        &mut self,
+        rt: &R,
+        alloc: Global,
+        gate: &G,
+    ) -> Result<Option<Seat>, AllocError>
+        requires running { IsRunning self.old }
+        requires asks { IsSome self.old.seat.asks }
+        ensures running { OnOk result (IsRunning self.new) }
+        ensures later { OnOk result (IsLater self.old self.new) }
+        ensures room { OnOk result ((history_of self.new).room ≡ (history_of self.old).room) }
+        ensures started { IfOk result (λ started. IfSome started (λ seat. IsSeated seat
+            × IsStartedBy (history_of self.new).posted (replies_to self.new) (machine_in self.new).polls (progress_of seat))) }
+    {
+        self.waiters.reserve(1)?;
+        let request = self.seat.hand_over();
+        let prefix = prefix_of(&request)?;
+        gate.pass(self.seat.machine.number(), self.waiters.len() as u64);
+        let asked = self.client.call(rt, alloc, request)?;
+        let (waiter, started) = hear(rt, alloc, &mut self.seat, prefix, asked)?;
+        self.waiters.push_reserved(waiter);
+        Ok(started)
+    }
+
+    /// Posts that the machine is over, which has stopped. It takes no memory.
+    pub(crate) fn end<R: Wait>(&mut self, rt: &R)
+        requires running { IsRunning self.old }
+        requires stopped { self.old.seat.asks ≡ None }
+        ensures ended { HasEnded self.new }
+        ensures later { IsLater self.old self.new }
+        ensures room { (history_of self.new).room ≡ (history_of self.old).room }
+    {
+        let number = self.seat.machine.number();
+        self.client.over(rt, number);
+    }
+
+    /// Posts that the machine is over, for which memory is wanting. It takes none.
+    pub(crate) fn give_up<R: Wait>(&mut self, rt: &R) {
+        let machine = self.seat.machine.number();
+        self.client.over(rt, machine);
+    }
+
+    /// A machine that this one started, to run beside it. `AllocError` is for want of memory; this machine is then as before.
+    pub(crate) fn fork(&mut self, alloc: Global, seat: Seat) -> Result<ThreadedMachine, AllocError>
+        requires running { IsRunning self.old }
+        requires room { 1 ≤ (history_of self.old).room }
+        requires seated { IsSeated seat }
+        requires begun { progress_of seat ≡ begun_as seat.machine.machine }
+        ensures running { OnOk result (IsRunning self.new) }
+        ensures later { OnOk result (IsLater self.old self.new) }
+        ensures seat { OnOk result (self.new.seat ≡ self.old.seat) }
+        ensures kept { OnOk result (history_of self.new ≡ lower_half (history_of self.old)) }
+        ensures waiters { OnOk result (self.new.waiters ≡ self.old.waiters) }
+        ensures made_running { IfOk result IsRunning }
+        ensures made_seat { IfOk result (λ made. made.seat ≡ seat) }
+        ensures made { IfOk result (λ made. history_of made ≡ upper_half (history_of self.old)) }
+        ensures made_line { IfOk result (λ made. client_line made.client ≡ client_line self.old.client) }
+        ensures together { IfOk result (λ made. AreTogether (history_of self.new) (history_of made) (history_of self.old)) }
+    {
+        let client = self.client.fork(seat.machine.number())?;
+        Ok(ThreadedMachine::with(alloc, seat, client))
+    }
+}
+
+// Waits for the reply, and lets the machine use it. The waiter, which has shown the reply, and the machine that was started by
+// it, if one was.
+fn hear<R: Wait>(
+    rt: &R,
+    alloc: Global,
+    seat: &mut Seat,
+    prefix: Option<Bytes>,
+    asked: Asked,
+) -> Result<(Waiter<Reply, Wake>, Option<Seat>), AllocError>
+    requires awaits { Awaits seat.old.machine }
+    requires unregistered { registration asked.waiter ≡ No }
+    ensures cell { IfOk result (λ heard. waiter_cell heard.0 ≡ waiter_cell asked.waiter) }
+    ensures heard { IfOk result (λ heard. (reply : ReplySaid) × (shown heard.0 ≡ Some reply)
+        × (progress_of seat.new ≡ at_rest (resumed seat.old.machine.machine reply))
+        × (map progress_of (option_to_list heard.1) ≡ started_by prefix seat.old.machine.machine.polls reply)) }
+    ensures seated { OnOk result (IsSeated seat.new) }
+    ensures started { IfOk result (λ heard. IfSome heard.1 IsSeated) }
+{
+    let Asked {
+        mut waiter,
+        wake,
+        sleeper,
+    } = asked;
+    let reply = waiter.wait(rt, wake, sleeper);
+    let started = use_reply(alloc, seat, prefix, reply)?;
+    Ok((waiter, started))
+}
+
+// Lets a machine use a reply: the machine that was started by it, if one was.
+fn use_reply(
+    alloc: Global,
+    seat: &mut Seat,
+    prefix: Option<Bytes>,
+    reply: &Reply,
+) -> Result<Option<Seat>, AllocError>
+    requires { Awaits seat.old.machine }
+    ensures rests { OnOk result (progress_of seat.new ≡ at_rest (resumed seat.old.machine.machine reply.now)) }
+    ensures seated { OnOk result (IsSeated seat.new) }
+    ensures started { IfOk result (λ started. map progress_of (option_to_list started)
+        ≡ started_by prefix seat.old.machine.machine.polls reply.now) }
+    ensures started_seated { IfOk result (λ started. IfSome started IsSeated) }
+{
+    if is_no_memory(reply) {
+        return Err(AllocError);
+    }
+    let polls = seat.machine.polls();
+    seat.use_awaited(reply)?;
+    seat_started_by(alloc, prefix, polls, reply)
+}
