@@ -1,4 +1,4 @@
-use Rattle.std.proofs.Common.{◌∙◌, ℕ, List, Option, option_map, Bor, ap, sym}
+use Rattle.std.proofs.Common.{◌∙◌, ℕ, List, Option, Bor, ap, sym}
 use Rattle.clap.specs.Matches.{found_of}
 use Rattle.command_rules.specs.Grammar.{workers_in}
 use Rattle.command_laws.proofs.Calling.{texts_of, workers_are}
