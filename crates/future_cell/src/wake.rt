@@ -4,6 +4,13 @@ use crate::waiter::Waiter;
 use crossbeam_utils::sync::{Parker, Unparker};
 use std::alloc::{AllocError, Global};
 use std::sync::Wait;
+use std::{hint, thread};
+
+/// How often a thread looks for a value before it sleeps.
+const LOOKS: u32 = 140;
+
+/// After how many of these looks it only pauses. After the others it lets other threads run.
+const SHORT_LOOKS: u32 = 50;
 
 /// A callback that wakes the sleeper it was made with.
 #[derive(Drop)]
@@ -41,7 +48,7 @@ impl<V> Waiter<V, Wake> {
     ghost use Rattle.future_cell.specs.declared.callback.Registered.TheVariants.{No};
     ghost use Rattle.future_cell.specs.Cells.{shown, registration, Peeked, Waited};
 
-    /// Registers the wake, and sleeps and looks again until the value is there. It takes no memory, and may wait for ever.
+    /// Registers the wake, looks for the value for a while, and then sleeps and looks again until it is there. It takes no memory, and may wait for ever.
     pub fn wait<R: Wait>(&mut self, rt: &R, wake: Wake, sleeper: Sleeper) -> &V
         requires { registration self.old ≡ No }
         ensures* after { sem 𝓛 (follows_so (the_row V.row wake_row) (the_row V.row wake_row) self.entry.ghost_name none (λ _ _. ⊤) (λ n. Waited self.old n × (shown n ≡ Some result.now))) }
@@ -57,12 +64,29 @@ impl<V> Waiter<V, Wake> {
         ensures there { IsSome (shown self.new) }
     {
         for _ in rt.forever() {
-            self.look();
+            self.watch();
             if self.value.is_some() {
                 return;
             }
             sleeper.parker.park(rt);
         }
         unreachable!()
+    }
+
+    // Looks for the value until it is there or the thread had better sleep.
+    fn watch(&mut self)
+        ensures { Peeked self.old self.new }
+    {
+        for looks in 0..LOOKS {
+            self.look();
+            if self.value.is_some() {
+                return;
+            }
+            if looks < SHORT_LOOKS {
+                hint::spin_loop();
+            } else {
+                thread::yield_now();
+            }
+        }
     }
 }

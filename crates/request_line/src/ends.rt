@@ -7,14 +7,20 @@ ghost use Rattle.request_line.specs.declared.view.View.TheVariants.{Sends, Recei
 ghost use Rattle.request_line.specs.Spans.{told, taken_by, closed_by};
 
 use crate::view::{Closes, Halves, OneOwner, Posts, Takes, View};
-use crossbeam_channel::{Pass, RecvError, RuledReceiver, RuledSender};
+use crossbeam_channel::{Pass, RecvError, RuledReceiver, RuledSender, TryRecvError};
 use std::alloc::AllocError;
 use std::sync::Wait;
-use std::thread;
+use std::{hint, thread};
 
 mod opening;
 
 pub use opening::open;
+
+/// How often a receiver looks for an item before it sleeps.
+const LOOKS: u32 = 170;
+
+/// After how many of these looks it only pauses. After the others it lets other threads run.
+const SHORT_LOOKS: u32 = 130;
 
 type Posting<T> = RuledSender<(u64, T), View<T>, OneOwner>;
 
@@ -127,23 +133,56 @@ impl<T: Drop> Receiver<T> {
     ghost use Rattle.request_line.specs.Taking.{TakesInOrder, TakesAllWhereAsMany, TakesAfterSplit, IsOfThese, Agrees};
     ghost use Rattle.request_line.specs.Line.{sender_line, history, receiver_line, taken, closed};
 
-    /// Takes the item at the front of the line, with its sender's number. It waits while there is none. It takes no memory.
+    /// Takes the item at the front of the line, with its sender's number. While there is none it looks again for a while, and
+    /// then sleeps. It takes no memory.
     pub fn take<R: Wait>(&mut self, rt: &R) -> (u64, T)
         ensures taken { taken self.new ≡ taken self.old ++ result ∷ [] }
         ensures closed { closed self.new ≡ closed self.old }
         ensures line { receiver_line self.new ≡ receiver_line self.old }
     {
         for _ in rt.forever() {
-            if let Ok(mail) = self.try_take(rt) {
+            if let Ok(mail) = self.watch(rt) {
                 return mail;
             }
-            thread::yield_now();
+            if let Ok(mail) = self.wait(rt) {
+                return mail;
+            }
         }
         unreachable!()
     }
 
-    // Takes nothing, and changes nothing, if the channel says that its senders have left.
-    fn try_take<R: Wait>(&mut self, rt: &R) -> Result<(u64, T), RecvError>
+    // Looks for an item until one is there or the thread had better sleep. Then it takes nothing, and changes nothing.
+    fn watch<R: Wait>(&mut self, rt: &R) -> Result<(u64, T), TryRecvError>
+        ensures taken { MatchResult result (λ mail. taken self.new ≡ taken self.old ++ mail ∷ [])
+            (λ _. taken self.new ≡ taken self.old) }
+        ensures closed { closed self.new ≡ closed self.old }
+        ensures line { receiver_line self.new ≡ receiver_line self.old }
+    {
+        for looks in 0..LOOKS {
+            if let Ok(mail) = self.look(rt) {
+                return Ok(mail);
+            }
+            if looks < SHORT_LOOKS {
+                hint::spin_loop();
+            } else {
+                thread::yield_now();
+            }
+        }
+        Err(TryRecvError::Empty)
+    }
+
+    // Takes nothing, and changes nothing, if none is there.
+    fn look<R: Wait>(&mut self, rt: &R) -> Result<(u64, T), TryRecvError>
+        ensures taken { MatchResult result (λ mail. taken self.new ≡ taken self.old ++ mail ∷ [])
+            (λ _. taken self.new ≡ taken self.old) }
+        ensures closed { closed self.new ≡ closed self.old }
+        ensures line { receiver_line self.new ≡ receiver_line self.old }
+    {
+        self.taking.try_recv_as::<Takes, R>(rt, &mut self.pass)
+    }
+
+    // Sleeps until one is there. It takes nothing, and changes nothing, if the channel says that its senders have left.
+    fn wait<R: Wait>(&mut self, rt: &R) -> Result<(u64, T), RecvError>
         ensures taken { MatchResult result (λ mail. taken self.new ≡ taken self.old ++ mail ∷ [])
             (λ _. taken self.new ≡ taken self.old) }
         ensures closed { closed self.new ≡ closed self.old }
