@@ -49,7 +49,7 @@ fn main(rt: HostRuntime) -> io::Result<ExitCode> {
 }
 
 // Reads a script and its dump from this folder, and runs it.
-fn examine<R: Files + Threads + Wait + Sync + AllocGlobal>(
+fn examine<R: Files + Threads + Wait + Sync + AllocGlobal + Clone + Drop + Send + 'static>(
     rt: &R,
     script: &Script,
 ) -> Result<Finding, AllocError> {
@@ -63,7 +63,7 @@ fn examine<R: Files + Threads + Wait + Sync + AllocGlobal>(
 }
 
 // Runs a script over these bytes.
-fn try_script<R: Threads + Wait + Sync>(
+fn try_script<R: Threads + Wait + Sync + Clone + Drop + Send + 'static>(
     rt: &R,
     alloc: Global,
     script: &Script,

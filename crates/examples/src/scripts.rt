@@ -150,7 +150,7 @@ pub const SCRIPTS: [Script; 32] = [
     },
     Script {
         input: "two_machines.kv",
-        words: &["run", "p", "630"],
+        words: &["replay", "p", "630"],
         status: 0,
         dump: "two_machines.dump",
     },

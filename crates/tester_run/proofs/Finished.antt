@@ -23,7 +23,7 @@ use Rattle.machine_rules.specs.Runs.{AreByTurns, at_rest, started, run_from, is_
 use Rattle.machine_seat.specs.declared.seat.Seat.{Seat}
 use Rattle.tester_run.specs.declared.running.Rendered.{Rendered}
 use Rattle.machine_seat.specs.Seats.{progress_of, IsSeated}
-use Rattle.tester_run.specs.Driving.{asks_at, AreFirst, AreSeated, IsFirst, IsGoing, IsStarted, Leads, LeadsByTurns}
+use Rattle.tester_run.specs.Driving.{asks_at, AreFirst, AreSeated, IsAtStart, IsFirst, IsGoing, IsStarted, Leads, LeadsByTurns}
 use Rattle.tester_run.specs.Dumps.{dump_of, newest_pairs}
 use Rattle.tester_run.specs.Rendered.{Renders}
 use Rattle.tester_run.proofs.Turns.{none_behind}
@@ -87,6 +87,45 @@ going_first pairs arguments core seats order stands unapplied first none =
       seated = subst AreSeated (sym first.alone) (alone_seated first.seat first.seated);
       counted = unapplied ∙ sym (ap length none);
       started = ap length stands.started ∙ sym one;
+      few = omega (arith, one);
+    }
+
+-- a run is at its start over a core that was loaded
+pub starts_at : (pairs : List (List ℕ × List ℕ)) (arguments : RunArgs) (core : CoreModel) (words : ℕ → ℕ) (seat : Seat)
+    → StandsFor core (begun pairs arguments) → HasWords (begun pairs arguments) words → IsFirst seat arguments core
+    → IsAtStart pairs arguments core words seat
+starts_at pairs arguments core words seat stands has_words first = record {
+  stands = stands;
+  has_words = has_words;
+  starts = first pairs stands;
+}
+
+-- before any request the empty order leads to the start
+pub leads_alone : (pairs : List (List ℕ × List ℕ)) (arguments : RunArgs) (core : CoreModel) (words : ℕ → ℕ) (seat : Seat) (seats : List Seat)
+    (order : List ℕ) → IsAtStart pairs arguments core words seat → seats ≡ seat ∷ [] → order ≡ []
+    → LeadsByTurns pairs arguments core words seats order 0
+unfolding run_from
+leads_alone pairs arguments core words seat seats order at_start alone none =
+    subst (λ (all : List Seat). LeadsByTurns pairs arguments core words all order 0) (sym alone)
+    (subst (λ (o : List ℕ). LeadsByTurns pairs arguments core words (seat ∷ []) o 0) (sym none) (record {
+      leads = record {
+        world = begun pairs arguments;
+        stands = at_start.stands;
+        has_words = at_start.has_words;
+        runs = ap (λ (ms : List Progress). Some (record { world = begun pairs arguments; machines = ms })) at_start.starts;
+      };
+      turns = λ front rest number run e runs. absurd (none_behind front number rest e);
+      from_is = refl;
+    }))
+
+pub going_alone : (core : CoreModel) (seat : Seat) (seats : List Seat) (order : List ℕ) → IsSeated seat → core.applied ≡ 0
+    → length core.started ≡ 1 → seats ≡ seat ∷ [] → order ≡ [] → IsGoing core seats order
+going_alone core seat seats order seated unapplied alone_started alone none =
+    let one : length seats ≡ 1 = ap length alone in
+    record {
+      seated = subst AreSeated (sym alone) (alone_seated seat seated);
+      counted = unapplied ∙ sym (ap length none);
+      started = alone_started ∙ sym one;
       few = omega (arith, one);
     }
 

@@ -9,3 +9,4 @@ pub mod Tellings
 pub mod Rows
 pub mod Workers
 pub mod Summaries
+pub mod Gathered

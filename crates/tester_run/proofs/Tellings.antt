@@ -1,5 +1,5 @@
 -- What the parts of the top call tell on err.
-use Rattle.std.proofs.Common.{◌≡◌, ℕ, true, false, true≢false, ap, List, Option, Some, None, ◌++◌, refl, sym, append_assoc, ◌∙◌, subst, inl, inr, ◌⊎◌, ⊎_elim, arith}
+use Rattle.std.proofs.Common.{◌≡◌, ℕ, true, false, ap, List, Option, Some, None, ◌++◌, refl, sym, append_assoc, ◌∙◌, subst, inl, inr, ◌⊎◌, ⊎_elim, arith}
 use Rattle.std.specs.Prelude.{IfSome, codes}
 use Rattle.outside.specs.Counts.{Rose}
 use Rattle.std.proofs.lemmas.Option.{none-some, same_Some}
@@ -9,7 +9,7 @@ use Rattle.command_words.specs.declared.fault.ArgFault.TheVariants as arg
 use Rattle.tester_run.specs.Arguments.{reads_input}
 use Rattle.tester_run.specs.Faults.{InputFault, HasFault, line_in, order_in}
 use Rattle.tester_run.specs.Inputs.{IsFaulty, IsReadOut, IsRefusedBy}
-use Rattle.tester_run.specs.Outcomes.{usage, bad_input, read_fault, write_fault, out_of_memory, IsFinal, IsLawful, IsStatusAlone}
+use Rattle.tester_run.specs.Outcomes.{usage, bad_input, read_fault, write_fault, out_of_memory, IsFinal, IsLawful, IsGenStatus}
 use Rattle.tester_run.specs.Tellings.{told, IsFaultLine, IsFaultTold, IsLineOf, IsShort, IsTold, IsUnasked, IsWritten, Refuses, Tells}
 use Rattle.tester_run.specs.declared.top.Refusal.{Refusal}
 use Rattle.tester_run.specs.declared.top.Refusal.TheVariants as refusal
@@ -170,14 +170,6 @@ refused_short words its status left after before_err after_err at_first at_last 
     same : its ≡ lawful.its_args
     same = same_Some its lawful.its_args (sym is ∙ lawful.words)
 
--- of `gen` nothing but want of memory
-pub refused_alone : (its : Args) (status : ℕ) (left after before_err after_err : Option (List ℕ)) (at_first at_last faults faults_after : ℕ)
-    → IsRefused its status left after before_err after_err at_first at_last faults faults_after → reads_input its ≡ false
-    → IsStatusAlone status
-refused_alone its status left after before_err after_err at_first at_last faults faults_after refused none =
-    ⊎_elim (λ bad. absurd (true≢false (sym bad.1 ∙ none)))
-    (⊎_elim (λ failed. absurd (true≢false (sym failed.1 ∙ none))) (λ short. inr (inr short))) refused.is_status
-
 -- what was told by the words
 pub told_by_words : (words : Option Args) (its : Args) (status : ℕ) (left before after : Option (List ℕ)) (faults faults_after : ℕ)
     → words ≡ Some its → Tells (Some its) status left before after faults faults_after
@@ -191,12 +183,12 @@ usage_told fault status before after faults faults_after is status_is text =
     subst (λ (f : ArgFault). IsUnasked f status before after faults faults_after) (sym is) (status_is, text)
 
 -- where the words ask for `gen`, nothing but want of memory refuses them
-pub unasked_alone : {X : Type 0} (words : Option Args) (fault : ArgFault) (status : ℕ) (source : X) (before after : Option (List ℕ))
+pub unasked_generated : {X : Type 0} (words : Option Args) (fault : ArgFault) (status : ℕ) (source : X) (before after : Option (List ℕ))
     (faults faults_after : ℕ) → (fault ≡ arg.Usage → words ≡ None) → IsUnasked fault status before after faults faults_after
-    → IfSome words (λ asked. reads_input asked ≡ false → (source ≡ source) × IsStatusAlone status)
-unasked_alone None fault status source before after faults faults_after none unasked = tt
-unasked_alone (Some asked) arg.Usage status source before after faults faults_after none unasked = absurd (none-some asked (sym (none refl)))
-unasked_alone (Some asked) arg.NoMemory status source before after faults faults_after none unasked = λ alone. (refl, inr (inr unasked.is_status))
+    → IfSome words (λ asked. reads_input asked ≡ false → (source ≡ source) × IsGenStatus status)
+unasked_generated None fault status source before after faults faults_after none unasked = tt
+unasked_generated (Some asked) arg.Usage status source before after faults faults_after none unasked = absurd (none-some asked (sym (none refl)))
+unasked_generated (Some asked) arg.NoMemory status source before after faults faults_after none unasked = λ alone. (refl, inr (inr unasked.is_status))
 
 -- ---- the text of a place of an order
 

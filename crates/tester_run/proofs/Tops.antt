@@ -26,7 +26,7 @@ use Rattle.tester_run.specs.declared.fault.OrderFault.TheVariants as order
 use Rattle.tester_run.specs.Arguments.{arguments_of, form_of, reads_input, IsInputOf}
 use Rattle.tester_run.specs.Faults.{InputFault, IsFaultOf, IsMisfitOf, line_in, order_in}
 use Rattle.tester_run.specs.Inputs.{IsFaulty, IsJudged, IsMade, IsRead, IsRefusedBy, read_limit}
-use Rattle.tester_run.specs.Outcomes.{write_fault, IsFinal, IsLawful, IsStatusAlone, IsLegal, HasRun, Finishes, BreaksOff, KeepsPrefixesApart}
+use Rattle.tester_run.specs.Outcomes.{write_fault, IsFinal, IsLawful, IsLegal, HasRun, Finishes, BreaksOff, KeepsPrefixesApart}
 use Rattle.tester_run.specs.Rendered.{final_status, output_of, IsOrderOf, IsRendered, Renders, Summarizes}
 use Rattle.tester_run.specs.declared.running.Rendered.{Rendered}
 use Rattle.tester_run.specs.declared.top.Refusal.{Refusal}
@@ -121,13 +121,13 @@ made_final asked left after rendered made = subst IsFinal (sym made.is_rendered.
 
 -- what is rendered of a run, of a replay and of `gen`
 pub run_rendered : (arguments : RunArgs) (input : Input) (rendered : Rendered) → Renders input.pairs arguments rendered
-    → AreByTurns input.pairs arguments rendered.order → IsRendered (args.Run arguments) input rendered
-run_rendered arguments input rendered renders turns = record {
+    → IsRendered (args.Run arguments) input rendered
+run_rendered arguments input rendered renders = record {
   run = renders.run;
   runs = renders.runs;
   output_is = renders.dump_is;
   status_is = renders.status_is;
-  ordered = turns;
+  ordered = tt;
 }
 
 replay_rendered : (arguments : RunArgs) (input : Input) (rendered : Rendered) → Renders input.pairs arguments rendered
@@ -157,14 +157,6 @@ gen_rendered workers input rendered summarizes turns = record {
   status_is = summarizes.status_is;
   ordered = turns;
 }
-
--- the statuses of `gen`
-pub gen_status : (asked : Args) (left after : Option (List ℕ)) (rendered : Rendered) (status : ℕ) → IsMade asked left after rendered
-    → (status ≡ rendered.status) ⊎ (status ≡ write_fault) → reads_input asked ≡ false → IsStatusAlone status
-gen_status (args.Run arguments) left after rendered status made is none = absurd (true≢false none)
-gen_status (args.Replay arguments) left after rendered status made is none = absurd (true≢false none)
-gen_status (args.Gen workers) left after rendered status made (inl is) none = inl (is ∙ made.is_rendered.status_is)
-gen_status (args.Gen workers) left after rendered status made (inr failed) none = inr (inl failed)
 
 not_write_fault : (status : ℕ) → IsFinal status → status ≢ write_fault
 not_write_fault status final e =

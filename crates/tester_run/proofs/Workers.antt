@@ -1,5 +1,5 @@
 -- What is asked has no more workers than there may be.
-use Rattle.std.proofs.Common.{◌≡◌, ◌∙◌, ◌&&◌, ◌≤◌, ℕ, Bool, cond, true, false, true≢false, nat_le, leb-true, List, [], ◌∷◌, Option, Some, None, option_map, option_and_then, codes, bytes_eq, sym, ap, subst, refl}
+use Rattle.std.proofs.Common.{◌≡◌, ◌&&◌, ◌≤◌, ℕ, Bool, cond, true, false, true≢false, nat_le, leb-true, List, [], ◌∷◌, Option, Some, None, option_map, option_and_then, codes, bytes_eq, sym, subst, refl}
 use Rattle.std.specs.Prelude.{IfSome}
 use Rattle.std.specs.Str.Parse.{digits_value}
 use Rattle.command_rules.specs.declared.args.RunArgs.{RunArgs}

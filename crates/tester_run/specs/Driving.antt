@@ -91,13 +91,32 @@ GoesOnByTurns core words seats order from core_after words_after seats_after ord
     (pairs : List (List ℕ × List ℕ)) (arguments : RunArgs) → LeadsByTurns pairs arguments core words seats order from
     → LeadsByTurns pairs arguments core_after words_after seats_after order_after from_after
 
--- a run by turns has come to its end: no machine asks
-pub record EndsByTurns (pairs : List (List ℕ × List ℕ)) (arguments : RunArgs) (ended : Ended) : Type 0 where
+-- a run has come to its end: no machine asks
+pub record Ends (pairs : List (List ℕ × List ℕ)) (arguments : RunArgs) (ended : Ended) : Type 0 where
   pub words : ℕ → ℕ
-  pub from : ℕ
-  pub leads : LeadsByTurns pairs arguments ended.core words ended.seats.items ended.order from
+  pub leads : Leads pairs arguments ended.core words ended.seats.items ended.order
   pub seated : AreSeated ended.seats.items
   pub none : (number : ℕ) → asks_at ended.seats.items number ≡ false
+
+-- and its order is that by turns
+pub record EndsByTurns (pairs : List (List ℕ × List ℕ)) (arguments : RunArgs) (ended : Ended) : Type 0 where
+  pub ends : Ends pairs arguments ended
+  pub turns : AreByTurns pairs arguments ended.order
+
+-- a run is at its start: no request was taken, and the one machine is at this seat
+pub record IsAtStart (pairs : List (List ℕ × List ℕ)) (arguments : RunArgs) (core : CoreModel) (words : ℕ → ℕ) (seat : Seat) : Type 0 where
+  pub stands : StandsFor core (begun pairs arguments)
+  pub has_words : HasWords (begun pairs arguments) words
+  pub starts : (start pairs arguments).machines ≡ progress_of seat ∷ []
+
+-- whatever run was at its start has come to its end
+abbrev pub EndsFrom : CoreModel → (ℕ → ℕ) → Seat → Ended → Type 0
+EndsFrom core words seat ended =
+    (pairs : List (List ℕ × List ℕ)) (arguments : RunArgs) → IsAtStart pairs arguments core words seat → Ends pairs arguments ended
+
+abbrev pub EndsByTurnsFrom : CoreModel → (ℕ → ℕ) → Seat → Ended → Type 0
+EndsByTurnsFrom core words seat ended =
+    (pairs : List (List ℕ × List ℕ)) (arguments : RunArgs) → IsAtStart pairs arguments core words seat → EndsByTurns pairs arguments ended
 
 -- what is so between two requests
 pub record IsGoing (core : CoreModel) (seats : List Seat) (order : List ℕ) : Type 0 where

@@ -74,7 +74,7 @@ IsMisfit (order.NoRequest place machine) pairs arguments given = LacksRequest pa
 IsMisfit order.EndsEarly pairs arguments given = StopsShort pairs arguments given
 IsMisfit order.NoMemory pairs arguments given = Unit {0}
 
--- what was asked was refused for; a run by turns is refused for want of memory alone
+-- what was asked was refused for; a run is refused for want of memory alone
 abbrev pub IsMisfitOf : (asked : Args) → OrderFault → Input → Type 0
 IsMisfitOf (args.Run arguments) fault input = fault ≡ order.NoMemory
 IsMisfitOf (args.Gen workers) fault input = fault ≡ order.NoMemory

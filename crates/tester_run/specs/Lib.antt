@@ -8,3 +8,4 @@ pub mod Inputs
 pub mod Outcomes
 pub mod Tellings
 pub mod Summaries
+pub mod Serving

@@ -39,11 +39,11 @@ abbrev pub IsSilent : ℕ → Type 0
 IsSilent status = (status ≡ usage) ⊎ (status ≡ bad_input) ⊎ (status ≡ read_fault) ⊎ (status ≡ out_of_memory)
 
 -- the statuses of `gen`: 0, 5 and 6
-abbrev pub IsStatusAlone : ℕ → Type 0
-IsStatusAlone status = (status ≡ 0) ⊎ (status ≡ write_fault) ⊎ (status ≡ out_of_memory)
+abbrev pub IsGenStatus : ℕ → Type 0
+IsGenStatus status = (status ≡ 0) ⊎ (status ≡ write_fault) ⊎ (status ≡ out_of_memory)
 
 -- The complete run of an order, of the input of what is asked: what the bytes that the source had say, where it tells them, or what
--- `gen` makes; an input may have these pairs. The order is that by turns, or the one that a replay was given.
+-- `gen` makes; an input may have these pairs. The order of a replay is the one that it was given, and that of `gen` is by turns.
 pub record HasRun (left : Option (List ℕ)) (asked : Args) (order : List ℕ) (run : Run) : Type 0 where
   pub input : Input
   pub is_input : IsInputOf asked left input

@@ -1,5 +1,5 @@
 -- What a run renders.
-use Rattle.std.specs.Prelude.{◌≡◌, ℕ, List}
+use Rattle.std.specs.Prelude.{◌≡◌, ℕ, List, ⊤}
 use Rattle.command_rules.specs.declared.args.RunArgs.{RunArgs}
 use Rattle.command_rules.specs.declared.args.Args.{Args}
 use Rattle.command_rules.specs.declared.args.Args.TheVariants as args
@@ -23,9 +23,10 @@ pub record Summarizes (pairs : List (List ℕ × List ℕ)) (arguments : RunArgs
   pub summary_is : rendered.output.items ≡ summary rendered.order run
   pub status_is : rendered.status ≡ 0
 
--- the order of a run and of `gen` is that by turns, the order of a replay the one that it was given
+-- the order of a run is the one in which requests were taken, whichever it was; the order of a replay is the one that it was given,
+-- and that of `gen` is by turns
 abbrev pub IsOrderOf : (asked : Args) → (pairs : List (List ℕ × List ℕ)) → (given order : List ℕ) → Type 0
-IsOrderOf (args.Run arguments) pairs given order = AreByTurns pairs arguments order
+IsOrderOf (args.Run arguments) pairs given order = ⊤
 IsOrderOf (args.Gen workers) pairs given order = AreByTurns pairs (arguments_of (args.Gen workers)) order
 IsOrderOf (args.Replay arguments) pairs given order = order ≡ given
 

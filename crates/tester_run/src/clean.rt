@@ -15,7 +15,7 @@ const PIECE: usize = 4_096;
 
 /// The status of a run over these bytes, whose dump goes to a sink that keeps nothing. Neither the source nor a sink ever
 /// fails, so neither 4 nor 5 comes.
-pub fn status_over_bytes<R: Threads + Wait + Sync, G: Gate>(
+pub fn status_over_bytes<R: Threads + Wait + Sync + Clone + Drop + Send + 'static, G: Gate>(
     rt: &R,
     alloc: Global,
     args: &ArgWords,

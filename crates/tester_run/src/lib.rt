@@ -1,7 +1,7 @@
 //! The top call: from the words and the bytes that come in to the dump that goes out.
 //!
 //! `tester` does all that the program does. It reads the words and the source, runs machine 0 and each machine that is started
-//! over the core, by turns or by the order that a replay is given, renders the dump and writes it. Its clauses say what each
+//! over the core, in threads, or by the order that a replay is given, renders the dump and writes it. Its clauses say what each
 //! exit status means; the definitions that they cite stand in `specs/Outcomes.antt`, `specs/Faults.antt` and
 //! `specs/Tellings.antt`, and, for the run and its dump, in `machine_rules`.
 #![tactic(auto)]
@@ -18,6 +18,7 @@ mod telling;
 mod tests;
 #[cfg(test)]
 mod tests_waits;
+mod threading;
 mod top;
 
 pub use clean::status_over_bytes;

@@ -1,13 +1,14 @@
-//! The run of all machines, from the pairs of an input to the dump, or of `gen` to the summary.
+//! Runs by turns, and what is rendered of the end of a run.
 
-ghost use Rattle.std.specs.Prelude.{◌≡◌, if◌then◌else◌, IfOk};
+ghost use Rattle.std.specs.Prelude.{◌≡◌, ◌∷◌, [], length, if◌then◌else◌, IfOk};
 ghost use Rattle.std.specs.List.{list_all};
 ghost use Rattle.machine_rules.specs.Runs.{has_ended, AreByTurns};
 ghost use Rattle.machine_seat.specs.Seats.{IsSeated};
 ghost use Rattle.tester_run.specs.Arguments.{gen_arguments};
-ghost use Rattle.tester_run.specs.Driving.{AreFirst, EndsByTurns, IsFirst, IsStarted};
+ghost use Rattle.outside.specs.Seeds.{words_from};
+ghost use Rattle.tester_run.specs.Driving.{AreFirst, EndsByTurnsFrom, IsFirst, IsStarted};
 ghost use Rattle.tester_run.specs.Dumps.{dump_of, newest_pairs};
-ghost use Rattle.tester_run.specs.Rendered.{Renders, Summarizes};
+ghost use Rattle.tester_run.specs.Rendered.{Summarizes};
 ghost use Rattle.tester_run.specs.Summaries.{summary_of};
 
 use crate::driving::drive;
@@ -48,20 +49,10 @@ pub struct Rendered {
 
 /// What stands at the end of a run.
 #[derive(Drop)]
-struct Ended {
-    core: Core,
-    seats: Vec<Seat>,
-    order: Order,
-}
-
-/// Runs machine 0 over these pairs as the arguments say, and each machine that is started, by turns, until all have ended,
-/// and renders the dump. The random words are those of the seed.
-pub fn run(alloc: Global, arguments: &RunArgs, pairs: Pairs) -> Result<Rendered, AllocError>
-    ensures renders { IfOk result (Renders pairs arguments.now) }
-    ensures turns { IfOk result (λ rendered. AreByTurns pairs arguments.now rendered.order) }
-{
-    let ended = run_by_turns(alloc, arguments, pairs)?;
-    rendered_of(alloc, ended.core, ended.seats, ended.order)
+pub struct Ended {
+    pub core: Core,
+    pub seats: Vec<Seat>,
+    pub order: Order,
 }
 
 /// Runs the pairs of `gen` by turns, and renders the summary. The memory of the core and of the machines isn't given back, as in
@@ -71,7 +62,10 @@ pub fn generate(alloc: Global, pairs: Pairs) -> Result<Rendered, AllocError>
     ensures turns { IfOk result (λ rendered. AreByTurns pairs gen_arguments rendered.order) }
 {
     let arguments = gen_arguments(alloc)?;
-    let ended = run_by_turns(alloc, &arguments, pairs)?;
+    let core = Core::load(alloc, &arguments, pairs)?;
+    let words = PcgWords::new(arguments.seed);
+    let seat = first_seat(alloc, &arguments, &core)?;
+    let ended = run_by_turns(alloc, core, words, seat)?;
     summary_of(alloc, ended.core, ended.seats, ended.order)
 }
 
@@ -87,19 +81,37 @@ fn gen_arguments(alloc: Global) -> Result<RunArgs, AllocError>
     })
 }
 
-// Runs machine 0 over these pairs, and each machine that is started, by turns, until all have ended.
-fn run_by_turns(alloc: Global, arguments: &RunArgs, pairs: Pairs) -> Result<Ended, AllocError>
-    ensures { IfOk result (EndsByTurns pairs arguments.now) }
+/// Runs machine 0 at its seat, over a core that has taken no request, and each machine that is started, by turns, until all have
+/// ended.
+pub fn run_by_turns(
+    alloc: Global,
+    core: Core,
+    words: PcgWords,
+    seat: Seat,
+) -> Result<Ended, AllocError>
+    requires seated { IsSeated seat }
+    requires unapplied { core.applied ≡ 0 }
+    requires alone { length core.started ≡ 1 }
+    ensures { IfOk result (EndsByTurnsFrom core (words_from words) seat) }
 {
-    let mut core = Core::load(alloc, arguments, pairs)?;
-    let mut seats = first_seats(alloc, arguments, &core)?;
-    let mut words = PcgWords::new(arguments.seed);
+    let mut core = core;
+    let mut words = words;
+    let mut seats = alone(alloc, seat)?;
     let mut order = Order::new(alloc);
     let mut from = 0;
     drive(
         alloc, &mut core, &mut words, &mut seats, &mut order, &mut from,
     )?;
     Ok(Ended { core, seats, order })
+}
+
+// One machine alone.
+fn alone(alloc: Global, seat: Seat) -> Result<Vec<Seat>, AllocError>
+    ensures { IfOk result (λ seats. seats.items ≡ seat ∷ []) }
+{
+    let mut seats = Vec::new(alloc);
+    seats.push(seat)?;
+    Ok(seats)
 }
 
 // The summary of what stands at the end of a run.
@@ -163,10 +175,8 @@ pub fn first_seat(alloc: Global, arguments: &RunArgs, core: &Core) -> Result<Sea
 pub fn first_seats(alloc: Global, arguments: &RunArgs, core: &Core) -> Result<Vec<Seat>, AllocError>
     ensures { IfOk result (λ seats. AreFirst seats.items arguments.now core.now) }
 {
-    let first = first_seat(alloc, arguments, core)?;
-    let mut seats = Vec::new(alloc);
-    seats.push(first)?;
-    Ok(seats)
+    let seat = first_seat(alloc, arguments, core)?;
+    alone(alloc, seat)
 }
 
 fn status_of(seats: &[Seat]) -> u8

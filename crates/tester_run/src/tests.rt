@@ -8,6 +8,7 @@ use std::thread::Threads;
 mod directories;
 mod machines;
 mod replays;
+mod threads;
 
 const WORDS: [&str; 3] = ["run", "p", "630"];
 
@@ -153,7 +154,10 @@ fn long_key(alloc: Global) -> Result<Vec<u8>, AllocError> {
 }
 
 // What is told of a second line that is too long.
-fn told_of_long<R: Threads + Wait + Sync>(rt: &R, alloc: Global) -> Result<Vec<u8>, AllocError> {
+fn told_of_long<R: Threads + Wait + Sync + Clone + Drop + Send + 'static>(
+    rt: &R,
+    alloc: Global,
+) -> Result<Vec<u8>, AllocError> {
     let mut input = Vec::from_slice(alloc, ONE_PAIR)?;
     input.extend_from_slice(&long_key(alloc)?)?;
     Ok(ran(rt, alloc, &WORDS, &input)?.told)
@@ -188,7 +192,7 @@ struct Report {
 }
 
 // A call over a source and a sink.
-fn ran_on<R: Threads + Wait + Sync>(
+fn ran_on<R: Threads + Wait + Sync + Clone + Drop + Send + 'static>(
     rt: &R,
     alloc: Global,
     args: &ArgWords,
@@ -209,7 +213,7 @@ fn ran_on<R: Threads + Wait + Sync>(
 }
 
 // A call over input in pieces of 7 bytes, with room for a small dump.
-fn ran<R: Threads + Wait + Sync>(
+fn ran<R: Threads + Wait + Sync + Clone + Drop + Send + 'static>(
     rt: &R,
     alloc: Global,
     words: &[&str],
@@ -221,7 +225,7 @@ fn ran<R: Threads + Wait + Sync>(
     ran_on(rt, alloc, &args, source, out)
 }
 
-fn is_as_said<R: Threads + Wait + Sync>(
+fn is_as_said<R: Threads + Wait + Sync + Clone + Drop + Send + 'static>(
     rt: &R,
     alloc: Global,
     row: &Row,
@@ -232,7 +236,7 @@ fn is_as_said<R: Threads + Wait + Sync>(
 }
 
 // The first row that isn't as it says.
-fn first_other<R: Threads + Wait + Sync>(
+fn first_other<R: Threads + Wait + Sync + Clone + Drop + Send + 'static>(
     rt: &R,
     alloc: Global,
 ) -> Result<Option<usize>, AllocError> {
@@ -251,7 +255,7 @@ fn runs_and_writes_the_dump(rt: HostRuntime) -> Result<(), Fail> {
 }
 
 // The status of a run under a prefix of so many bytes.
-fn status_under<R: Threads + Wait + Sync>(
+fn status_under<R: Threads + Wait + Sync + Clone + Drop + Send + 'static>(
     rt: &R,
     alloc: Global,
     len: usize,
@@ -272,7 +276,7 @@ fn takes_a_prefix_of_a_thousand_bytes(rt: HostRuntime) -> Result<(), Fail> {
 
 // What is told by a run whose calls of the source and of the sink fail at these numbers, its status, how many bytes it wrote,
 // and whether these are a front of the dump.
-fn failing<R: Threads + Wait + Sync>(
+fn failing<R: Threads + Wait + Sync + Clone + Drop + Send + 'static>(
     rt: &R,
     alloc: Global,
     reads: &[u64],

@@ -1,10 +1,13 @@
 //! Waits of a machine with three polls over the core.
 
-use crate::running::run;
+use crate::threading::run_threaded;
 use command_words::RunArgs;
 use key_bytes::{Bytes, Key, Pair, Pairs};
+use outside::OpenGate;
 use std::alloc::{AllocError, Global};
+use std::sync::Wait;
 use std::test::Fail;
+use std::thread::Threads;
 
 // How the lines of instructions begin.
 const INSTRUCTION: &[u8] = b"K \\x01p\\x00";
@@ -48,13 +51,23 @@ fn without_instructions(alloc: Global, text: &[u8]) -> Result<Vec<u8>, AllocErro
 }
 
 // The dump of a run of these instructions alone, without their lines.
-fn dumped(alloc: Global, instructions: &[&[u8]]) -> Result<Vec<u8>, AllocError> {
+fn dumped<R: Threads + Wait + Sync + Clone + Drop + Send + 'static>(
+    rt: &R,
+    alloc: Global,
+    instructions: &[&[u8]],
+) -> Result<Vec<u8>, AllocError> {
     let arguments = RunArgs {
         prefix: Bytes::from_slice(alloc, b"p")?,
         seed: 0,
         polls: 3,
     };
-    let rendered = run(alloc, &arguments, pairs_of(alloc, instructions)?)?;
+    let rendered = run_threaded(
+        rt,
+        alloc,
+        &OpenGate,
+        &arguments,
+        pairs_of(alloc, instructions)?,
+    )?;
     without_instructions(alloc, &rendered.output)
 }
 
@@ -199,15 +212,22 @@ O 0\n",
     ),
 ];
 
-fn is_dumped(alloc: Global, row: Row) -> Result<bool, AllocError> {
+fn is_dumped<R: Threads + Wait + Sync + Clone + Drop + Send + 'static>(
+    rt: &R,
+    alloc: Global,
+    row: Row,
+) -> Result<bool, AllocError> {
     let (instructions, wanted) = row;
-    Ok(dumped(alloc, instructions)?.as_slice() == wanted)
+    Ok(dumped(rt, alloc, instructions)?.as_slice() == wanted)
 }
 
 // The first of the rows whose dump is another.
-fn first_other_row(alloc: Global) -> Result<Option<usize>, AllocError> {
+fn first_other_row<R: Threads + Wait + Sync + Clone + Drop + Send + 'static>(
+    rt: &R,
+    alloc: Global,
+) -> Result<Option<usize>, AllocError> {
     for (place, row) in ROWS.iter().enumerate() {
-        if !is_dumped(alloc, *row)? {
+        if !is_dumped(rt, alloc, *row)? {
             return Ok(Some(place));
         }
     }
@@ -216,6 +236,6 @@ fn first_other_row(alloc: Global) -> Result<Option<usize>, AllocError> {
 
 #[test]
 fn waits_end_by_a_decision_or_by_the_number_of_polls(rt: HostRuntime) -> Result<(), Fail> {
-    assert_eq!(rt; first_other_row(rt.alloc())?, None);
+    assert_eq!(rt; first_other_row(&rt, rt.alloc())?, None);
     Ok(())
 }

@@ -12,7 +12,7 @@ ghost use Rattle.input_rules.specs.Forms.{input_of};
 ghost use Rattle.generator.specs.Generated.{gen_pairs};
 ghost use Rattle.tester_run.specs.Arguments.{form_of, reads_input, HasFewWorkers};
 ghost use Rattle.tester_run.specs.Faults.{InputFault, HasFault, IsMisfitOf, order_in};
-ghost use Rattle.tester_run.specs.Outcomes.{usage, bad_input, read_fault, write_fault, out_of_memory, IsFinal, IsLawful, IsLegal, IsSilent, IsStatusAlone, Finishes, BreaksOff, KeepsPrefixesApart};
+ghost use Rattle.tester_run.specs.Outcomes.{usage, bad_input, read_fault, write_fault, out_of_memory, IsFinal, IsLawful, IsLegal, IsSilent, IsGenStatus, Finishes, BreaksOff, KeepsPrefixesApart};
 ghost use Rattle.tester_run.specs.Inputs.{IsRefusedBy, IsJudged, IsMade, IsRead, IsReadOut, ReadsWithin};
 ghost use Rattle.tester_run.specs.Rendered.{IsRendered};
 ghost use Rattle.tester_run.specs.Tellings.{IsTold, IsUnasked, IsWritten, Refuses, Tells};
@@ -20,8 +20,9 @@ ghost use Rattle.tester_run.specs.Tellings.{IsTold, IsUnasked, IsWritten, Refuse
 use crate::driving::shows_short;
 use crate::fault::OrderFault;
 use crate::replaying::replay;
-use crate::running::{Rendered, generate, run};
+use crate::running::{Rendered, generate};
 use crate::telling::{line_fault_line, order_fault_line, tell};
+use crate::threading::run_threaded;
 use command_words::{ArgFault, ArgWords, Args, read_args};
 use dump_text::{Form, Input, LineFault, Order, read_lines};
 use generator::gen_pairs;
@@ -67,16 +68,22 @@ enum Refusal {
 }
 
 /// Does all that the program does: reads the words after the program's name and the source to its end, runs machine 0 over
-/// what it read, by turns or by the order that a replay is given, and writes the dump to `out`. With `gen` it reads nothing, runs
-/// the pairs that are made for so many workers, and writes the summary. The clauses say what each status means.
-pub fn tester<R: Threads + Wait + Sync, S: Source, K: Sink, N: Sink, G: Gate>(
-    _rt: &R,
+/// what it read, in threads or by the order that a replay is given, and writes the dump to `out`. With `gen` it reads nothing, runs
+/// the pairs that are made for so many workers by turns, and writes the summary. The clauses say what each status means.
+pub fn tester<
+    R: Threads + Wait + Sync + Clone + Drop + Send + 'static,
+    S: Source,
+    K: Sink,
+    N: Sink,
+    G: Gate,
+>(
+    rt: &R,
     alloc: Global,
     args: &ArgWords,
     source: &mut S,
     out: &mut K,
     err: &mut N,
-    _gate: &G,
+    gate: &G,
 ) -> Outcome
     // 1: the words are no command. Nothing was read.
     ensures usage { result.status ≡ usage → args_of args.now ≡ None }
@@ -96,8 +103,8 @@ pub fn tester<R: Threads + Wait + Sync, S: Source, K: Sink, N: Sink, G: Gate>(
     ensures end { IsFinal result.status → IfSome (args_of args.now) (λ asked. reads_input asked ≡ true → IsAtEnd (S.left source.new)) }
 
     // `gen` reads nothing, and has no other status than 0, 5 and 6.
-    ensures alone { IfSome (args_of args.now) (λ asked. reads_input asked ≡ false
-        → (source.new ≡ source.old) × IsStatusAlone result.status) }
+    ensures generated { IfSome (args_of args.now) (λ asked. reads_input asked ≡ false
+        → (source.new ≡ source.old) × IsGenStatus result.status) }
 
     // In that run each transaction committed with a version would get the same ordinary reads run whole at its commit, unless
     // a write with its conflict range switched off fell between.
@@ -135,7 +142,7 @@ pub fn tester<R: Threads + Wait + Sync, S: Source, K: Sink, N: Sink, G: Gate>(
         Ok(asked) => asked,
         Err(fault) => return without_command(alloc, err, fault),
     };
-    match rendered(alloc, &asked, source) {
+    match rendered(rt, alloc, gate, &asked, source) {
         Err(refusal) => refused(alloc, err, &refusal),
         Ok(rendered) => {
             runs_are_legal();
@@ -201,17 +208,23 @@ fn refused<N: Sink>(alloc: Global, err: &mut N, refusal: &Refusal) -> Outcome
 }
 
 // What is asked, rendered over what the source's bytes say, or why there is nothing.
-fn rendered<S: Source>(alloc: Global, asked: &Args, source: &mut S) -> Result<Rendered, Refusal>
-    requires { HasFewWorkers asked.now }
+fn rendered<R: Threads + Wait + Sync + Clone + Drop + Send + 'static, S: Source, G: Gate>(
+    rt: &R,
+    alloc: Global,
+    gate: &G,
+    asked: &Args,
+    source: &mut S,
+) -> Result<Rendered, Refusal>
+    requires few { HasFewWorkers asked.now }
     ensures made { IfOk result (IsMade asked.now (S.left source.old) (S.left source.new)) }
     ensures refused { IfErr result (λ refusal. IsRefusedBy asked.now refusal (S.left source.old) (S.left source.new)
         (S.faults source.old) (S.faults source.new)) }
     ensures limit { ReadsWithin (S.left source.old) (S.left source.new) }
-    ensures alone { reads_input asked.now ≡ false → source.new ≡ source.old }
+    ensures generated { reads_input asked.now ≡ false → source.new ≡ source.old }
 {
     match find_input(alloc, asked, source) {
         Err(refusal) => Err(refusal),
-        Ok(input) => match make(alloc, asked, input) {
+        Ok(input) => match make(rt, alloc, gate, asked, input) {
             Ok(rendered) => Ok(rendered),
             Err(OrderFault::NoMemory) => Err(Refusal::Memory),
             Err(fault) => Err(Refusal::Order(fault)),
@@ -220,12 +233,18 @@ fn rendered<S: Source>(alloc: Global, asked: &Args, source: &mut S) -> Result<Re
 }
 
 // What is asked, rendered over an input.
-fn make(alloc: Global, asked: &Args, input: Input) -> Result<Rendered, OrderFault>
+fn make<R: Threads + Wait + Sync + Clone + Drop + Send + 'static, G: Gate>(
+    rt: &R,
+    alloc: Global,
+    gate: &G,
+    asked: &Args,
+    input: Input,
+) -> Result<Rendered, OrderFault>
     ensures made { IfOk result (IsRendered asked.now input) }
     ensures refused { IfErr result (λ fault. IsMisfitOf asked.now fault input) }
 {
     match asked {
-        Args::Run(arguments) => Ok(run(alloc, arguments, input.pairs)?),
+        Args::Run(arguments) => Ok(run_threaded(rt, alloc, gate, arguments, input.pairs)?),
         Args::Replay(arguments) => replay(alloc, arguments, input),
         Args::Gen(_) => Ok(generate(alloc, input.pairs)?),
     }
@@ -248,7 +267,7 @@ fn find_input<S: Source>(alloc: Global, asked: &Args, source: &mut S) -> Result<
     ensures refused { IfErr result (λ refusal. IsRefusedBy asked.now refusal (S.left source.old) (S.left source.new)
         (S.faults source.old) (S.faults source.new)) }
     ensures limit { ReadsWithin (S.left source.old) (S.left source.new) }
-    ensures alone { reads_input asked.now ≡ false → source.new ≡ source.old }
+    ensures generated { reads_input asked.now ≡ false → source.new ≡ source.old }
 {
     match asked {
         Args::Gen(workers) => made_input(alloc, *workers),

@@ -42,7 +42,7 @@ E 0 13 Missing\n\
 O 0\nO 0\nO 0\nO 0\nO 0\n";
 
 // Whether a run over these lines, which commit nothing, ends so and writes this before them.
-fn is_told<R: Threads + Wait + Sync>(
+fn is_told<R: Threads + Wait + Sync + Clone + Drop + Send + 'static>(
     rt: &R,
     alloc: Global,
     lines: &[u8],

@@ -1,4 +1,4 @@
-//! Several machines by turns.
+//! Several machines.
 
 use super::*;
 use client_core::Core;
@@ -33,8 +33,14 @@ fn machines_start_machines_up_to_64(rt: HostRuntime) -> Result<(), Fail> {
     Ok(())
 }
 
-// Machine 0 starts machine 1, and waits until it has cleared a key.
-const WAITS_FOR_IT: &[u8] = b"K \\x01p\\x00\\x14\\=\\x02PUSH\\x00\\x01q\\x00\n\
+// Machine 0 starts machine 1, and waits until it has cleared a key: the second poll, behind both requests of machine 1, is
+// answered.
+const WAITS_FOR_IT: &[u8] = b"O 0\n\
+O 1\n\
+O 0\n\
+O 1\n\
+O 0\n\
+K \\x01p\\x00\\x14\\=\\x02PUSH\\x00\\x01q\\x00\n\
 K \\x01p\\x00\\x15\\x01\\=\\x02START_THREAD\\x00\n\
 K \\x01p\\x00\\x15\\x02\\=\\x02PUSH\\x00\\x01w\\x00\n\
 K \\x01p\\x00\\x15\\x03\\=\\x02WAIT_EMPTY\\x00\n\
@@ -63,7 +69,7 @@ K \\x01q\\x00\\x15\\x02\\=\\x02CLEAR_DATABASE\\x00\n";
 
 #[test]
 fn a_machine_waits_for_another(rt: HostRuntime) -> Result<(), Fail> {
-    let report = ran(&rt, rt.alloc(), &WORDS, WAITS_FOR_IT)?;
+    let report = ran(&rt, rt.alloc(), &["replay", "p", "630"], WAITS_FOR_IT)?;
     assert_eq!(rt; (report.status, report.places), (0, 5));
     assert_eq!(rt; report.written.as_slice(), WAITED);
     Ok(())

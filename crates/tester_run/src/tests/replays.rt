@@ -20,7 +20,7 @@ fn misfit_row(input: &'static [u8], told: &'static [u8]) -> Row {
     }
 }
 
-// Machine 0 starts machine 1; both set the key `k` and commit. By turns machine 0 commits first, here machine 1 does.
+// Machine 0 starts machine 1; both set the key `k` and commit. Machine 1 commits first here.
 const TWO: &[u8] = b"O 0\nO 1\nO 1\nO 0\nO 0\n\
 K \\x01p\\x00\\x14\\=\\x02PUSH\\x00\\x01q\\x00\n\
 K \\x01p\\x00\\x15\\x01\\=\\x02START_THREAD\\x00\n\
@@ -82,7 +82,7 @@ fn replay_rows() -> [Row; 10] {
 }
 
 // The first row that isn't as it says.
-fn first_other_replay<R: Threads + Wait + Sync>(
+fn first_other_replay<R: Threads + Wait + Sync + Clone + Drop + Send + 'static>(
     rt: &R,
     alloc: Global,
 ) -> Result<Option<usize>, AllocError> {

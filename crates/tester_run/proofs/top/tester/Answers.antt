@@ -2,17 +2,17 @@ use Rattle.std.proofs.Common.{Option, inl, inr, subst, sym}
 use Rattle.std.specs.Prelude.{IfSome}
 use Rattle.command_rules.specs.declared.args.Args.{Args}
 use Rattle.tester_run.specs.Faults.{InputFault, HasFault}
-use Rattle.tester_run.proofs.Tellings.{refused_by, refused_short, told_by_words, unasked_alone}
+use Rattle.tester_run.proofs.Tellings.{refused_by, refused_short, told_by_words, unasked_generated}
 use Rattle.tester_run.proofs.Workers.{has_few}
 use Rattle.tester_run.proofs.Tops.{delivered, delivered_lawful, broken_off, kept_apart, made_final}
 use Rattle.tester_run.proofs.top.tester.Goals as goal
 
-pub returns-in-Err-clause-alone : goal.returns-in-Err-clause-alone
-returns-in-Err-clause-alone g c =
-    unasked_alone _ c.in-Err.fault c.without_command.result.status c.args.source.now _ _ _ _ c.in-Err.ensures c.without_command.ensures.told
+pub returns-in-Err-clause-generated : goal.returns-in-Err-clause-generated
+returns-in-Err-clause-generated g c =
+    unasked_generated _ c.in-Err.fault c.without_command.result.status c.args.source.now _ _ _ _ c.in-Err.ensures c.without_command.ensures.told
 
-pub rendered-requires : goal.rendered-requires
-rendered-requires g c = has_few c.args.args.now c.in-Ok.asked c.in-Ok.ensures
+pub rendered-requires-clause-few : goal.rendered-requires-clause-few
+rendered-requires-clause-few g c κs within = has_few c.args.args.now c.in-Ok.asked c.in-Ok.ensures
 
 pub returns-in-Err-rendered-clause-input : goal.returns-in-Err-rendered-clause-input
 returns-in-Err-rendered-clause-input g c = λ bad.

@@ -1,0 +1,215 @@
+//! The run of all machines, each in a thread of its own.
+
+ghost use Rattle.std.specs.Prelude.{◌≡◌, [], length, map, IfOk};
+ghost use Rattle.std.specs.List.{All};
+ghost use Rattle.outside.specs.Seeds.{words_from};
+ghost use Rattle.machine_seat.specs.Seats.{progress_of, IsSeated};
+ghost use Rattle.thread_laws.specs.Alone.{begun_as};
+ghost use Rattle.request_line.specs.History.{CoverAllNumbers};
+ghost use Rattle.request_line.specs.Line.{closed, receiver_line, taken};
+ghost use Rattle.network.specs.Clients.{client_line};
+ghost use Rattle.network.specs.Posts.{asking_in, cells_in, overs_in, posts_of};
+ghost use Rattle.network.specs.Serving.{cells_of};
+ghost use Rattle.machine_threads.specs.Threaded.{history_of, HasEnded};
+ghost use Rattle.machine_threads.specs.Closing.{AreSettled};
+ghost use Rattle.tester_run.specs.Driving.{EndsFrom};
+ghost use Rattle.tester_run.specs.Rendered.{Renders};
+ghost use Rattle.tester_run.specs.Serving.{CameBack, IsFresh, IsNetworkOf};
+
+use crate::running::{Ended, Rendered, first_seat, rendered_of, run_by_turns};
+use client_core::Core;
+use command_words::RunArgs;
+use key_bytes::Pairs;
+use machine_seat::Seat;
+use machine_threads::{ThreadedMachine, run_machine, settle_machines};
+use network::{Post, Served, serve};
+use outside::{Gate, PcgWords};
+use request_line::{Receiver, Sender, open};
+use std::alloc::{AllocError, Global};
+use std::snapshot::Snapshot;
+use std::sync::atomic::{AtomicBool, Ordering};
+use std::sync::{Arc, Wait};
+use std::thread;
+use std::thread::{Promise, PromisedHandle, Threads};
+use thread_gathering::{CoreService, threads_gather_to_a_run};
+
+/// How many posts may wait in the line.
+const LINE: usize = 64;
+
+/// What the thread of the core comes back with where it served until all machines were over.
+#[derive(Drop)]
+struct Answered {
+    served: Served,
+    receiver: Receiver<Post>,
+    service: CoreService,
+}
+
+/// What it comes back with.
+#[derive(Drop)]
+enum Back {
+    Served(Answered),
+    /// It was called off before it took any post.
+    CalledOff(CoreService),
+}
+
+/// What is promised of it, from this receiver and this service.
+#[derive(Drop)]
+struct Serving(Snapshot<Receiver<Post>>, Snapshot<CoreService>);
+
+impl Promise<Back> for Serving {
+    ghost use Rattle.tester_run.specs.Serving.{CameBack};
+
+    ghost kept_by = { λ promise back. CameBack promise.0.value promise.1.value back };
+}
+
+/// The thread of the core, or the core, where no thread could be started for it.
+enum Network {
+    Runs(PromisedHandle<Back, Serving>),
+    Refused(CoreService),
+}
+
+/// Runs machine 0 over these pairs as the arguments say, and each machine that is started, in threads beside one another, until all
+/// have ended, and renders the dump. Where the thread of the core can't be started they run by turns.
+pub fn run_threaded<R: Threads + Wait + Sync + Clone + Drop + Send + 'static, G: Gate>(
+    rt: &R,
+    alloc: Global,
+    gate: &G,
+    arguments: &RunArgs,
+    pairs: Pairs,
+) -> Result<Rendered, AllocError>
+    ensures { IfOk result (Renders pairs arguments.now) }
+{
+    let core = Core::load(alloc, arguments, pairs)?;
+    let words = PcgWords::new(arguments.seed);
+    let seat = first_seat(alloc, arguments, &core)?;
+    let ended = run_all(rt, alloc, gate, CoreService { core, words }, seat)?;
+    rendered_of(alloc, ended.core, ended.seats, ended.order)
+}
+
+// Runs machine 0 at its seat, over a core that has taken no request, and each machine that is started, until all have ended.
+fn run_all<R: Threads + Wait + Sync + Clone + Drop + Send + 'static, G: Gate>(
+    rt: &R,
+    alloc: Global,
+    gate: &G,
+    service: CoreService,
+    seat: Seat,
+) -> Result<Ended, AllocError>
+    requires seated { IsSeated seat }
+    requires begun { progress_of seat ≡ begun_as seat.machine.machine }
+    requires unapplied { service.core.applied ≡ 0 }
+    requires alone { length service.core.started ≡ 1 }
+    ensures { IfOk result (EndsFrom service.core (words_from service.words) seat) }
+{
+    let (sender, receiver) = open::<Post>(alloc, LINE)?;
+    match start_network(rt, alloc, receiver, service)? {
+        Network::Runs(child) => run_beside(rt, alloc, gate, child, seat, sender),
+        Network::Refused(service) => run_by_turns(alloc, service.core, service.words, seat),
+    }
+}
+
+// The machines run in their threads, beside that of the core, until all have ended.
+fn run_beside<R: Threads + Wait + Sync, G: Gate>(
+    rt: &R,
+    alloc: Global,
+    gate: &G,
+    child: PromisedHandle<Back, Serving>,
+    seat: Seat,
+    sender: Sender<Post>,
+) -> Result<Ended, AllocError>
+    requires fresh { IsFresh child.promise.0.value sender }
+    requires seated { IsSeated seat }
+    requires begun { progress_of seat ≡ begun_as seat.machine.machine }
+    ensures { IfOk result (EndsFrom child.promise.1.value.core (words_from child.promise.1.value.words) seat) }
+{
+    let machine = ThreadedMachine::new(alloc, seat, sender);
+    let team = run_machine(rt, alloc, gate, machine, 0);
+    let Back::Served(answered) = child.join(rt) else {
+        return Err(AllocError);
+    };
+    let team = team?;
+    if answered.served.short || answered.served.machines != team.len() as u64 {
+        return Err(AllocError);
+    }
+    threads_gather_to_a_run();
+    settled(alloc, answered, team)
+}
+
+// What came back, with the machines settled against it.
+fn settled(
+    alloc: Global,
+    answered: Answered,
+    team: Vec<ThreadedMachine>,
+) -> Result<Ended, AllocError>
+    requires none_closed { closed answered.receiver ≡ [] }
+    requires one_line { All (λ one. client_line one.client ≡ receiver_line answered.receiver) team.items }
+    requires cover { CoverAllNumbers (map history_of team.items) }
+    requires have_ended { All HasEnded team.items }
+    requires cells { cells_of answered.served.receipts ≡ cells_in (posts_of (taken answered.receiver)) }
+    requires order { answered.served.order ≡ asking_in (posts_of (taken answered.receiver)) }
+    requires overs { overs_in (posts_of (taken answered.receiver)) ≡ length team.items }
+    ensures core { IfOk result (λ ended. ended.core ≡ answered.service.core) }
+    ensures order { IfOk result (λ ended. ended.order ≡ answered.served.order) }
+    ensures settled { IfOk result (λ ended. AreSettled team.items (taken answered.receiver) answered.served.order
+        answered.served.receipts ended.seats.items) }
+{
+    let order = answered.served.order;
+    let receipts = answered.served.receipts;
+    let seats = settle_machines(alloc, answered.receiver, &order, receipts, team)?;
+    Ok(Ended {
+        core: answered.service.core,
+        seats,
+        order,
+    })
+}
+
+// Starts the thread of the core. Where that can't be, the core comes back.
+fn start_network<R: Threads + Wait + Sync + Clone + Drop + Send + 'static>(
+    rt: &R,
+    alloc: Global,
+    receiver: Receiver<Post>,
+    service: CoreService,
+) -> Result<Network, AllocError>
+    ensures { IfOk result (IsNetworkOf receiver service) }
+{
+    let called_off = Arc::new(alloc, AtomicBool::new(false))?;
+    let flag = called_off.clone()?;
+    let own = rt.clone()?;
+    let promise = Serving(Snapshot::of(&receiver), Snapshot::of(&service));
+    match thread::spawn_with(
+        rt,
+        promise,
+        move || serve_all(own, alloc, flag, receiver, service),
+    ) {
+        Ok(child) => Ok(Network::Runs(child)),
+        Err(refused) => {
+            called_off.store(true, Ordering::Release);
+            match (refused.value)() {
+                Back::CalledOff(service) => Ok(Network::Refused(service)),
+                Back::Served(_) => Err(AllocError),
+            }
+        }
+    }
+}
+
+// Serves until all machines are over, unless it was called off.
+fn serve_all<R: Wait + Drop>(
+    rt: R,
+    alloc: Global,
+    called_off: Arc<AtomicBool>,
+    receiver: Receiver<Post>,
+    service: CoreService,
+) -> Back
+    ensures { CameBack receiver service result }
+{
+    if called_off.load(Ordering::Acquire) {
+        return Back::CalledOff(service);
+    }
+    let mut receiver = receiver;
+    let mut service = service;
+    let served = serve(&rt, alloc, &mut receiver, &mut service);
+    Back::Served(Answered {
+        served,
+        receiver,
+        service,
+    })
+}
