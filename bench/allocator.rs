@@ -10,8 +10,13 @@ use std::env;
 use std::process::ExitCode;
 
 mod bytes;
+mod words;
 
 use bytes::Bytes;
+use words::Words;
+
+/// Bytes that lie once, for all that have them.
+type Shared = std::rc::Rc<[u8]>;
 
 const SPACE: &[u8] = b"s";
 const COUNTERS: &[u8] = b"s\x14";
@@ -43,47 +48,6 @@ fn sum_of_grants(count: u32) -> Option<u64> {
         sum = sum.wrapping_mul(31).wrapping_add(number);
     }
     Some(sum)
-}
-
-// ---- random words
-
-const MULTIPLIER: u64 = 6_364_136_223_846_793_005;
-
-/// The generator PCG XSH RR 64/32.
-struct Words {
-    state: u64,
-    increment: u64,
-}
-
-fn mixed(state: u64) -> u32 {
-    let shifted = (((state >> 18) ^ state) >> 27) as u32;
-    shifted.rotate_right((state >> 59) as u32)
-}
-
-impl Words {
-    fn new(seed: u64) -> Words {
-        let mut parts = [0; 4];
-        let mut state = seed;
-        for part in &mut parts {
-            state = state.wrapping_mul(MULTIPLIER).wrapping_add(11_634_580_027_462_260_723);
-            *part = u64::from(mixed(state));
-        }
-        let increment = (parts[2] | parts[3] << 32) | 1;
-        let state = (parts[0] | parts[1] << 32).wrapping_add(increment);
-        let mut words = Words { state, increment };
-        words.step();
-        words
-    }
-
-    fn step(&mut self) {
-        self.state = self.state.wrapping_mul(MULTIPLIER).wrapping_add(self.increment);
-    }
-
-    fn next(&mut self) -> u32 {
-        let state = self.state;
-        self.step();
-        mixed(state)
-    }
 }
 
 // ---- the database

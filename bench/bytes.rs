@@ -1,16 +1,17 @@
 //! Byte strings of an ordinary Rust program: one of up to 22 bytes lies in place, and a longer one is shared.
 
+use super::Shared;
 use std::cmp::Ordering;
 use std::ops::Deref;
-use std::rc::Rc;
 
 const IN_PLACE: usize = 22;
 
-/// A byte string in 24 bytes: a short one lies in place, behind its length, and a long one is shared.
+/// A byte string in 24 bytes: a short one lies in place, behind its length, and a long one is shared, as the
+/// program says.
 #[derive(Clone)]
 pub enum Bytes {
     Short(u8, [u8; IN_PLACE]),
-    Long(Rc<[u8]>),
+    Long(Shared),
 }
 
 impl From<&[u8]> for Bytes {

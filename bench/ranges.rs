@@ -1,6 +1,10 @@
 //! Reads of a range, as an ordinary program does them: two ordered maps are walked side by side.
 
-use super::{Bytes, Database, End, Machine, Transaction, TOP};
+use super::bytes::Bytes;
+use super::database::{Database, TOP};
+use super::elements::{put_string, Element};
+use super::machines::{End, Machine, BAD_INSTRUCTION};
+use super::transactions::Transaction;
 use std::iter::Peekable;
 
 /// What GET_RANGE pops; the mode is one with a limit.
@@ -17,6 +21,13 @@ impl Machine {
         let (limit, reverse, _mode) = (self.pop_number()?, self.pop_number()? != 0, self.pop_number()?);
         Ok(Range { begin, end, limit, reverse })
     }
+
+    fn pop_number(&mut self) -> Result<usize, End> {
+        match self.pop()? {
+            Element::Int(number) => usize::try_from(number).map_err(|_| BAD_INSTRUCTION),
+            _ => Err(BAD_INSTRUCTION),
+        }
+    }
 }
 
 impl Transaction {
@@ -29,8 +40,8 @@ impl Transaction {
         self.rest_on_unwritten(begin, end);
         let mut packed = Vec::new();
         for (key, value) in pairs {
-            super::put_string(&mut packed, 0x01, &key);
-            super::put_string(&mut packed, 0x01, &value);
+            put_string(&mut packed, 0x01, &key);
+            put_string(&mut packed, 0x01, &value);
         }
         Ok(packed.as_slice().into())
     }

@@ -1,9 +1,12 @@
 //! Transactions: their writes, the keys that they rest on, and their commits, each of which is refused where a commit
 //! after the version of its reads wrote a key that it rests on.
 
-use super::{Bytes, Database, KEY_LIMIT, SIZE_LIMIT, TOP, VALUE_LIMIT};
+use super::bytes::Bytes;
+use super::database::{Database, Keys, KEY_LIMIT, TOP, VALUE_LIMIT};
 use std::collections::BTreeMap;
 use std::mem;
+
+const SIZE_LIMIT: usize = 10_000_000;
 
 const NOT_COMMITTED: u16 = 1020;
 const KEY_OUTSIDE_LEGAL_RANGE: u16 = 2004;
@@ -11,12 +14,6 @@ const USED_DURING_COMMIT: u16 = 2017;
 const TRANSACTION_TOO_LARGE: u16 = 2101;
 const KEY_TOO_LARGE: u16 = 2102;
 const VALUE_TOO_LARGE: u16 = 2103;
-
-/// One key, or those from the first that are less than the second, which is greater.
-pub enum Keys {
-    One(Bytes),
-    Range(Bytes, Bytes),
-}
 
 /// A transaction: a key has its value, or none where it was cleared, as the last write of it says.
 #[derive(Default)]
