@@ -1,13 +1,16 @@
 //! The pairs that are loaded.
 
-ghost use Rattle.std.specs.Prelude.{◌≡◌, ◌≤◌, ◌++◌, OnOk, IfOk, pos};
+ghost use Rattle.std.specs.Prelude.{◌≡◌, ◌≤◌, ◌∷◌, [], ◌++◌, ℕ, List, OnOk, IfOk, pos};
 ghost use Rattle.std.specs.List.{AllByRecursion};
 ghost use Rattle.line_rules.specs.Inputs.{IsSmall};
+ghost use Rattle.fdb_tuple.specs.declared.tuple.Elem.TheVariants.{Bytes as BytesElem};
+ghost use Rattle.fdb_tuple.specs.Listed.{tuple_of};
+ghost use Rattle.fdb_tuple.specs.Spelling.{spelling};
 ghost use Rattle.generator.specs.Generated.{placed, instruction_key, gen_pairs, worker_pairs, busy_pairs};
 
 use crate::names::{busy_key, worker_prefix};
 use crate::worker::{main_script, worker_script};
-use fdb_tuple::{Elem, pack_element_into};
+use fdb_tuple::{Elem, pack_element, pack_element_into};
 use key_bytes::{Bytes, Pair, Pairs};
 use std::alloc::{AllocError, Global};
 
@@ -77,21 +80,36 @@ fn place(
 ) -> Result<(), AllocError>
     ensures { OnOk result (pairs.new ≡ pairs.old ++ placed prefix.now 0 script.now) }
 {
+    let begin = packed_prefix(alloc, prefix)?;
+    let mut scratch = Vec::new(alloc);
     for at in 0..script.len() {
         pairs.push(Pair {
-            key: instruction_key(alloc, prefix, at)?,
+            key: instruction_key(alloc, &mut scratch, &begin, at)?,
             value: script[at].copy()?,
         })?;
     }
     Ok(())
 }
 
-// The key of an instruction under a prefix.
-fn instruction_key(alloc: Global, prefix: &Bytes, place: usize) -> Result<Bytes, AllocError>
-    ensures { IfOk result (λ key. key ≡ instruction_key prefix.now place) }
+// What the keys under a prefix begin with.
+fn packed_prefix(alloc: Global, prefix: &Bytes) -> Result<Bytes, AllocError>
+    ensures { IfOk result (λ begin. begin ≡ spelling (tuple_of (BytesElem prefix.now ∷ []))) }
 {
-    let mut key = Vec::new(alloc);
-    pack_element_into(&mut key, &Elem::Bytes(prefix.copy()?))?;
-    pack_element_into(&mut key, &Elem::Int(place as i128))?;
-    Bytes::from_vec(key)
+    pack_element(alloc, &Elem::Bytes(prefix.copy()?))
+}
+
+// The key of an instruction under a prefix, which is packed already. It is packed in `scratch`.
+fn instruction_key(
+    alloc: Global,
+    scratch: &mut Vec<u8>,
+    begin: &Bytes,
+    place: usize,
+) -> Result<Bytes, AllocError>
+    ensures { IfOk result (λ key. (prefix : List ℕ) → begin.now ≡ spelling (tuple_of (BytesElem prefix ∷ []))
+        → key ≡ instruction_key prefix place) }
+{
+    scratch.clear();
+    scratch.extend_from_slice(begin.as_slice())?;
+    pack_element_into(scratch, &Elem::Int(place as i128))?;
+    Bytes::from_slice(alloc, scratch.as_slice())
 }

@@ -1,18 +1,25 @@
 //! Instructions, packed, one after the other.
 
 ghost use Rattle.std.specs.Prelude.{◌≡◌, ◌∷◌, [], ◌++◌, OnOk};
+ghost use Rattle.fdb_tuple.specs.Listed.{tuple_of};
+ghost use Rattle.fdb_tuple.specs.Spelling.{spelling};
 ghost use Rattle.generator.specs.Generated.{push, bare, packed_instruction};
 
-use fdb_tuple::{Elem, Text, pack_element, pack_element_into};
+use fdb_tuple::{Elem, Text, pack_element_into};
 use key_bytes::Bytes;
 use std::alloc::{AllocError, Global};
 use std::marker::Model;
+
+// What an instruction that pushes an element begins with: its name, packed.
+const PUSH: &[u8] = b"\x02PUSH\x00";
 
 // Packed instructions, in their order. Contracts see the list of them.
 #[derive(Debug, Drop)]
 pub(crate) struct Script {
     alloc: Global,
     packed: Vec<Bytes>,
+    // Where an instruction is packed: memory that is used again for the next one.
+    scratch: Vec<u8>,
 }
 
 impl Model for Script {
@@ -31,6 +38,7 @@ impl Script {
         Script {
             alloc,
             packed: Vec::new(alloc),
+            scratch: Vec::new(alloc),
         }
     }
 
@@ -46,8 +54,7 @@ impl Script {
         ensures { OnOk result (self.new ≡ self.old ++ packed_instruction (bare name.now) ∷ []) }
     {
         let name = Elem::Text(Text::from_str(self.alloc, name)?);
-        self.packed.push(pack_element(self.alloc, &name)?)?;
-        Ok(())
+        self.add(&[], &name)
     }
 
     // Adds the instruction that pushes a null.
@@ -84,11 +91,18 @@ impl Script {
     fn push(&mut self, element: &Elem) -> Result<(), AllocError>
         ensures { OnOk result (self.new ≡ self.old ++ packed_instruction (push element.now) ∷ []) }
     {
-        let name = Elem::Text(Text::from_str(self.alloc, "PUSH")?);
-        let mut packed = Vec::new(self.alloc);
-        pack_element_into(&mut packed, &name)?;
-        pack_element_into(&mut packed, element)?;
-        self.packed.push(Bytes::from_vec(packed)?)?;
+        self.add(PUSH, element)
+    }
+
+    // Adds an instruction: what is packed of it, and behind that its last element.
+    fn add(&mut self, begin: &[u8], element: &Elem) -> Result<(), AllocError>
+        ensures { OnOk result (self.new ≡ self.old ++ (begin.now ++ spelling (tuple_of (element.now ∷ []))) ∷ []) }
+    {
+        self.scratch.clear();
+        self.scratch.extend_from_slice(begin)?;
+        pack_element_into(&mut self.scratch, element)?;
+        let packed = Bytes::from_slice(self.alloc, self.scratch.as_slice())?;
+        self.packed.push(packed)?;
         Ok(())
     }
 }
