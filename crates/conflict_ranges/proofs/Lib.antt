@@ -1,5 +1,6 @@
 pub mod Between
 pub mod Changed
+pub mod Greatest
 pub mod Meeting
 pub mod Nexts
 pub mod Only

@@ -1,5 +1,5 @@
--- The ranges of a set: which keys they have, that they lie apart, and which of them is the first that is left.
-use Rattle.std.proofs.Common.{◌≡◌, ℕ, suc, ◌<◌, ◌≤◌, Bool, true, false, cond, not, ◌&&◌, ◌||◌, List, [], ◌∷◌, length, Option, Some, None, is_some, refl, sym, ap, subst, ◌∙◌, arith}
+-- The ranges of a set: which keys they have, and that they lie apart.
+use Rattle.std.proofs.Common.{◌≡◌, ℕ, suc, ◌<◌, ◌≤◌, Bool, true, false, cond, not, ◌&&◌, ◌||◌, List, [], ◌∷◌, length, Some, is_some, refl, sym, ap, subst, ◌∙◌, arith}
 use Rattle.std.proofs.lemmas.Bool.{false≢true}
 use Rattle.std.proofs.lemmas.List.Kept.{IsStrictlySortedBy-filter}
 use Rattle.std.proofs.lemmas.Map.Lookups.{exact_bytes}
@@ -244,36 +244,7 @@ length-ranges_of members =
     let edges = length-upper [] members.entries in
     omega (arith, ranges, edges)
 
--- ---- the first range that is left
-
-module _ (members : Edges Membership) (begin edge : List ℕ) (rising : IsRising members.entries)
-    (is : first (filter (key_lt begin) (edges_of members)) ≡ Some edge) where
-  left_from-next : left_from members begin
-      ≡ cond (held members begin).0 (range_from begin edge ∷ left_from members edge) (left_from members edge)
-  left_from-next = ap (ranges_from begin (held members begin)) (upper-first members.base members.entries begin edge rising is)
-
-  -- what lies up to the next edge is the first range that is left, or is passed
-  pub left_taken : (held members begin).0 ≡ true → left_from members begin ≡ range_from begin edge ∷ left_from members edge
-  left_taken is_in = left_from-next ∙ ap (λ t. cond t (range_from begin edge ∷ left_from members edge) (left_from members edge)) is_in
-
-  pub left_passed : (held members begin).0 ≡ false → left_from members begin ≡ left_from members edge
-  left_passed is_out = left_from-next ∙ ap (λ t. cond t (range_from begin edge ∷ left_from members edge) (left_from members edge)) is_out
-
-pub left_from-end : (members : Edges Membership) (begin : List ℕ) → first (filter (key_lt begin) (edges_of members)) ≡ None
-    → left_from members begin ≡ []
-left_from-end members begin none = by_upper (upper begin members.entries) refl
-  where
-    by_upper : (es : List (List ℕ × Membership)) → upper begin members.entries ≡ es → ranges_from begin (held members begin) es ≡ []
-    by_upper [] _ = refl
-    by_upper (e ∷ es) is =
-        absurd (none-some e.0 (sym none ∙ ap first (sym (keys_of-upper begin members.entries)) ∙ ap (λ es. first (keys_of es)) is))
-
 -- ---- the edges that are left
-
--- the edges from a key on, the key included
-abbrev pub edges_left : {X : Type 0} → Edges X → Option (List ℕ) → ℕ
-edges_left edges None = 0
-edges_left edges (Some begin) = suc (length (filter (key_lt begin) (edges_of edges)))
 
 pub fewer_edges : {X : Type 0} (edges : Edges X) (begin edge : List ℕ) → IsRising edges.entries
     → first (filter (key_lt begin) (edges_of edges)) ≡ Some edge

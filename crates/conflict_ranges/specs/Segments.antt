@@ -1,5 +1,5 @@
 -- Sets of keys: the ranges that lie between their edges.
-use Rattle.std.specs.Prelude.{◌≡◌, ◌≤◌, ℕ, length, true, false, if◌then◌else◌, List, [], ◌∷◌, Option, Some, None}
+use Rattle.std.specs.Prelude.{◌≡◌, ◌≤◌, ℕ, length, true, false, if◌then◌else◌, List, [], ◌∷◌}
 use Rattle.std.specs.List.{filter}
 use Rattle.std.specs.List.Sorted.{IsStrictlySortedBy}
 use Rattle.std.specs.Borrow.{Bor}
@@ -22,10 +22,6 @@ ranges_from begin membership (e ∷ es) =
 -- the ranges from a key on
 abbrev pub left_from : Edges Membership → List ℕ → List KeyRange
 left_from members begin = ranges_from begin (held members begin) (filter (λ e. key_lt begin e.0) members.entries)
-
-abbrev pub left_at : Edges Membership → Option (List ℕ) → List KeyRange
-left_at members None = []
-left_at members (Some begin) = left_from members begin
 
 -- the ranges of a set, from the lowest key on
 abbrev pub ranges_of : Edges Membership → List KeyRange

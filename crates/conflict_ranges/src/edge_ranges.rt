@@ -131,17 +131,7 @@ impl EdgeRanges {
     pub(crate) fn ranges(&self) -> EdgeRangesLeft<'_>
         ensures { result ≡ self.now }
     {
-        if self.is_unused() {
-            return self.no_ranges();
-        }
         EdgeRangesLeft::new(&self.members, &self.lowest)
-    }
-
-    // A loop over no range.
-    pub(crate) fn no_ranges(&self) -> EdgeRangesLeft<'_>
-        ensures { result ≡ [] }
-    {
-        EdgeRangesLeft::none(&self.members)
     }
 
     // How many ranges there are. It takes no memory, and walks over them.

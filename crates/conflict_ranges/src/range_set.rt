@@ -173,7 +173,7 @@ impl RangeSet {
         ensures { result ≡ self.now }
     {
         match &self.only {
-            Some(only) => RangesLeft::one(only, self.laid.no_ranges()),
+            Some(only) => RangesLeft::one(only),
             None => RangesLeft::of_edges(self.laid.ranges()),
         }
     }

@@ -11,34 +11,35 @@ use std::iter::FusedIterator;
 use std::marker::Model;
 
 /// The ranges that are left, in rising order, each as its begin and its end, for a loop over them. None is copied, and
-/// there is one search for each edge that is passed; none where the set keeps its range in place. Contracts see the list of
-/// these ranges.
+/// there is one search for all of them; none where the set keeps its range in place. Contracts see the list of these ranges.
 #[derive(Drop)]
 pub struct RangesLeft<'a> {
-    // The range in place of its set, until it is taken; then, or where there is none, those between the edges are left.
+    // The range in place of its set, until it is taken.
     only: Option<&'a KeyRange>,
-    laid: EdgeRangesLeft<'a>,
+    // Those between the edges, where the set keeps none in place.
+    laid: Option<EdgeRangesLeft<'a>>,
 }
 
 impl<'a> Model for RangesLeft<'a> {
     ghost use Rattle.std.specs.Prelude.{List};
-    ghost use Rattle.std.specs.Option.{option_map};
+    ghost use Rattle.std.specs.Prelude.{[]};
+    ghost use Rattle.std.specs.Option.{option_map, unwrap_or};
     ghost use Rattle.key_bytes.specs.declared.range.KeyRange.{KeyRange};
     ghost use Rattle.conflict_ranges.specs.Only.{only_and};
 
     ghost Value = { List KeyRange };
 
-    ghost view = { λ left. only_and (option_map (λ range. range.now) left.only) left.laid };
+    ghost view = { λ left. only_and (option_map (λ range. range.now) left.only) (unwrap_or left.laid []) };
 }
 
 impl<'a> RangesLeft<'a> {
-    // The range in place of its set, and then what is left between the edges.
-    pub(crate) fn one(only: &'a KeyRange, laid: EdgeRangesLeft<'a>) -> RangesLeft<'a>
-        ensures { result ≡ only.now ∷ laid.entry }
+    // The range in place of its set.
+    pub(crate) fn one(only: &'a KeyRange) -> RangesLeft<'a>
+        ensures { result ≡ only.now ∷ [] }
     {
         RangesLeft {
             only: Some(only),
-            laid,
+            laid: None,
         }
     }
 
@@ -46,7 +47,10 @@ impl<'a> RangesLeft<'a> {
     pub(crate) fn of_edges(laid: EdgeRangesLeft<'a>) -> RangesLeft<'a>
         ensures { result ≡ laid.entry }
     {
-        RangesLeft { only: None, laid }
+        RangesLeft {
+            only: None,
+            laid: Some(laid),
+        }
     }
 }
 
@@ -61,7 +65,10 @@ impl<'a> Iterator for RangesLeft<'a> {
     fn next(&mut self) -> Option<(&'a Key, &'a Key)> {
         match self.only.take() {
             Some(only) => Some((&only.begin, &only.end)),
-            None => self.laid.next(),
+            None => match &mut self.laid {
+                Some(laid) => laid.next(),
+                None => None,
+            },
         }
     }
 }

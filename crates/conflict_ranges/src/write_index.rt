@@ -8,7 +8,7 @@ ghost use Rattle.conflict_ranges.specs.Ends.{HasRoom};
 ghost use Rattle.conflict_ranges.specs.Writes.{newest_at};
 
 use crate::range_set::RangeSet;
-use crate::splitting::{around_within, split_both};
+use crate::splitting::split_both;
 use edge_map::{Change, EdgeMap};
 use key_bytes::{Key, KeyRange};
 use std::alloc::{AllocError, Global};
@@ -54,8 +54,8 @@ impl WriteIndex {
         }
     }
 
-    /// The newest version that a key of the range has; 0 where the range is empty. It takes no memory, and one search for
-    /// each edge in the range, with at most two for the begin.
+    /// The newest version that a key of the range has; 0 where the range is empty. It takes no memory, two searches, and one step
+    /// for each edge in the range.
     pub fn newest_in(&self, range: &KeyRange) -> u64
         ensures above { (key : List ℕ) → has range.now key ≡ true → newest_at self.now key ≤ result }
         ensures reached { (result ≡ 0)
@@ -74,16 +74,11 @@ impl WriteIndex {
             return 0;
         }
         self.versions.shows_rising();
-        let mut from = begin;
-        let mut newest: u64 = 0;
-        loop {
-            let (version, next) = around_within(&self.versions, from, end);
+        let mut newest = *self.versions.at(begin);
+        for (_, version) in self.versions.edges_between(begin, end) {
             newest = newest.max(*version);
-            let Some(edge) = next else {
-                return newest;
-            };
-            from = edge;
         }
+        newest
     }
 
     /// Makes the ends of the ranges edges, so that `install` needs no memory. Each key keeps its version, after a refusal

@@ -191,7 +191,7 @@ module _ {X : Type 0} where
 -- ---- an edge itself
 
 module _ {X : Type 0} where
-  held_past : (d : X) (es : List (List ℕ × X)) (k : List ℕ) → IsBelow k es → held_from d es k ≡ d
+  pub held_past : (d : X) (es : List (List ℕ × X)) (k : List ℕ) → IsBelow k es → held_from d es k ≡ d
   held_past d [] k below = refl
   held_past d (e ∷ es) k below = ap (λ t. cond (not t) (held_from e.1 es k) d) below.0
 

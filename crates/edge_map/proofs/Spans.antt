@@ -57,6 +57,16 @@ module _ {X : Type 0} (base : X) (levels : List X) where
   keys_of-laid_out [] = refl
   keys_of-laid_out (e ∷ es) = ap (λ ks. e.0 ∷ ks) (keys_of-laid_out es)
 
+  -- a part of the places is that of the edges
+  pub laid_out-filter : (p : List ℕ → Bool) (es : Places)
+      → laid_out base levels (filter (λ e. p e.0) es) ≡ filter (λ e. p e.0) (laid_out base levels es)
+  laid_out-filter p [] = refl
+  laid_out-filter p (e ∷ es) = elim (p e.0) as (λ t. laid_out base levels (cond t (e ∷ filter (λ e. p e.0) es) (filter (λ e. p e.0) es))
+      ≡ cond t ((e.0, get_or levels e.1 base) ∷ filter (λ e. p e.0) (laid_out base levels es)) (filter (λ e. p e.0) (laid_out base levels es))) [
+        | true ↦ ap (λ rest. (e.0, get_or levels e.1 base) ∷ rest) (laid_out-filter p es)
+        | false ↦ laid_out-filter p es
+      ]
+
   pub rising-laid_out : (es : Places) → IsRising es → IsRising (laid_out base levels es)
   rising-laid_out es rising = rw (keys_of-laid_out es) rising
 

@@ -9,6 +9,7 @@ ghost use Rattle.key_bytes.specs.Keys.{key_cmp, key_lt, within};
 ghost use Rattle.key_map.specs.Ends.{first, last};
 
 use crate::change::Change;
+use crate::edges_left::EdgesLeft;
 use crate::levels::{change_between, pop_last};
 use crate::spread::Spread;
 use key_bytes::{Bytes, Key};
@@ -123,6 +124,24 @@ impl<T> EdgeMap<T> {
         } else {
             (self.at(key), Some(edge))
         }
+    }
+
+    /// The edges from `begin` on that are less than `end`, each with what it has, in the order of keys, for a loop over them:
+    /// one search for all of them. It takes no memory.
+    pub fn edges_between(&self, begin: &Key, end: &Key) -> EdgesLeft<'_, T>
+        requires { IsTrue (key_lt begin.now end.now) }
+        ensures { result ≡ filter (λ e. within begin.now end.now e.0) self.now.entries }
+    {
+        EdgesLeft::new(&self.base, &self.levels, self.places.range(begin..end))
+    }
+
+    /// The edges above a key, each with what it has, in the order of keys, for a loop over them: one search for all of them. It
+    /// takes no memory.
+    pub fn edges_above(&self, key: &Key) -> EdgesLeft<'_, T>
+        ensures { result ≡ filter (λ e. key_lt key.now e.0) self.now.entries }
+    {
+        let above = (Bound::Excluded(key), Bound::Unbounded);
+        EdgesLeft::new(&self.base, &self.levels, self.places.range(above))
     }
 
     // What a new edge at a key gets; None where the key is an edge.

@@ -8,11 +8,13 @@
 
 mod change;
 mod edge_map;
+mod edges_left;
 mod levels;
 mod spread;
 
 pub use change::Change;
 pub use edge_map::EdgeMap;
+pub use edges_left::EdgesLeft;
 pub use spread::Spread;
 
 #[cfg(test)]

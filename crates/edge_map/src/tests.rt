@@ -92,6 +92,36 @@ fn raises_ranges(rt: HostRuntime) -> Result<(), Fail> {
     Ok(())
 }
 
+// The edges of a walk as text: each with the lowest byte of what it has.
+fn walked(alloc: Global, edges: EdgesLeft<'_, u64>) -> Result<Bytes, AllocError> {
+    let mut text = Bytes::new(alloc);
+    for (edge, number) in edges {
+        text.extend(edge.as_slice())?;
+        text.extend(&number.to_be_bytes()[7..])?;
+    }
+    Ok(text)
+}
+
+// The edges from `ab` up to `d`, and those above `b`.
+fn walks(alloc: Global) -> Result<(Bytes, Bytes), AllocError> {
+    let map = raised(alloc)?;
+    let (begin, end) = (key_of(alloc, b"ab")?, key_of(alloc, b"d")?);
+    if !begin.cmp(&end).is_lt() {
+        return Err(AllocError);
+    }
+    let between = walked(alloc, map.edges_between(&begin, &end))?;
+    let above = walked(alloc, map.edges_above(&key_of(alloc, b"b")?))?;
+    Ok((between, above))
+}
+
+#[test]
+fn walks_over_edges(rt: HostRuntime) -> Result<(), Fail> {
+    let (between, above) = walks(rt.alloc())?;
+    assert_eq!(rt; between.as_slice(), b"b\x05c\x05".as_slice());
+    assert_eq!(rt; above.as_slice(), b"c\x05d\x00".as_slice());
+    Ok(())
+}
+
 // Whether a key was no edge before it is made one twice.
 fn split_twice(alloc: Global, text: &[u8]) -> Result<[bool; 2], AllocError> {
     let mut map = raised(alloc)?;

@@ -1,5 +1,6 @@
 -- The steps of walks: what is taken, followed by what is left, stays the whole.
-use Rattle.std.proofs.Common.{◌≡◌, ℕ, zero, suc, ◌<◌, ◌-◌, Bool, List, [], ◌∷◌, ◌++◌, length, take, slice_get, Some, refl, sym, ap, ◌∙◌, append_assoc, arith, length-append}
+use Rattle.std.proofs.Common.{◌≡◌, ℕ, zero, suc, ◌<◌, ◌≤◌, ◌-◌, Bool, List, [], ◌∷◌, ◌++◌, length, take, slice_get, Some, refl, sym, ap, ◌∙◌, append_assoc, arith, length-append}
+use Rattle.std.proofs.lemmas.List.{append-nil, take_all}
 use Rattle.std.specs.Map.{keys_of}
 use Rattle.key_map.specs.Ends.{first}
 use Rattle.database_rules.specs.Databases.{Database}
@@ -45,6 +46,14 @@ module _ {X : Type 0} where
   taken_full zero ps rest all whole some full = absurd (omega arith)
   taken_full (suc n) ps rest all whole some full =
       sym (take_front ps rest) ∙ (λ i. take (sym full i) (whole i))
+
+-- all are taken, and no more than the limit says
+module _ {X : Type 0} where
+  pub taken_all : (limit : ℕ) (ps rest all : List X) → ps ++ rest ≡ all → rest ≡ [] → (0 < limit → length ps ≤ limit) → ps ≡ cut limit all
+  taken_all zero ps rest all whole none short = sym (append-nil ps) ∙ ap (λ more. ps ++ more) (sym none) ∙ whole
+  taken_all (suc n) ps rest all whole none short =
+      sym (take_all (suc n) ps (short (omega arith)))
+      ∙ ap (take (suc n)) (sym (append-nil ps) ∙ ap (λ more. ps ++ more) (sym none) ∙ whole)
 
 -- ---- one step of a walk from a key
 

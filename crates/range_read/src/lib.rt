@@ -1,7 +1,8 @@
 //! Reads of more than one key: key selectors, slices of a range, and pages of a slice, over any ordered view of a
 //! database.
 //!
-//! A view answers the first pair from a key on, and the last pair below a key (`OrderedView`). From these two alone
+//! A view answers the first pair from a key on, the last pair below a key, and the pairs that it comes to at once at the near
+//! end of a range (`OrderedView`). From these alone
 //! `resolve` answers the key that a selector means (`select`), `all` the pairs of a range, in order or reversed, up to a
 //! limit (`slice`; both are words of `database_rules`), and `page` the first so many of these, and whether more follow
 //! (`page_size`, in `specs/Pages.antt`). Where more follow, the slice is the page followed by the
@@ -18,6 +19,7 @@ mod mode;
 mod paged;
 mod reading;
 mod resolving;
+mod taken;
 mod view;
 mod walking;
 
@@ -27,7 +29,9 @@ pub use mode::lacks_limit;
 pub use paged::Page;
 pub use reading::{all, page};
 pub use resolving::resolve;
+pub use taken::Taken;
 pub use view::OrderedView;
+pub use walking::is_full;
 
 #[cfg(test)]
 mod tests;

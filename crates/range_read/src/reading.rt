@@ -14,7 +14,7 @@ use crate::view::OrderedView;
 use crate::walking::{first_inside, walk};
 use database_rules::Mode;
 use key_bytes::{KeyRange, Pairs};
-use std::alloc::{AllocError, Global};
+use std::alloc::AllocError;
 
 // Refuses a mode that wants a limit which is not there. It takes no memory.
 fn check(mode: Mode, limit: u32) -> Result<(), RangeFault>
@@ -49,7 +49,6 @@ fn goes_on<V: OrderedView>(
 /// none where the range's begin isn't less than its end. NoLimit exactly where the mode is `Exact` and the limit is 0;
 /// else the mode changes nothing. NoMemory where memory runs out.
 pub fn all<V: OrderedView>(
-    alloc: Global,
     view: &V,
     range: &KeyRange,
     limit: u32,
@@ -62,7 +61,7 @@ pub fn all<V: OrderedView>(
     ensures refused { IfErr result (IsRefused mode limit) }
 {
     check(mode, limit)?;
-    let taken = walk(alloc, view, range, limit, reverse)?;
+    let taken = walk(view, range, limit, reverse)?;
     Ok(taken.pairs)
 }
 
@@ -73,7 +72,6 @@ pub fn all<V: OrderedView>(
 /// the limit less so many pairs. Turns are counted from 1. NoLimit exactly where the mode is `Exact` and the limit is 0.
 /// NoMemory where memory runs out.
 pub fn page<V: OrderedView>(
-    alloc: Global,
     view: &V,
     range: &KeyRange,
     limit: u32,
@@ -95,7 +93,7 @@ pub fn page<V: OrderedView>(
 {
     check(mode, limit)?;
     let size = size_of_page(mode, limit, turn);
-    let taken = walk(alloc, view, range, size, reverse)?;
+    let taken = walk(view, range, size, reverse)?;
     let more = goes_on(view, &taken.left, limit, size, reverse)?;
     Ok(Page {
         pairs: taken.pairs,

@@ -47,6 +47,10 @@ impl OrderedView for Seen {
     fn prev(&self, key: &Key) -> Result<Option<Pair>, AllocError> {
         copied(self.pairs.prev(key))
     }
+
+    fn run(&self, range: &KeyRange, _limit: u32, _down: bool) -> Result<Taken, AllocError> {
+        Taken::none(range)
+    }
 }
 
 // A caller, whose proof uses the contracts alone: the slice, read page by page.
@@ -66,7 +70,7 @@ fn by_pages<V: OrderedView>(
     let mut rest = limit;
     let mut turn = 1u32;
     'pages: loop {
-        let next = page(alloc, view, &left, rest, reverse, mode, turn)?;
+        let next = page(view, &left, rest, reverse, mode, turn)?;
         append(&mut pairs, &next.pairs)?;
         if !next.more {
             return Ok(pairs);
@@ -245,7 +249,7 @@ const SLICES: &[Slice] = &[
 fn is_slice(alloc: Global, view: &Seen, row: Slice) -> Result<bool, RangeFault> {
     let (begin, end, limit, reverse, mode, wanted) = row;
     let range = range_of(alloc, begin, end)?;
-    let found = all(alloc, view, &range, limit, reverse, mode)?;
+    let found = all(view, &range, limit, reverse, mode)?;
     Ok(shown(alloc, &found)?.as_slice() == wanted)
 }
 
@@ -264,7 +268,7 @@ fn first_other_slice(alloc: Global) -> Result<Option<usize>, RangeFault> {
 fn refusal(alloc: Global) -> Result<Option<RangeFault>, AllocError> {
     let view = seen_of(alloc, &[b"b"])?;
     let range = range_of(alloc, b"b", b"e")?;
-    Ok(all(alloc, &view, &range, 0, false, Mode::Exact).err())
+    Ok(all(&view, &range, 0, false, Mode::Exact).err())
 }
 
 #[test]
@@ -291,7 +295,7 @@ const SIZES: &[Size] = &[
 fn is_page(alloc: Global, view: &Seen, row: Size) -> Result<bool, RangeFault> {
     let (limit, mode, turn, size, more) = row;
     let range = range_of(alloc, &[], &[255])?;
-    let found = page(alloc, view, &range, limit, false, mode, turn.max(1))?;
+    let found = page(view, &range, limit, false, mode, turn.max(1))?;
     Ok(found.pairs.len() == size && found.more == more)
 }
 
@@ -299,7 +303,7 @@ fn is_page(alloc: Global, view: &Seen, row: Size) -> Result<bool, RangeFault> {
 fn first_other_page(alloc: Global) -> Result<Option<usize>, RangeFault> {
     let view = single_bytes(alloc, 20)?;
     for (place, row) in SIZES.iter().enumerate() {
-        if !is_page(alloc, &view, *row)? {
+        if !is_page(&view, *row)? {
             return Ok(Some(place));
         }
     }
@@ -316,7 +320,7 @@ fn reads_pages(rt: HostRuntime) -> Result<(), Fail> {
 fn joins(alloc: Global, view: &Seen, limit: u32, reverse: bool) -> Result<bool, RangeFault> {
     let range = range_of(alloc, &[1], &[255])?;
     let joined = by_pages(alloc, view, &range, limit, reverse, Mode::Small)?;
-    let whole = all(alloc, view, &range, limit, reverse, Mode::WantAll)?;
+    let whole = all(view, &range, limit, reverse, Mode::WantAll)?;
     Ok(shown(alloc, &joined)? == shown(alloc, &whole)?)
 }
 

@@ -1,6 +1,6 @@
 //! Ordered views of a database.
 
-ghost use Rattle.std.specs.Prelude.{◌≡◌, IfOk};
+ghost use Rattle.std.specs.Prelude.{◌≡◌, ◌<◌, ◌≤◌, ◌++◌, length, IfOk};
 ghost use Rattle.std.specs.FinMap as finite;
 ghost use Rattle.std.specs.List.{filter};
 ghost use Rattle.std.specs.Option.{option_map};
@@ -8,8 +8,10 @@ ghost use Rattle.key_bytes.specs.Entries.{entry_of};
 ghost use Rattle.key_bytes.specs.Keys.{key_le, key_lt};
 ghost use Rattle.key_map.specs.Ends.{first, last};
 ghost use Rattle.database_rules.specs.Databases.{Database};
+ghost use Rattle.database_rules.specs.Slices.{span};
 
-use key_bytes::{Key, Pair};
+use crate::taken::Taken;
+use key_bytes::{Key, KeyRange, Pair};
 use std::alloc::AllocError;
 
 /// What can be asked of a database for reads of more than one key: the neighbours of a key. It answers the same each
@@ -27,4 +29,11 @@ pub trait OrderedView {
     fn prev(&self, key: &Key) -> Result<Option<Pair>, AllocError>
         ensures { IfOk result (λ pair. option_map entry_of pair
             ≡ last (filter (λ e. key_lt e.0 key.now) (finite.entries (map self.now)))) };
+
+    /// Some first pairs of a range, copied, as a walk through it meets them, up to a limit, and what is left of the range
+    /// behind them; a limit of 0 is none. They are those that the view comes to without a search for each, which may be none.
+    fn run(&self, range: &KeyRange, limit: u32, down: bool) -> Result<Taken, AllocError>
+        ensures whole { IfOk result (λ taken. taken.pairs ++ span (map self.now) taken.left.begin taken.left.end down
+            ≡ span (map self.now) range.now.begin range.now.end down) }
+        ensures short { IfOk result (λ taken. 0 < limit → length taken.pairs ≤ limit) };
 }

@@ -7,16 +7,10 @@ ghost use Rattle.key_map.specs.Ends.{first};
 ghost use Rattle.database_rules.specs.Slices.{slice, span};
 ghost use Rattle.range_read.specs.Walks.{begin_behind, behind, end_behind, near, onward};
 
+use crate::taken::Taken;
 use crate::view::OrderedView;
-use key_bytes::{Key, KeyRange, Pair, Pairs};
-use std::alloc::{AllocError, Global};
-
-// What a walk through a range took, and what it left of the range.
-#[derive(Drop)]
-pub(crate) struct Taken {
-    pub(crate) pairs: Pairs,
-    pub(crate) left: KeyRange,
-}
+use key_bytes::{Key, KeyRange, Pair};
+use std::alloc::AllocError;
 
 // The first pair that a walk from a key meets.
 pub(crate) fn step<V: OrderedView>(
@@ -85,17 +79,17 @@ fn left_behind(range: KeyRange, key: &Key, down: bool) -> Result<KeyRange, Alloc
     }
 }
 
-// Whether a limit is reached; 0 is no limit.
-fn is_full(limit: u32, taken: usize) -> bool
+/// Whether so many pairs reach a limit; 0 is no limit.
+pub fn is_full(limit: u32, taken: usize) -> bool
     ensures full { result ≡ true → (0 < limit) × (limit ≤ taken) }
     ensures room { result ≡ false → 0 < limit → taken < limit }
 {
     limit != 0 && limit as usize <= taken
 }
 
-// Takes the first pairs of a range, up to a limit, and says what is left of the range behind them.
+// Takes the first pairs of a range, up to a limit, and says what is left of the range behind them: those that the view comes
+// to at once, and one after the other those behind them.
 pub(crate) fn walk<V: OrderedView>(
-    alloc: Global,
     view: &V,
     range: &KeyRange,
     limit: u32,
@@ -106,11 +100,9 @@ pub(crate) fn walk<V: OrderedView>(
     ensures whole { IfOk result (λ taken. taken.pairs ++ span (V.map view.now) taken.left.begin taken.left.end down
         ≡ span (V.map view.now) range.now.begin range.now.end down) }
 {
-    let mut pairs = Pairs::new(alloc);
-    let mut left = KeyRange {
-        begin: range.begin.copy()?,
-        end: range.end.copy()?,
-    };
+    let run = view.run(range, limit, down)?;
+    let mut pairs = run.pairs;
+    let mut left = run.left;
     while !is_full(limit, pairs.len()) {
         let Some(pair) = first_inside(view, &left, down)? else {
             return Ok(Taken { pairs, left });

@@ -5,3 +5,4 @@ pub mod Passed
 pub mod Segments
 pub mod Meetings
 pub mod Decided
+pub mod Runs

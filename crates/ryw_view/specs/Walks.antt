@@ -1,7 +1,7 @@
 -- What a walk along the keys of a database meets first, up or down.
 use Rattle.std.specs.Prelude.{◌≡◌, ℕ, Bool, true, false, if◌then◌else◌, List, Option, Some, None}
 use Rattle.std.specs.FinMap as finite
-use Rattle.key_bytes.specs.Keys.{key_le, key_lt}
+use Rattle.key_bytes.specs.Keys.{after, key_le, key_lt}
 use Rattle.database_rules.specs.Databases.{Database}
 use Rattle.range_read.specs.Walks.{is_onward}
 
@@ -33,3 +33,8 @@ IsFirstMet database from down edge (Some pair) = MeetsFirst database from down p
 abbrev pub inside_of : Option (List ℕ) → Bool → Option (List ℕ × List ℕ) → Option (List ℕ × List ℕ)
 inside_of edge down None = None
 inside_of edge down (Some pair) = if is_inside edge down pair.0 then Some pair else None
+
+-- where a walk up goes on that began at a key and met this one last, or none
+abbrev pub from_of : List ℕ → Option (List ℕ) → List ℕ
+from_of begin None = begin
+from_of begin (Some key) = after key

@@ -1,21 +1,22 @@
 //! The view for a walk that begins at a key: a step among the keys around that one which no mutation touches takes one
 //! search of the store alone.
 
-ghost use Rattle.std.specs.Prelude.{◌≡◌, ℕ, List, true, false, IfOk, IfSome, option_copied, option_map};
+ghost use Rattle.std.specs.Prelude.{◌≡◌, ◌<◌, ◌≤◌, ◌++◌, ℕ, List, true, false, length, IfOk, IfSome, option_copied, option_map};
 ghost use Rattle.std.specs.Map.Iter.{deref_pair};
 ghost use Rattle.std.specs.Option.{ForSome};
 ghost use Rattle.key_bytes.specs.Keys.{key_lt};
+ghost use Rattle.database_rules.specs.Slices.{span};
 ghost use Rattle.database_rules.specs.States.{seen};
 ghost use Rattle.version_store.specs.Versions.{at};
 ghost use Rattle.ryw_view.specs.Segments.{AreBare};
 ghost use Rattle.ryw_view.specs.Views.{seen_of};
-ghost use Rattle.ryw_view.specs.Walks.{is_inside, MeetsFirst};
+ghost use Rattle.ryw_view.specs.Walks.{is_inside, from_of, MeetsFirst};
 
 use crate::stored::is_inside;
 use crate::view::View;
-use crate::walking::copied;
-use key_bytes::{Bytes, Key, Pair};
-use range_read::OrderedView;
+use crate::walking::{copied, pair_of};
+use key_bytes::{Bytes, Key, KeyRange, Pair, Pairs};
+use range_read::{OrderedView, Taken, is_full};
 use std::alloc::AllocError;
 use write_map::KeyState;
 
@@ -49,6 +50,34 @@ fn is_up_to(key: &Key, edge: Option<&Key>) -> bool
     match edge {
         None => true,
         Some(edge) => !edge.cmp(key).is_lt(),
+    }
+}
+
+// A key up to which keys are below an end and in the segment up to an edge: the nearer one of the two.
+fn nearer<'b>(end: &'b Key, edge: Option<&'b Key>) -> &'b Key
+    ensures { (q : List ℕ) → key_lt q result.now ≡ true
+        → (key_lt q end.now ≡ true) × (is_inside (option_copied edge.entry) false q ≡ true) }
+{
+    match edge {
+        None => end,
+        Some(edge) => { if edge.cmp(end).is_lt() { edge } else { end } }
+    }
+}
+
+// Whether a walk stops before a key: so many pairs reach the limit, or the key isn't below the one up to which it goes.
+fn stops_before(limit: u32, taken: usize, key: &Key, until: &Key) -> bool
+    ensures { result ≡ false → (0 < limit → taken < limit) × (key_lt key.now until.now ≡ true) }
+{
+    is_full(limit, taken) || !key.cmp(until).is_lt()
+}
+
+// Where a walk goes on that began at a key, and met this one last.
+fn begin_behind(begin: &Key, last: Option<&Key>) -> Result<Key, AllocError>
+    ensures { IfOk result (λ from. from ≡ from_of begin.now (option_copied last.entry)) }
+{
+    match last {
+        Some(key) => key.after(),
+        None => begin.copy(),
     }
 }
 
@@ -131,6 +160,42 @@ impl<'a> NearView<'a> {
         }
     }
 
+    // Whether a key isn't below those that it remembers. It takes no memory.
+    fn remembers(&self, key: &Key) -> bool
+        ensures { result ≡ true → AreBare self.now.view.edits.now.mutations key.now false self.now.high }
+    {
+        match &self.low {
+            Some(low) => is_inside(key, Some(low), true),
+            None => false,
+        }
+    }
+
+    // The remembered pairs at the begin of a range that begins with a remembered key: by one search of the store, and one walk
+    // behind it.
+    fn run_up(&self, range: &KeyRange, limit: u32) -> Result<Taken, AllocError>
+        requires { AreBare self.now.view.edits.now.mutations range.now.begin false self.now.high }
+        ensures whole { IfOk result (λ taken. taken.pairs ++ span (seen_of self.now.view) taken.left.begin taken.left.end false
+            ≡ span (seen_of self.now.view) range.now.begin range.now.end false) }
+        ensures short { IfOk result (λ taken. 0 < limit → length taken.pairs ≤ limit) }
+    {
+        let until = nearer(&range.end, self.high.as_ref());
+        let mut pairs = Pairs::new(range.begin.allocator());
+        let mut last = None;
+        for (key, value) in self.view.stored_from(&range.begin) {
+            if stops_before(limit, pairs.len(), key, until) {
+                break;
+            }
+            pairs.push(pair_of(key, value)?)?;
+            last = Some(key);
+        }
+        let begin = begin_behind(&range.begin, last)?;
+        let end = range.end.copy()?;
+        Ok(Taken {
+            pairs,
+            left: KeyRange { begin, end },
+        })
+    }
+
     // The last pair below a key, where the keys below it are remembered, and that of the pair is. It takes no memory.
     fn prev_near(&self, key: &Key) -> Option<(&'a Key, &'a Bytes)>
         ensures { IfSome (option_map deref_pair result) (MeetsFirst (seen_of self.now.view) key.now true) }
@@ -161,5 +226,12 @@ impl<'a> OrderedView for NearView<'a> {
             Some(pair) => copied(Some(pair)),
             None => self.view.prev(key),
         }
+    }
+
+    fn run(&self, range: &KeyRange, limit: u32, down: bool) -> Result<Taken, AllocError> {
+        if down || !self.remembers(&range.begin) {
+            return Taken::none(range);
+        }
+        self.run_up(range, limit)
     }
 }

@@ -2,12 +2,15 @@
 
 ghost use Rattle.std.specs.Prelude.{◌≡◌, true, false, None, option_copied, option_map};
 ghost use Rattle.std.specs.FinMap as finite;
+ghost use Rattle.std.specs.List.{filter};
 ghost use Rattle.std.specs.Map.Iter.{deref_pair};
+ghost use Rattle.key_bytes.specs.Keys.{key_le};
 ghost use Rattle.ryw_view.specs.Views.{stored_of};
 ghost use Rattle.ryw_view.specs.Walks.{inside_of, is_inside, IsFirstMet};
 
 use crate::view::View;
 use key_bytes::{Bytes, Key};
+use version_store::PairsLeft;
 
 impl<'a> View<'a> {
     /// The value that is stored under a key, if there is one. It takes no memory.
@@ -17,6 +20,17 @@ impl<'a> View<'a> {
         let store = self.store;
         match store.get_at(key, self.version) {
             Ok(value) => value,
+            Err(_) => unreachable!(),
+        }
+    }
+
+    // The stored pairs from a key on, for a loop over them: one search of the store. It takes no memory.
+    pub(crate) fn stored_from(&self, from: &Key) -> PairsLeft<'a>
+        ensures { result ≡ filter (λ e. key_le from.now e.0) (finite.entries (stored_of self.now)) }
+    {
+        let store = self.store;
+        match store.pairs_from(from, self.version) {
+            Ok(left) => left,
             Err(_) => unreachable!(),
         }
     }

@@ -12,10 +12,20 @@ ghost use Rattle.ryw_view.specs.Views.{seen_of};
 ghost use Rattle.ryw_view.specs.Walks.{IsFirstMet};
 
 use crate::view::View;
-use key_bytes::{Bytes, Key, Pair};
-use range_read::OrderedView;
+use key_bytes::{Bytes, Key, KeyRange, Pair};
+use range_read::{OrderedView, Taken};
 use std::alloc::AllocError;
 use write_map::KeyState;
+
+// A pair, of copies of this key and this value.
+pub(crate) fn pair_of(key: &Key, value: &Bytes) -> Result<Pair, AllocError>
+    ensures { IfOk result (λ pair. entry_of pair ≡ (key.now, value.now)) }
+{
+    Ok(Pair {
+        key: key.copy()?,
+        value: value.copy()?,
+    })
+}
 
 // A copy of a pair.
 pub(crate) fn copied(found: Option<(&Key, &Bytes)>) -> Result<Option<Pair>, AllocError>
@@ -23,10 +33,7 @@ pub(crate) fn copied(found: Option<(&Key, &Bytes)>) -> Result<Option<Pair>, Allo
 {
     match found {
         None => Ok(None),
-        Some((key, value)) => Ok(Some(Pair {
-            key: key.copy()?,
-            value: value.copy()?,
-        })),
+        Some((key, value)) => Ok(Some(pair_of(key, value)?)),
     }
 }
 
@@ -103,5 +110,9 @@ impl<'a> OrderedView for View<'a> {
             until = edge;
         }
         copied(self.last_stored(until, None))
+    }
+
+    fn run(&self, range: &KeyRange, _limit: u32, _down: bool) -> Result<Taken, AllocError> {
+        Taken::none(range)
     }
 }

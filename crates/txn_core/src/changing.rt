@@ -14,6 +14,7 @@ ghost use Rattle.ryw_view.specs.Views.{stored_of};
 ghost use Rattle.version_store.specs.Changed.{changed, is_above};
 ghost use Rattle.version_store.specs.Versions.{at, last_of};
 ghost use Rattle.txn_core.specs.Changing.{LeadUpTo};
+ghost use Rattle.write_map.specs.Answers.{IsStateUnder};
 
 use crate::txn::Txn;
 use key_bytes::{Bytes, Key};
@@ -51,25 +52,45 @@ fn clear_stored(
     Ok(())
 }
 
-// Adds the changes of a segment.
+// Adds the changes of a segment whose keys have this value, or none.
+fn add_decided(
+    changes: &mut Changes,
+    view: &View<'_>,
+    begin: &Key,
+    value: Option<&[u8]>,
+    edge: Option<&Key>,
+) -> Result<(), AllocError>
+    requires state { state_under view.now.edits.now.mutations begin.now ≡ Decided (option_copied value) }
+    requires segment { IsSegment view.now.edits.now.mutations begin.now begin.now false (option_copied edge) }
+    requires before { LeadUpTo view.now.edits.now.mutations (stored_of view.now) (Some begin.now) changes.old }
+    ensures { OnOk result (LeadUpTo view.now.edits.now.mutations (stored_of view.now) (option_copied edge.entry) changes.new) }
+{
+    match value {
+        None => clear_stored(changes, view, begin, edge),
+        Some(value) => {
+            let value = Bytes::from_slice(begin.allocator(), value)?;
+            push(changes, begin, Some(value))
+        }
+    }
+}
+
+// Adds the changes of a segment whose keys are in this state.
 fn add_segment(
     changes: &mut Changes,
     view: &View<'_>,
     begin: &Key,
+    state: KeyState<'_>,
     edge: Option<&Key>,
 ) -> Result<(), AllocError>
+    requires state { IsStateUnder view.now.edits.now.mutations begin.now state }
     requires segment { IsSegment view.now.edits.now.mutations begin.now begin.now false (option_copied edge) }
     requires readable { covers (unreadable view.now.edits.now.mutations) begin.now ≡ false }
     requires before { LeadUpTo view.now.edits.now.mutations (stored_of view.now) (Some begin.now) changes.old }
     ensures { OnOk result (LeadUpTo view.now.edits.now.mutations (stored_of view.now) (option_copied edge.entry) changes.new) }
 {
-    match view.edits.at(begin) {
+    match state {
         KeyState::Unmodified => Ok(()),
-        KeyState::Decided(None) => clear_stored(changes, view, begin, edge),
-        KeyState::Decided(Some(value)) => {
-            let value = Bytes::from_slice(begin.allocator(), value)?;
-            push(changes, begin, Some(value))
-        }
+        KeyState::Decided(value) => add_decided(changes, view, begin, value, edge),
         KeyState::Depends(edits) => {
             let value = applied(begin.allocator(), edits.as_slice(), view.stored(begin))?;
             push(changes, begin, value)
@@ -88,12 +109,14 @@ fn changes_from(view: &View<'_>, least: &Key) -> Result<Changes, AllocError>
 {
     let mut changes = Changes::new(least.allocator());
     let mut from = least;
-    while let Some(edge) = view.edits.next_edge(from) {
-        add_segment(&mut changes, view, from, Some(edge))?;
+    loop {
+        let (state, edge) = view.edits.around(from);
+        add_segment(&mut changes, view, from, state, edge)?;
+        let Some(edge) = edge else {
+            return Ok(changes);
+        };
         from = edge;
     }
-    add_segment(&mut changes, view, from, None)?;
-    Ok(changes)
 }
 
 impl Txn {

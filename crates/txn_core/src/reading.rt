@@ -87,14 +87,7 @@ impl Txn {
             &range.begin
         };
         let view = NearView::new(self.view(store), begin, manner.reverse)?;
-        match all(
-            self.allocator(),
-            &view,
-            range,
-            manner.limit,
-            manner.reverse,
-            manner.mode,
-        ) {
+        match all(&view, range, manner.limit, manner.reverse, manner.mode) {
             Ok(pairs) => Ok(pairs),
             Err(RangeFault::NoLimit | RangeFault::NoMemory) => Err(AllocError),
         }

@@ -135,6 +135,18 @@ impl Store {
         }
     }
 
+    /// The pairs at a version from `key` on, in the order of their keys, for a loop over them: one search for all of them. It
+    /// copies none. TooOld exactly where the version is less than the oldest one, Future exactly where it is greater than the
+    /// last one. It takes no memory.
+    pub fn pairs_from(&self, key: &Key, version: u64) -> Result<PairsLeft<'_>, VersionFault>
+        ensures ok { IfOk result (λ left. IsReadable self.now version
+            × (left ≡ filter (λ e. key_le key.now e.0) (finite.entries (at self.now version)))) }
+        ensures err { IfErr result (IsFaultAt self.now version) }
+    {
+        self.check(version)?;
+        Ok(PairsLeft::new(&self.nodes, self.tree.range(key..), version))
+    }
+
     /// The first pair at a version with a key that is at least `key`. TooOld exactly where the version is less than the
     /// oldest one, Future exactly where it is greater than the last one. It takes no memory.
     pub fn next_at(&self, key: &Key, version: u64) -> Result<Option<(&Key, &Bytes)>, VersionFault>
@@ -143,8 +155,7 @@ impl Store {
             ≡ first (filter (λ e. key_le key.now e.0) (finite.entries (at self.now version))))) }
         ensures err { IfErr result (IsFaultAt self.now version) }
     {
-        self.check(version)?;
-        Ok(PairsLeft::new(&self.nodes, self.tree.range(key..), version).next())
+        Ok(self.pairs_from(key, version)?.next())
     }
 
     /// The last pair at a version with a key that is less than `key`. TooOld exactly where the version is less than the

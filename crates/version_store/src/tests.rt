@@ -123,6 +123,7 @@ fn is_read(alloc: Global, store: &Store, read: Read) -> Result<bool, Fail> {
     Ok(
         store.get_at(&key, version)? == value
             && is_key(store.next_at(&key, version)?, next)
+            && is_key(store.pairs_from(&key, version)?.next(), next)
             && is_key(store.prev_at(&key, version)?, prev),
     )
 }

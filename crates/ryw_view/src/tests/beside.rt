@@ -221,6 +221,18 @@ fn is_selected_alike(
     Ok(resolve(alloc, view, &selector)?.as_slice() == wanted)
 }
 
+// The pairs of a range, by a view for a walk through it.
+fn all_near(
+    view: &View<'_>,
+    range: &KeyRange,
+    limit: u32,
+    reverse: bool,
+) -> Result<Pairs, RangeFault> {
+    let begin = if reverse { &range.end } else { &range.begin };
+    let near = NearView::new(*view, begin, reverse)?;
+    all(&near, range, limit, reverse, Mode::WantAll)
+}
+
 // A drawn range has the same slice.
 fn is_sliced_alike(
     alloc: Global,
@@ -232,8 +244,12 @@ fn is_sliced_alike(
     let limit = u32::try_from(draws.below(4)).unwrap_or(0);
     let reverse = draws.below(2) == 0;
     let wanted = slice_of(alloc, pairs.as_slice(), &range, limit, reverse)?;
-    let found = all(alloc, view, &range, limit, reverse, Mode::WantAll)?;
-    Ok(are_same_pairs(found.as_slice(), wanted.as_slice()))
+    let found = all(view, &range, limit, reverse, Mode::WantAll)?;
+    let near = all_near(view, &range, limit, reverse)?;
+    Ok(
+        are_same_pairs(found.as_slice(), wanted.as_slice())
+            && are_same_pairs(near.as_slice(), wanted.as_slice()),
+    )
 }
 
 // The undecided keys of a drawn range are the ones that were neither set nor cleared, unless one of its keys can't be read.

@@ -102,14 +102,7 @@ impl Large {
     fn is_read(&self, number: usize) -> Result<bool, RangeFault> {
         let view = view_of(&self.edits, &self.store, 1);
         let range = range_of(self.alloc, &number_key(number), &[255])?;
-        let pairs = all(
-            self.alloc,
-            &view,
-            &range,
-            LIMIT as u32,
-            false,
-            Mode::WantAll,
-        )?;
+        let pairs = all(&view, &range, LIMIT as u32, false, Mode::WantAll)?;
         Ok(is_slice(pairs.as_slice(), self.model.as_slice(), number))
     }
 

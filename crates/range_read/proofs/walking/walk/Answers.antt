@@ -2,7 +2,8 @@ use Rattle.std.proofs.Common.{◌≡◌, length, sym, ap, ◌∙◌, arith}
 use Rattle.std.specs.Option.{option_map}
 use Rattle.key_bytes.specs.Entries.{entry_of}
 use Rattle.database_rules.specs.Slices.{span}
-use Rattle.range_read.proofs.Taking.{step_smaller, step_whole, pushed_length, taken_full}
+use Rattle.range_read.proofs.Lists.{first_none}
+use Rattle.range_read.proofs.Taking.{step_smaller, step_whole, pushed_length, taken_all, taken_full}
 use Rattle.range_read.proofs.walking.walk.Goals as goal
 
 pub loop-left-smaller : goal.loop-left-smaller
@@ -25,6 +26,14 @@ loop-left-preserved g c =
           pushed;
       short = λ some. let room = c.is_full.ensures.room c.loop-left-test.true some in omega (arith, room, longer, c.len.ensures);
     }
+
+pub returns-in_default-clause-pairs : goal.returns-in_default-clause-pairs
+returns-in_default-clause-pairs g c =
+    let m = g.V.OrderedView.map c.args.view.now in
+    let left = span m c.loop-left.left.begin c.loop-left.left.end c.args.down in
+    taken_all c.args.limit c.loop-left.pairs left (span m c.args.range.now.begin c.args.range.now.end c.args.down)
+    c.loop-left.invariant.whole
+    (first_none left (sym (c.in_ok-pair.ensures {u = tt}) ∙ ap (option_map entry_of) c.in_default.is)) c.loop-left.invariant.short
 
 pub returns-clause-pairs : goal.returns-clause-pairs
 returns-clause-pairs g c =

@@ -1,6 +1,6 @@
-use Rattle.std.proofs.Common.{Some, refl, sym, ap, subst, ◌∙◌, option_copied}
+use Rattle.std.proofs.Common.{refl, sym, subst, ◌∙◌, option_copied}
 use Rattle.std.proofs.lemmas.Result.{on_ok_weaker}
-use Rattle.database_rules.specs.States.{Decided, Depends, all_atoms}
+use Rattle.database_rules.specs.States.{Depends, all_atoms}
 use Rattle.ryw_view.specs.Views.{stored_of}
 use Rattle.txn_core.specs.Changing.{LeadUpTo}
 use Rattle.txn_core.proofs.Changes.{led_unmodified, led_single}
@@ -8,27 +8,17 @@ use Rattle.txn_core.proofs.changing.add_segment.Goals as goal
 
 pub returns-in-Unmodified : goal.returns-in-Unmodified
 returns-in-Unmodified c =
-    let view = c.args.view.now in
+    let view = c.args.view.now in let under = rw c.in-Unmodified.is at c.requires.state in
     led_unmodified view.edits.now.mutations (stored_of view) c.args.begin.now (option_copied c.args.edge) c.requires.segment
-    c.args.changes.now c.requires.before (c.in-Unmodified.ensures {u = tt}).1
-
-pub returns-in_ok-value-in-Decided-Some : goal.returns-in_ok-value-in-Decided-Some
-returns-in_ok-value-in-Decided-Some c =
-    let view = c.args.view.now in let begin = c.args.begin.now in let edge = option_copied c.args.edge in
-    let under = rw c.in-Decided-Some.field-0-is at (c.in-Decided-Some.ensures {u = tt}) in
-    on_ok_weaker c.push.result
-    (λ is. subst (LeadUpTo view.edits.now.mutations (stored_of view) edge) (sym is)
-    (led_single view.edits.now.mutations (stored_of view) begin edge c.requires.segment c.args.changes.now c.requires.before
-    (Decided (Some c.in-Decided-Some.value.now)) under.1 refl (Some c.in_ok-value-in-Decided-Some.value)
-    (ap (λ v. Some v) (c.in_ok-value-in-Decided-Some.ensures {u = tt}))))
-    c.push.ensures
+    c.args.changes.now c.requires.before under.1
 
 pub returns-in_ok-value-in-Depends : goal.returns-in_ok-value-in-Depends
 returns-in_ok-value-in-Depends c =
     let view = c.args.view.now in let begin = c.args.begin.now in let edge = option_copied c.args.edge in
-    on_ok_weaker c.push-in-Depends.result
+    let under = rw c.in-Depends.is at c.requires.state in
+    on_ok_weaker c.push.result
     (λ is. subst (LeadUpTo view.edits.now.mutations (stored_of view) edge) (sym is)
     (led_single view.edits.now.mutations (stored_of view) begin edge c.requires.segment c.args.changes.now c.requires.before
-    (Depends c.in-Depends.edits.now) (c.in-Depends.ensures {u = tt}).1 refl c.in_ok-value-in-Depends.value
+    (Depends c.in-Depends.edits.now) under.1 refl c.in_ok-value-in-Depends.value
     ((c.in_ok-value-in-Depends.ensures {u = tt}) ∙ (λ i. all_atoms (c.as_slice.ensures i) (c.stored.ensures i)))))
-    c.push-in-Depends.ensures
+    c.push.ensures

@@ -5,9 +5,9 @@ use Rattle.ryw_view.specs.Views.{stored_of}
 use Rattle.txn_core.specs.Changing.{LeadUpTo}
 use Rattle.txn_core.proofs.changing.changes_from.Given as goal
 
-abbrev pub invariant-loop-edge : goal.invariant-loop-edge
-invariant-loop-edge l = LeadUpTo l.view.edits.now.mutations (stored_of l.view) (Some l.from) l.changes
+abbrev pub invariant-loop-changes : goal.invariant-loop-changes
+invariant-loop-changes l = LeadUpTo l.view.edits.now.mutations (stored_of l.view) (Some l.from) l.changes
 
 -- the edges above
-abbrev pub decreases-loop-edge : goal.decreases-loop-edge
-decreases-loop-edge l = length (filter (key_lt l.from) l.view.edits.now.edges)
+abbrev pub decreases-loop-changes : goal.decreases-loop-changes
+decreases-loop-changes l = length (filter (key_lt l.from) l.view.edits.now.edges)

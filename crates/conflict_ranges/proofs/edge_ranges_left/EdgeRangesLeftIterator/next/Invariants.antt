@@ -1,16 +1,10 @@
-use Rattle.std.proofs.Common.{◌≡◌}
-use Rattle.std.specs.Option.{option_map}
-use Rattle.edge_map.proofs.Held.{IsRising}
-use Rattle.conflict_ranges.specs.Segments.{left_at}
-use Rattle.conflict_ranges.proofs.Segments.{edges_left}
+use Rattle.std.proofs.Common.{◌≡◌, length}
+use Rattle.conflict_ranges.specs.Segments.{ranges_from}
 use Rattle.conflict_ranges.proofs.edge_ranges_left.EdgeRangesLeftIterator.next.Given as goal
 
 -- what was passed is not in the set
-abbrev pub invariant-loop-self : goal.invariant-loop-self
-invariant-loop-self l = record {
-  rising : IsRising l.self-inside.members.now.entries;
-  left : left_at l.self-inside.members.now (option_map (λ key. key.now) l.self-inside.begin) ≡ l.fn.self;
-}
+abbrev pub invariant-loop-edge : goal.invariant-loop-edge
+invariant-loop-edge l = ranges_from l.self-inside.begin.now l.self-inside.membership l.self-inside.edges ≡ l.fn.self
 
-abbrev pub decreases-loop-self : goal.decreases-loop-self
-decreases-loop-self l = edges_left l.self-inside.members.now (option_map (λ key. key.now) l.self-inside.begin)
+abbrev pub decreases-loop-edge : goal.decreases-loop-edge
+decreases-loop-edge l = length l.self-inside.edges

@@ -1,11 +1,14 @@
-use Rattle.std.proofs.Common.{◌≡◌, ◌≤◌, ◌⊎◌, inl, max, true, is_lt, refl, sym, ap, subst, ◌∙◌, true≢false, arith}
-use Rattle.key_bytes.specs.Keys.{key_lt}
+use Rattle.std.proofs.Common.{◌≡◌, ◌≤◌, ℕ, inr, true, is_lt, sym, ap, subst, ◌∙◌, true≢false}
+use Rattle.std.specs.List.{filter}
+use Rattle.key_bytes.specs.Keys.{key_lt, within}
 use Rattle.database_rules.specs.States.{range_from}
+use Rattle.edge_map.specs.Edges.{Edges, held}
 use Rattle.edge_map.proofs.Edged.{within_backward}
-use Rattle.conflict_ranges.specs.Ends.{IsNextWithin}
-use Rattle.conflict_ranges.proofs.Segments.{fewer_edges}
-use Rattle.conflict_ranges.proofs.Walks.{passed_none, passed_next, passed_weaker, reached_or, IsReached}
+use Rattle.edge_map.proofs.Held.{IsRising}
+use Rattle.conflict_ranges.proofs.Greatest.{greatest, newest_above, newest_reached}
+use Rattle.conflict_ranges.proofs.Walks.{IsReached}
 use Rattle.conflict_ranges.proofs.write_index.WriteIndex.newest_between.Goals as goal
+use Rattle.conflict_ranges.proofs.write_index.WriteIndex.newest_between.Goals.{In-None}
 
 pub returns-then-not-is_lt-clause-above : goal.returns-then-not-is_lt-clause-above
 returns-then-not-is_lt-clause-above c key is_in =
@@ -13,39 +16,21 @@ returns-then-not-is_lt-clause-above c key is_in =
     ∙ within_backward c.args.begin.now c.args.end.now key
     (sym (ap is_lt c.cmp.ensures) ∙ sym c.is_lt.ensures ∙ c.if-not-is_lt.true)))
 
-pub loop-edge-init : goal.loop-edge-init
-loop-edge-init c =
-    let range = range_from c.args.begin.now c.args.end.now in
-    let some : key_lt range.begin range.end ≡ true = sym (ap is_lt c.cmp.ensures) ∙ sym c.is_lt.ensures ∙ c.if-not-is_lt.false in
-    record { passed = passed_none (λ version. version ≤ 0) range c.self.inside.versions some; reached = inl refl }
+-- once no edge is left, the newest version is the greatest
+newest_is : (c : In-None) → c.loop-version.newest
+    ≡ greatest (held c.args.self.now c.args.begin.now) (filter (λ e. within c.args.begin.now c.args.end.now e.0) c.args.self.now.entries)
+newest_is c = sym (ap (greatest c.loop-version.newest) (c.in-None.ensures {u = tt}).steps.0) ∙ c.loop-version.invariant
 
-pub loop-edge-smaller : goal.loop-edge-smaller
-loop-edge-smaller c =
-    let versions = c.self.inside.versions in let from = c.loop-edge.from.now in
-    let next = subst (IsNextWithin from c.args.end.now versions) c.in-Some.is c.around_within.ensures.next in
-    fewer_edges versions from c.in-Some.edge.now c.shows_rising.ensures next.next
+rising : (c : In-None) → IsRising c.args.self.now.entries
+rising c = subst (λ (edges : Edges ℕ). IsRising edges.entries) c.self.view_is c.shows_rising.ensures
 
-pub loop-edge-preserved : goal.loop-edge-preserved
-loop-edge-preserved c =
-    let range = range_from c.args.begin.now c.args.end.now in let versions = c.self.inside.versions in
-    let before = c.loop-edge.newest in let newest = c.max-newest.result in let from = c.loop-edge.from.now in
-    let inv = c.loop-edge.invariant in let version = c.around_within.result.0.now in
-    let is : newest ≡ max before version = c.max-newest.ensures in
-    let at = c.around_within.ensures.at in
-    let passed =
-    passed_weaker (λ version. version ≤ before) (λ version. version ≤ newest) range versions from
-    (λ version low. omega (arith, is, low)) inv.passed in
-    record {
-      passed =
-          passed_next (λ version. version ≤ newest) range versions from passed (omega (arith, is, at)) c.in-Some.edge.now
-          (subst (IsNextWithin from range.end versions) c.in-Some.is c.around_within.ensures.next);
-      reached = reached_or range versions before version newest is inv.reached (from, inv.passed.inside, sym at);
-    }
+pub returns-clause-above : goal.returns-clause-above
+returns-clause-above c key is_in =
+    subst (λ newest. held c.args.self.now key ≤ newest) (sym (newest_is c))
+    (newest_above c.args.begin.now c.args.end.now c.args.self.now (rising c) key is_in)
 
-pub returns-in_default-clause-reached : goal.returns-in_default-clause-reached
-returns-in_default-clause-reached c =
-    let range = range_from c.args.begin.now c.args.end.now in let newest = c.max-newest.result in
-    let inv = c.loop-edge.invariant in
-    subst (λ edges. (newest ≡ 0) ⊎ IsReached range edges newest) c.self.view_is
-    (reached_or range c.self.inside.versions c.loop-edge.newest c.around_within.result.0.now newest c.max-newest.ensures inv.reached
-    (c.loop-edge.from.now, inv.passed.inside, sym c.around_within.ensures.at))
+pub returns-clause-reached : goal.returns-clause-reached
+returns-clause-reached c =
+    let some : key_lt c.args.begin.now c.args.end.now ≡ true = sym (ap is_lt c.cmp.ensures) ∙ sym c.is_lt.ensures ∙ c.if-not-is_lt.false in
+    inr (subst (IsReached (range_from c.args.begin.now c.args.end.now) c.args.self.now) (sym (newest_is c))
+    (newest_reached c.args.begin.now c.args.end.now c.args.self.now (rising c) some))
