@@ -1,11 +1,12 @@
 -- What a walk meets, one key after the other.
-use Rattle.std.proofs.Common.{◌≡◌, ℕ, Bool, true, false, not, ◌&&◌, List, [], ◌∷◌, None, Some, T, refl, sym, ap, ◌∙◌, true≢false}
+use Rattle.std.proofs.Common.{◌≡◌, ℕ, Bool, true, false, not, ◌&&◌, List, [], ◌∷◌, reverse, None, Some, T, refl, sym, ap, ◌∙◌, true≢false}
 use Rattle.std.specs.FinMap as finite
 use Rattle.std.specs.FinMap.Entries.{below_all, is_sorted}
 use Rattle.std.specs.List.{filter}
 use Rattle.key_bytes.specs.Keys.{key_cmp, key_lt, key_le, after, within}
 use Rattle.key_bytes.proofs.Orders.{irreflexive}
 use Rattle.key_map.specs.Ends.{first}
+use Rattle.key_map.proofs.Spans.{filter-within-backward}
 use Rattle.database_rules.specs.Databases.{Database}
 use Rattle.database_rules.specs.Slices.{Entries, span, turned}
 use Rattle.range_read.specs.Walks.{is_onward, onward, behind, near, begin_behind, end_behind}
@@ -60,6 +61,11 @@ pub span_is : (database : Database) (b e : List ℕ) (down : Bool)
     → span database b e down ≡ filter (λ x. within b e x.0) (turned down (finite.entries database))
 span_is database b e true = sym (filter-reverse (λ x. within b e x.0) (finite.entries database))
 span_is database b e false = refl
+
+-- a range without a key has no pair
+pub empty_span : (database : Database) (b e : List ℕ) (down : Bool) → key_lt b e ≡ false → span database b e down ≡ []
+empty_span database b e true none = ap reverse (filter-within-backward b e (finite.entries database) none)
+empty_span database b e false none = filter-within-backward b e (finite.entries database) none
 
 -- ---- tests of keys
 

@@ -303,7 +303,7 @@ fn is_page(alloc: Global, view: &Seen, row: Size) -> Result<bool, RangeFault> {
 fn first_other_page(alloc: Global) -> Result<Option<usize>, RangeFault> {
     let view = single_bytes(alloc, 20)?;
     for (place, row) in SIZES.iter().enumerate() {
-        if !is_page(&view, *row)? {
+        if !is_page(alloc, &view, *row)? {
             return Ok(Some(place));
         }
     }

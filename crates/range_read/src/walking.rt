@@ -51,6 +51,9 @@ pub(crate) fn first_inside<V: OrderedView>(
     ensures { IfOk result (λ pair. option_map entry_of pair
         ≡ first (span (V.map view.now) range.now.begin range.now.end down)) }
 {
+    if range.is_empty() {
+        return Ok(None);
+    }
     let Some(pair) = step(view, near_end(range, down), down)? else {
         return Ok(None);
     };

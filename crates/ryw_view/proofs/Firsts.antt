@@ -35,7 +35,7 @@ has_found q value (e ∷ es) is =
     ] refl is
 
 -- an entry is found under its key, where the keys rise
-found : (e : Entry) (es : Entries) → Rises (entry_first false) es → Has e es → find key_cmp e.0 es ≡ Some e.1
+pub found : (e : Entry) (es : Entries) → Rises (entry_first false) es → Has e es → find key_cmp e.0 es ≡ Some e.1
 found e [] rises h = absurd h
 found e (f ∷ es) rises (inl here) =
     subst (λ e. find key_cmp e.0 (f ∷ es) ≡ Some e.1) here

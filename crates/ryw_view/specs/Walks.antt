@@ -1,8 +1,10 @@
 -- What a walk along the keys of a database meets first, up or down.
 use Rattle.std.specs.Prelude.{◌≡◌, ℕ, Bool, true, false, if◌then◌else◌, List, Option, Some, None}
 use Rattle.std.specs.FinMap as finite
-use Rattle.key_bytes.specs.Keys.{after, key_le, key_lt}
+use Rattle.std.specs.List.{filter}
+use Rattle.key_bytes.specs.Keys.{after, key_le, key_lt, within}
 use Rattle.database_rules.specs.Databases.{Database}
+use Rattle.database_rules.specs.Slices.{Entries}
 use Rattle.range_read.specs.Walks.{is_onward}
 
 -- a walk meets the one key before the other
@@ -28,6 +30,11 @@ abbrev pub IsFirstMet : Database → (from : List ℕ) → (down : Bool) → (ed
 IsFirstMet database from down edge None =
     (q : List ℕ) → is_onward from down q ≡ true → is_inside edge down q ≡ true → finite.get database q ≡ None
 IsFirstMet database from down edge (Some pair) = MeetsFirst database from down pair × (is_inside edge down pair.0 ≡ true)
+
+-- the pairs of a database from a key on, up to the edge of a segment
+abbrev pub stored_between : Database → (from : List ℕ) → (edge : Option (List ℕ)) → Entries
+stored_between database from None = filter (λ e. key_le from e.0) (finite.entries database)
+stored_between database from (Some edge) = filter (λ e. within from edge e.0) (finite.entries database)
 
 -- a pair, where its key is in the segment
 abbrev pub inside_of : Option (List ℕ) → Bool → Option (List ℕ × List ℕ) → Option (List ℕ × List ℕ)

@@ -55,20 +55,15 @@ fn is_up_to(key: &Key, edge: Option<&Key>) -> bool
 
 // A key up to which keys are below an end and in the segment up to an edge: the nearer one of the two.
 fn nearer<'b>(end: &'b Key, edge: Option<&'b Key>) -> &'b Key
-    ensures { (q : List ℕ) → key_lt q result.now ≡ true
+    ensures below { (q : List ℕ) → key_lt q result.now ≡ true
         → (key_lt q end.now ≡ true) × (is_inside (option_copied edge.entry) false q ≡ true) }
+    ensures nearest { (q : List ℕ) → key_lt q end.now ≡ true → is_inside (option_copied edge.entry) false q ≡ true
+        → key_lt q result.now ≡ true }
 {
     match edge {
         None => end,
         Some(edge) => { if edge.cmp(end).is_lt() { edge } else { end } }
     }
-}
-
-// Whether a walk stops before a key: so many pairs reach the limit, or the key isn't below the one up to which it goes.
-fn stops_before(limit: u32, taken: usize, key: &Key, until: &Key) -> bool
-    ensures { result ≡ false → (0 < limit → taken < limit) × (key_lt key.now until.now ≡ true) }
-{
-    is_full(limit, taken) || !key.cmp(until).is_lt()
 }
 
 // Where a walk goes on that began at a key, and met this one last.
@@ -79,6 +74,19 @@ fn begin_behind(begin: &Key, last: Option<&Key>) -> Result<Key, AllocError>
         Some(key) => key.after(),
         None => begin.copy(),
     }
+}
+
+// What a walk took of a range, of which it left all from a key on.
+fn left_of(pairs: Pairs, begin: Key, range: &KeyRange) -> Result<Taken, AllocError>
+    ensures pairs { IfOk result (λ taken. taken.pairs ≡ pairs) }
+    ensures begin { IfOk result (λ taken. taken.left.begin ≡ begin) }
+    ensures end { IfOk result (λ taken. taken.left.end ≡ range.now.end) }
+{
+    let end = range.end.copy()?;
+    Ok(Taken {
+        pairs,
+        left: KeyRange { begin, end },
+    })
 }
 
 impl<'a> NearView<'a> {
@@ -160,12 +168,14 @@ impl<'a> NearView<'a> {
         }
     }
 
-    // Whether a key isn't below those that it remembers. It takes no memory.
+    // Whether a key is one that it remembers. It takes no memory.
     fn remembers(&self, key: &Key) -> bool
-        ensures { result ≡ true → AreBare self.now.view.edits.now.mutations key.now false self.now.high }
+        ensures { result ≡ true → AreBare self.now.view.edits.now.mutations key.now false self.now.high
+            × (is_inside self.now.high false key.now ≡ true) }
     {
         match &self.low {
-            Some(low) => is_inside(key, Some(low), true),
+            Some(low) => is_inside(key, Some(low), true)
+                && is_inside(key, self.high.as_ref(), false),
             None => false,
         }
     }
@@ -173,7 +183,9 @@ impl<'a> NearView<'a> {
     // The remembered pairs at the begin of a range that begins with a remembered key: by one search of the store, and one walk
     // behind it.
     fn run_up(&self, range: &KeyRange, limit: u32) -> Result<Taken, AllocError>
-        requires { AreBare self.now.view.edits.now.mutations range.now.begin false self.now.high }
+        requires bare { AreBare self.now.view.edits.now.mutations range.now.begin false self.now.high }
+        requires inside { is_inside self.now.high false range.now.begin ≡ true }
+        requires some { key_lt range.now.begin range.now.end ≡ true }
         ensures whole { IfOk result (λ taken. taken.pairs ++ span (seen_of self.now.view) taken.left.begin taken.left.end false
             ≡ span (seen_of self.now.view) range.now.begin range.now.end false) }
         ensures short { IfOk result (λ taken. 0 < limit → length taken.pairs ≤ limit) }
@@ -181,19 +193,17 @@ impl<'a> NearView<'a> {
         let until = nearer(&range.end, self.high.as_ref());
         let mut pairs = Pairs::new(range.begin.allocator());
         let mut last = None;
-        for (key, value) in self.view.stored_from(&range.begin) {
-            if stops_before(limit, pairs.len(), key, until) {
-                break;
+        for (key, value) in self.view.stored_from(&range.begin, Some(until)) {
+            if is_full(limit, pairs.len()) {
+                let begin = begin_behind(&range.begin, last)?;
+                return left_of(pairs, begin, range);
             }
             pairs.push(pair_of(key, value)?)?;
             last = Some(key);
         }
-        let begin = begin_behind(&range.begin, last)?;
-        let end = range.end.copy()?;
-        Ok(Taken {
-            pairs,
-            left: KeyRange { begin, end },
-        })
+        let begin = until.copy()?;
+        let taken = left_of(pairs, begin, range)?;
+        Ok(taken)
     }
 
     // The last pair below a key, where the keys below it are remembered, and that of the pair is. It takes no memory.
@@ -229,7 +239,7 @@ impl<'a> OrderedView for NearView<'a> {
     }
 
     fn run(&self, range: &KeyRange, limit: u32, down: bool) -> Result<Taken, AllocError> {
-        if down || !self.remembers(&range.begin) {
+        if down || range.is_empty() || !self.remembers(&range.begin) {
             return Taken::none(range);
         }
         self.run_up(range, limit)

@@ -6,7 +6,7 @@ ghost use Rattle.std.specs.List.{filter};
 ghost use Rattle.std.specs.Map.Iter.{deref_pair};
 ghost use Rattle.key_bytes.specs.Keys.{key_le};
 ghost use Rattle.ryw_view.specs.Views.{stored_of};
-ghost use Rattle.ryw_view.specs.Walks.{inside_of, is_inside, IsFirstMet};
+ghost use Rattle.ryw_view.specs.Walks.{inside_of, is_inside, stored_between, IsFirstMet};
 
 use crate::view::View;
 use key_bytes::{Bytes, Key};
@@ -24,12 +24,17 @@ impl<'a> View<'a> {
         }
     }
 
-    // The stored pairs from a key on, for a loop over them: one search of the store. It takes no memory.
-    pub(crate) fn stored_from(&self, from: &Key) -> PairsLeft<'a>
-        ensures { result ≡ filter (λ e. key_le from.now e.0) (finite.entries (stored_of self.now)) }
+    // The stored pairs from a key on, up to the edge of a segment, for a loop over them: one search of the store. It takes no
+    // memory.
+    pub(crate) fn stored_from(&self, from: &Key, edge: Option<&Key>) -> PairsLeft<'a>
+        ensures { result ≡ stored_between (stored_of self.now) from.now (option_copied edge.entry) }
     {
         let store = self.store;
-        match store.pairs_from(from, self.version) {
+        let left = match edge {
+            None => store.pairs_from(from, self.version),
+            Some(edge) => store.pairs_in(from, edge, self.version),
+        };
+        match left {
             Ok(left) => left,
             Err(_) => unreachable!(),
         }
@@ -40,11 +45,7 @@ impl<'a> View<'a> {
         ensures { IsFirstMet (stored_of self.now) from.now false (option_copied edge.entry)
             (option_map deref_pair result) }
     {
-        let store = self.store;
-        match store.next_at(from, self.version) {
-            Ok(pair) => inside(pair, edge, false),
-            Err(_) => unreachable!(),
-        }
+        self.stored_from(from, edge).next()
     }
 
     // The last stored pair below a key, down to the edge of a segment. It takes no memory.

@@ -147,6 +147,26 @@ impl Store {
         Ok(PairsLeft::new(&self.nodes, self.tree.range(key..), version))
     }
 
+    /// The pairs at a version from `begin` on with keys that are less than `end`, in the order of their keys, for a loop over
+    /// them: one search for all of them. It goes over that range of the tree alone, and copies no pair. TooOld exactly where the
+    /// version is less than the oldest one, Future exactly where it is greater than the last one. It takes no memory.
+    pub fn pairs_in(
+        &self,
+        begin: &Key,
+        end: &Key,
+        version: u64,
+    ) -> Result<PairsLeft<'_>, VersionFault>
+        ensures ok { IfOk result (λ left. IsReadable self.now version
+            × (left ≡ filter (λ e. within begin.now end.now e.0) (finite.entries (at self.now version)))) }
+        ensures err { IfErr result (IsFaultAt self.now version) }
+    {
+        self.check(version)?;
+        if !begin.cmp(end).is_lt() {
+            return Ok(PairsLeft::new(&self.nodes, self.tree.range(begin..begin), version));
+        }
+        Ok(PairsLeft::new(&self.nodes, self.tree.range(begin..end), version))
+    }
+
     /// The first pair at a version with a key that is at least `key`. TooOld exactly where the version is less than the
     /// oldest one, Future exactly where it is greater than the last one. It takes no memory.
     pub fn next_at(&self, key: &Key, version: u64) -> Result<Option<(&Key, &Bytes)>, VersionFault>

@@ -98,6 +98,18 @@ fn shown(alloc: Global, pairs: &Pairs) -> Result<Vec<u8>, AllocError> {
     Ok(text)
 }
 
+// The same of those that a loop goes over.
+fn walked(alloc: Global, left: PairsLeft<'_>) -> Result<Vec<u8>, AllocError> {
+    let mut text = Vec::new(alloc);
+    for (key, value) in left {
+        text.extend_from_slice(key.as_slice())?;
+        text.extend_from_slice(b"=")?;
+        text.extend_from_slice(value.as_slice())?;
+        text.extend_from_slice(b";")?;
+    }
+    Ok(text)
+}
+
 // ---- what a store answers, beside tables
 
 // A key and a version, the value of the key then, and the keys that stand beside it: the first from it on, and the last
@@ -214,12 +226,15 @@ fn is_between(
     begin: &[u8],
     end: &[u8],
     text: &[u8],
-) -> Result<bool, AllocError> {
-    let pairs = store.pairs_between(&key_of(alloc, begin)?, &key_of(alloc, end)?)?;
-    Ok(shown(alloc, &pairs)?.as_slice() == text)
+) -> Result<bool, Fail> {
+    let begin = key_of(alloc, begin)?;
+    let end = key_of(alloc, end)?;
+    let pairs = store.pairs_between(&begin, &end)?;
+    let left = walked(alloc, store.pairs_in(&begin, &end, store.last())?)?;
+    Ok(shown(alloc, &pairs)?.as_slice() == text && left.as_slice() == text)
 }
 
-fn first_wrong_between(alloc: Global) -> Result<Option<usize>, AllocError> {
+fn first_wrong_between(alloc: Global) -> Result<Option<usize>, Fail> {
     let store = committed(alloc)?;
     for (i, (begin, end, text)) in BETWEEN.iter().enumerate() {
         if !is_between(alloc, &store, begin, end, text)? {

@@ -1,14 +1,12 @@
-use Rattle.std.proofs.Common.{false, sym, subst, option_copied, option_map}
+use Rattle.std.proofs.Common.{option_copied, option_map, sym, ap, ◌∙◌}
 use Rattle.std.specs.Map.Iter.{deref_pair}
+use Rattle.key_map.specs.Ends.{first}
+use Rattle.key_map.proofs.Spans.{option_map-TakesFirst}
 use Rattle.ryw_view.specs.Views.{stored_of}
-use Rattle.ryw_view.specs.Walks.{IsFirstMet}
-use Rattle.ryw_view.proofs.Firsts.{first_met}
-use Rattle.ryw_view.proofs.Segments.{met_inside}
+use Rattle.ryw_view.proofs.Runs.{between_met}
 use Rattle.ryw_view.proofs.view.View.first_stored.Goals as goal
 
 pub returns : goal.returns
 returns c =
-    let database = stored_of c.args.self.now in let from = c.args.from.now in let edge = option_copied c.args.edge in
-    let pair = option_map deref_pair c.in-Ok.pair in
-    subst (IsFirstMet database from false edge) (sym c.inside.ensures)
-    (met_inside database from false edge pair (first_met database from false pair (sym c.in-Ok.ensures.ok.1)))
+    between_met (stored_of c.args.self.now) c.args.from.now (option_copied c.args.edge) (option_map deref_pair c.next.result)
+    (ap first (sym c.stored_from.ensures) ∙ sym (option_map-TakesFirst deref_pair _ _ _ c.next.ensures.steps))
