@@ -4,8 +4,21 @@ use super::bytes::Bytes;
 use super::database::{Value, KEY_LIMIT, TOP, VALUE_LIMIT};
 use std::fmt;
 use std::io::Write;
+use std::str;
 
 const PAIRS_LIMIT: usize = 1_000_000;
+
+/// The machines of the lines of an order, and the lines behind these, where they have no fault.
+pub fn order_of(input: &[u8]) -> Option<(Vec<u16>, &[u8])> {
+    let mut order = Vec::new();
+    let mut left = input;
+    while let Some(line) = left.strip_prefix(b"O ") {
+        let end = line.iter().position(|byte| *byte == b'\n')?;
+        order.push(str::from_utf8(&line[..end]).ok()?.parse().ok()?);
+        left = &line[end + 1..];
+    }
+    Some((order, left))
+}
 
 /// The pairs of an input, where it has no fault.
 pub fn pairs_of(input: &[u8]) -> Option<Vec<(Bytes, Value)>> {

@@ -19,6 +19,11 @@ impl World {
         World { database, transactions: BTreeMap::new(), order: Vec::new() }
     }
 
+    /// The machines whose requests were taken, in order.
+    pub fn order(&self) -> &[u16] {
+        &self.order
+    }
+
     /// A request of a machine is taken.
     pub fn take(&mut self, machine: u16) {
         self.order.push(machine);
