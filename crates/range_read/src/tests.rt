@@ -275,6 +275,7 @@ fn refusal(alloc: Global) -> Result<Option<RangeFault>, AllocError> {
 fn reads_slices(rt: HostRuntime) -> Result<(), Fail> {
     assert_eq!(rt; first_other_slice(rt.alloc())?, None);
     assert_eq!(rt; refusal(rt.alloc())?, Some(RangeFault::NoLimit));
+    assert!(rt; is_full(2, 2) && !is_full(2, 1) && !is_full(0, 2));
     Ok(())
 }
 
