@@ -147,18 +147,23 @@ fn run_and_replay<R: Threads + Wait + Sync + Clone + Drop + Send + 'static>(
     Ok((run.status, run.order.len(), is_same))
 }
 
+// Main starts eight workers and polls once at least; each worker opens a directory, asks five requests in each of twenty rounds,
+// and clears a key.
+const LEAST_REQUESTS: usize = 8 + 1 + 8 * 102;
+
+// Whether a replay of such a run is the run. It ends with 3 where main polled as often as it may before the workers had ended.
 fn generated<R: Threads + Wait + Sync + Clone + Drop + Send + 'static>(
     rt: &R,
     alloc: Global,
-) -> Result<(u8, bool), AllocError> {
+) -> Result<bool, AllocError> {
     let pairs = gen_pairs(alloc, 8)?;
     let (status, places, is_same) = run_and_replay(rt, alloc, "g", &pairs)?;
-    Ok((status, is_same && places > 900))
+    Ok(matches!(status, 0 | 3) && is_same && places >= LEAST_REQUESTS)
 }
 
 #[test]
 fn run_then_replay(rt: HostRuntime) -> Result<(), Fail> {
-    assert_eq!(rt; generated(&rt, rt.alloc())?, (0, true));
+    assert!(rt; generated(&rt, rt.alloc())?);
     Ok(())
 }
 
