@@ -5,9 +5,11 @@
 //! `Tr` has the calls of a transaction by their names, for layers that work over any transaction that answers so.
 #![tactic(auto)]
 
+mod boxed_request;
 mod fault;
 mod tr;
 
+pub use boxed_request::BoxedRequest;
 pub use database_rules::Code;
 use database_rules::{Mode, Selector};
 use directory_types::{DirArgs, DirFault, DirKind, DirReply, Layer};
@@ -185,3 +187,6 @@ pub enum Reply {
     /// Memory ran out.
     NoMemory,
 }
+
+#[cfg(test)]
+mod tests;

@@ -48,11 +48,13 @@ impl<V> Waiter<V, Wake> {
     ghost use Rattle.future_cell.specs.declared.callback.Registered.TheVariants.{No};
     ghost use Rattle.future_cell.specs.Cells.{shown, registration, Peeked, Waited};
 
-    /// Registers the wake, looks for the value for a while, and then sleeps and looks again until it is there. It takes no memory, and may wait for ever.
+    /// Looks for the value for a while, registers the wake, and then sleeps and looks again until the value is there. It takes no
+    /// memory, and may wait for ever.
     pub fn wait<R: Wait>(&mut self, rt: &R, wake: Wake, sleeper: Sleeper) -> &V
         requires { registration self.old ≡ No }
         ensures* after { sem 𝓛 (follows_so (the_row V.row wake_row) (the_row V.row wake_row) self.entry.ghost_name none (λ _ _. ⊤) (λ n. Waited self.old n × (shown n ≡ Some result.now))) }
     {
+        self.watch();
         self.on_ready(wake);
         self.sleep(rt, sleeper);
         self.shown_value()

@@ -7,15 +7,15 @@ ghost use Rattle.machine_rules.specs.Runs.{at_rest};
 ghost use Rattle.machine_rules.specs.Laws.{is_awaiting};
 ghost use Rattle.machine_seat.specs.Seats.{progress_of, with_asked, work_left, Awaits, IsNearer, IsSeated};
 
-use fdb_calls::{Reply, Request};
-use stack_machine::{Asked, Machine, Step};
+use fdb_calls::{BoxedRequest, Reply};
+use stack_machine::{Machine, Step};
 use std::alloc::AllocError;
 
 /// A machine that has come to rest, and what it asks; nothing where it has stopped.
 #[derive(Debug, Drop)]
 pub struct Seat {
     pub machine: Machine,
-    pub asks: Option<Asked>,
+    pub asks: Option<BoxedRequest>,
 }
 
 impl Seat {
@@ -45,12 +45,12 @@ impl Seat {
     }
 
     /// Hands over what the machine asks: it awaits the reply then (`use_awaited`). It takes no memory.
-    pub fn hand_over(&mut self) -> Request
+    pub fn hand_over(&mut self) -> BoxedRequest
         requires asks { IsSome self.old.asks }
         ensures request { self.old.asks ≡ Some result }
         ensures machine { self.new.machine ≡ self.old.machine }
     {
-        self.asks.take().unwrap().into_request()
+        self.asks.take().unwrap()
     }
 
     /// `use_reply`, where what the machine asked may have been handed over.
@@ -74,7 +74,7 @@ impl Seat {
 }
 
 // Lets a machine that awaits no reply run on, until it asks or has stopped: what it asks.
-fn run_on(machine: &mut Machine) -> Result<Option<Asked>, AllocError>
+fn run_on(machine: &mut Machine) -> Result<Option<BoxedRequest>, AllocError>
     requires ready { machine.old.is_out_of_memory ≡ false }
     requires silent { is_awaiting machine.old.machine.state ≡ false }
     ensures rests { IfOk result (λ asks. with_asked machine.new.machine asks ≡ at_rest (silent machine.old.machine)) }

@@ -64,7 +64,7 @@ fn run_by_hand(alloc: Global) -> Result<Option<Told>, AllocError> {
         return Ok(None);
     }
     let request = seat.hand_over();
-    let prefix = prefix_of(&request)?;
+    let prefix = prefix_of(request.request())?;
     let reply = Reply::Started {
         machine: 1,
         instructions: Pairs::new(alloc),

@@ -108,7 +108,7 @@ impl ThreadedMachine {
     {
         self.waiters.reserve(1)?;
         let request = self.seat.hand_over();
-        let prefix = prefix_of(&request)?;
+        let prefix = prefix_of(request.request())?;
         gate.pass(self.seat.machine.number(), self.waiters.len() as u64);
         let asked = self.client.call(rt, alloc, request)?;
         let (waiter, started) = hear(rt, alloc, &mut self.seat, prefix, asked)?;

@@ -4,7 +4,7 @@ ghost use Rattle.std.specs.Prelude.{◌≡◌, ◌≤◌};
 ghost use Rattle.request_line.specs.Line.{sender_line, history};
 
 use crate::post::Post;
-use fdb_calls::{Reply, Request};
+use fdb_calls::{BoxedRequest, Reply};
 use future_cell::{Sleeper, Waiter, Wake, pair, wakes};
 use request_line::Sender;
 use std::alloc::{AllocError, Global};
@@ -52,7 +52,7 @@ impl Client {
         &mut self,
         rt: &R,
         alloc: Global,
-        request: Request,
+        request: BoxedRequest,
     ) -> Result<Asked, AllocError>
         ensures posted { IfOk result (λ asked. (setter : Setter Reply Wake) × (setter_cell setter ≡ waiter_cell asked.waiter)
             × (client_history self.new ≡ with_post (client_history self.old) (Ask (client_machine self.old) request setter))) }

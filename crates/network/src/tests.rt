@@ -4,7 +4,7 @@ ghost use Rattle.future_cell.specs.Cells.{registration};
 ghost use Rattle.network.specs.Clients.{client_history};
 
 use super::*;
-use fdb_calls::{Reply, Request};
+use fdb_calls::{BoxedRequest, Reply, Request};
 use key_bytes::{Bytes, Pairs};
 use request_line::{Receiver, open};
 use std::alloc::{AllocError, Global};
@@ -87,7 +87,7 @@ fn ask<R: Wait>(
 ) -> Result<Told, AllocError>
     ensures { (client_history client.new).room ≡ (client_history client.old).room }
 {
-    let asked = client.call(rt, alloc, request)?;
+    let asked = client.call(rt, alloc, BoxedRequest::new(alloc, request)?)?;
     Ok(told_to(rt, asked))
 }
 
@@ -209,8 +209,10 @@ fn two_machines_are_answered_by_a_thread(rt: HostRuntime) -> Result<(), Fail> {
 fn run_short<R: Wait>(rt: &R, alloc: Global) -> Result<(Told, Told, bool, u64, u64), AllocError> {
     let (sender, mut receiver) = open::<Post>(alloc, 4)?;
     let mut client = Client::new(0, sender);
-    let first = client.call(rt, alloc, Request::PollStamp { life: 0 })?;
-    let second = client.call(rt, alloc, Request::PollStamp { life: 1 })?;
+    let first = BoxedRequest::new(alloc, Request::PollStamp { life: 0 })?;
+    let second = BoxedRequest::new(alloc, Request::PollStamp { life: 1 })?;
+    let first = client.call(rt, alloc, first)?;
+    let second = client.call(rt, alloc, second)?;
     client.over(rt, 0);
     let mut broken = Broken { asked: 0 };
     let served = serve(rt, alloc, &mut receiver, &mut broken);

@@ -3,8 +3,7 @@
 ghost use Rattle.std.specs.Prelude.{◌≡◌, IfOk, IsErr};
 ghost use Rattle.stack_machine.specs.Acts.{polls_for, refusal_of};
 
-use crate::asked::Asked;
-use fdb_calls::Request;
+use fdb_calls::{BoxedRequest, Request};
 use key_bytes::Bytes;
 use machine_rules::{Awaits, End, Wait};
 use stack_items::StackFault;
@@ -18,7 +17,7 @@ pub enum Act {
     /// It stops the machine.
     Stops(End),
     /// It asks a request, whose reply it awaits.
-    Asks(Asked, Awaits),
+    Asks(BoxedRequest, Awaits),
 }
 
 /// What an instruction of this number that was refused comes to: it stops the machine, or polls for the item that waits. Want
@@ -42,7 +41,7 @@ pub fn ask_empty(prefix: &Bytes, polled: u32) -> Result<Act, AllocError>
     let request = Request::PollEmpty {
         prefix: prefix.copy()?,
     };
-    let asked = Asked::new(prefix.allocator(), request)?;
+    let asked = BoxedRequest::new(prefix.allocator(), request)?;
     let prefix = prefix.copy()?;
     Ok(Act::Asks(asked, Awaits::Empty { prefix, polled }))
 }
@@ -52,6 +51,6 @@ fn poll(alloc: Global, life: u64) -> Result<Act, AllocError>
     ensures { IfOk result (λ act. act ≡ polls_for life) }
 {
     let wait = Wait { life, polled: 0 };
-    let asked = Asked::new(alloc, Request::PollStamp { life })?;
+    let asked = BoxedRequest::new(alloc, Request::PollStamp { life })?;
     Ok(Act::Asks(asked, Awaits::Stamp(wait)))
 }

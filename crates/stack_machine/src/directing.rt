@@ -8,8 +8,8 @@ ghost use Rattle.stack_directories.specs.Directing.{said, AreElements, GivesElem
 ghost use Rattle.stack_machine.specs.Acts.{act_with};
 
 use crate::act::Act;
-use crate::asked::Asked;
 use crate::registers::Registers;
+use fdb_calls::BoxedRequest;
 use fdb_tuple::Elem;
 use key_bytes::Bytes;
 use machine_rules::{DirectoryOperation, Object};
@@ -46,7 +46,7 @@ impl Registers {
                 self.fault(number, appends, name)
             }
             Directed::Asks(request, awaits) => {
-                let asked = Asked::new(self.alloc(), request)?;
+                let asked = BoxedRequest::new(self.alloc(), request)?;
                 Ok(Act::Asks(asked, awaits))
             }
         }

@@ -5,7 +5,6 @@
 #![tactic(auto)]
 
 mod act;
-mod asked;
 mod call;
 mod directing;
 mod directory_replies;
@@ -19,7 +18,6 @@ mod registers;
 mod replies;
 mod requests;
 
-pub use asked::Asked;
 pub use errors::Errors;
 pub use machine::{Machine, Step};
 pub use machine_rules::{End, ErrorNote, State};

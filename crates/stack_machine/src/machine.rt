@@ -8,11 +8,10 @@ ghost use Rattle.stack_machine.specs.Pushes.{PushesAnElement};
 ghost use Rattle.stack_machine.specs.Acts.{act_with};
 
 use crate::act::Act;
-use crate::asked::Asked;
 use crate::errors::Errors;
 use crate::instruction::instruction_of;
 use crate::registers::Registers;
-use fdb_calls::Reply;
+use fdb_calls::{BoxedRequest, Reply};
 use key_bytes::{Bytes, Pairs};
 use machine_rules::{Awaits, End, Instruction, State};
 use stack_items::Stack;
@@ -23,7 +22,7 @@ use std::marker::Model;
 #[derive(Debug, Drop)]
 pub enum Step {
     /// The machine asks this, and awaits the reply.
-    Ask(Asked),
+    Ask(BoxedRequest),
     /// It ran an instruction, or used the reply, and is ready to go on.
     Again,
     /// It has stopped.

@@ -13,12 +13,11 @@ ghost use Rattle.stack_machine.specs.Acts.{act_with};
 ghost use Rattle.stack_machine.specs.Pushes.{PushesAnElement};
 
 use crate::act::{Act, ask_empty, refused};
-use crate::asked::Asked;
 use crate::call::call_of;
 use crate::directing::appends;
 use crate::errors::Errors;
 use crate::requests::{awaits_of, request_of};
-use fdb_calls::{Request, TxnCall};
+use fdb_calls::{BoxedRequest, Request, TxnCall};
 use fdb_tuple::Elem;
 use key_bytes::Bytes;
 use machine_rules::{
@@ -204,7 +203,7 @@ impl Registers {
         let popped = operands.popped();
         match self.stack.settle(popped, request) {
             Ok(request) => {
-                let asked = Asked::new(self.alloc, request)?;
+                let asked = BoxedRequest::new(self.alloc, request)?;
                 Ok(Act::Asks(asked, awaits_of(operation)))
             }
             Err(fault) => refused(self.alloc, number, fault),
@@ -230,15 +229,15 @@ impl Registers {
     }
 
     // The request that makes a call in this scope.
-    fn asked_in(&self, scope: Scope, call: TxnCall) -> Result<Asked, AllocError>
+    fn asked_in(&self, scope: Scope, call: TxnCall) -> Result<BoxedRequest, AllocError>
         ensures { IfOk result (λ asked. asked ≡ request_in scope self.now.name call) }
     {
         match scope {
             Scope::Transaction | Scope::Snapshot => {
                 let name = self.name.copy()?;
-                Asked::new(self.alloc, Request::On { name, call })
+                BoxedRequest::new(self.alloc, Request::On { name, call })
             }
-            Scope::Database => Asked::new(self.alloc, Request::Database { call }),
+            Scope::Database => BoxedRequest::new(self.alloc, Request::Database { call }),
         }
     }
 
@@ -306,7 +305,7 @@ impl Registers {
     {
         match self.stack.pop_bytes() {
             Ok(prefix) => {
-                let asked = Asked::new(self.alloc, Request::Start { prefix })?;
+                let asked = BoxedRequest::new(self.alloc, Request::Start { prefix })?;
                 Ok(Act::Asks(asked, Awaits::Start))
             }
             Err(fault) => refused(self.alloc, number, fault),
@@ -342,7 +341,7 @@ impl Registers {
         let copy = prefix.copy()?;
         if let Some(life) = self.stack.batch_life() {
             let wait = Wait { life, polled: 0 };
-            let asked = Asked::new(self.alloc, Request::PollStamp { life })?;
+            let asked = BoxedRequest::new(self.alloc, Request::PollStamp { life })?;
             return Ok(Act::Asks(asked, Awaits::LoggedStamp { prefix: copy, wait }));
         }
         let entries = self.stack.take_log()?;
@@ -351,7 +350,7 @@ impl Registers {
             prefix: copy,
             entries,
         };
-        let asked = Asked::new(self.alloc, request)?;
+        let asked = BoxedRequest::new(self.alloc, request)?;
         Ok(Act::Asks(asked, Awaits::Logged { prefix }))
     }
 

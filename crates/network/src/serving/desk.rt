@@ -61,7 +61,7 @@ impl Desk {
                 machine,
                 request,
                 setter,
-            } => self.answer(service, machine, &request, setter),
+            } => self.answer(service, machine, request.request(), setter),
             Post::Over { machine: _ } => self.over += 1,
         }
     }

@@ -1,0 +1,19 @@
+use super::*;
+use std::alloc::{AllocError, Global};
+use std::test::Fail;
+
+// The life of a request that was put in a block.
+fn life_in_a_block(alloc: Global, life: u64) -> Result<Option<u64>, AllocError> {
+    let boxed = BoxedRequest::new(alloc, Request::PollStamp { life })?;
+    match boxed.request() {
+        Request::PollStamp { life } => Ok(Some(*life)),
+        _ => Ok(None),
+    }
+}
+
+#[test]
+fn a_block_keeps_its_request(rt: HostRuntime) -> Result<(), Fail> {
+    let life = life_in_a_block(rt.alloc(), 7)?;
+    assert!(rt; life == Some(7));
+    Ok(())
+}
