@@ -3,14 +3,16 @@ use Rattle.std.proofs.Common.{◌≡◌, ◌≢◌, ℕ, zero, suc, ◌+◌, ◌
 use Rattle.std.proofs.Math.Nat.{pow-suc, mul-le-mul_right}
 use Rattle.std.proofs.Math.Seq.{take-add}
 use Rattle.std.proofs.lemmas.Bool.{cases_order}
+use Rattle.std.proofs.lemmas.List.{take_all, take-take}
 use Rattle.std.proofs.lemmas.List.Elements.{All-head, All-tail}
 use Rattle.std.specs.Cmp.{ranks}
+use Rattle.std.specs.FinMap.{slice_cmp-IsAntisymmetric, nat_cmp-IsAntisymmetric}
 use Rattle.std.specs.Int.{w64, from_be_bytes}
 use Rattle.std.specs.Ordering.{nat_cmp, ordering_then, MatchOrdering}
 use Rattle.std.specs.declared.cmp.Ordering.{Ordering}
 use Rattle.std.specs.declared.cmp.Ordering.TheVariants.{Less, Equal, Greater}
 use Rattle.key_bytes.specs.Keys.{IsByteString, key_cmp}
-use Rattle.key_bytes.proofs.Orders.{nat_cmp-less, nat_cmp-equal, nat_cmp-greater, key_cmp-append}
+use Rattle.key_bytes.proofs.Orders.{nat_cmp-less, nat_cmp-equal, nat_cmp-greater, key_cmp-append, key_cmp-same_front}
 
 -- ---- the number that bytes write, the highest first
 
@@ -188,13 +190,85 @@ pub first_words_decide : (n m first second : ℕ) (a b : List ℕ) (o : Ordering
 first_words_decide n m first second a b o e zeros_a zeros_b w is differ =
     sym (fronts_decide 8 n m a b o e zeros_a zeros_b differ (words_cmp 0 first second a b w ∙ sym is))
 
--- the second words decide where the first are the same and they differ
-pub second_words_decide : (n m first second third fourth : ℕ) (a b : List ℕ) (o : Ordering) → length a ≡ length b → IsZeroFrom n a
-    → IsZeroFrom m b
-    → HasWords 0 first second a b → nat_cmp first second ≡ Equal → HasWords 8 third fourth a b → o ≡ nat_cmp third fourth → o ≢ Equal → o ≡ key_cmp (take n a) (take m b)
-second_words_decide n m first second third fourth a b o e zeros_a zeros_b w same later is differ =
-    sym (fronts_decide 16 n m a b o e zeros_a zeros_b differ (
+-- where the first words are the same, the second are in the order of the sixteen bytes that both hold
+sixteen_cmp : (first second third fourth : ℕ) (a b : List ℕ) → HasWords 0 first second a b → nat_cmp first second ≡ Equal
+    → HasWords 8 third fourth a b → key_cmp (take 16 a) (take 16 b) ≡ nat_cmp third fourth
+sixteen_cmp first second third fourth a b w same later =
     rw (front_of_two a, front_of_two b) (
     key_cmp-append (take 8 a) (take 8 b) (take 8 (drop 8 a)) (take 8 (drop 8 b)) (w.first_eight ∙ sym w.second_eight)
     ∙ ap (λ (d : Ordering). ordering_then d (key_cmp (take 8 (drop 8 a)) (take 8 (drop 8 b)))) (words_cmp 0 first second a b w ∙ same)
-    ∙ words_cmp 8 third fourth a b later ∙ sym is)))
+    ∙ words_cmp 8 third fourth a b later)
+
+-- the second words decide where the first are the same and they differ
+pub second_words_decide : (n m first second third fourth : ℕ) (a b : List ℕ) (o : Ordering) → length a ≡ length b → IsZeroFrom n a
+    → IsZeroFrom m b
+    → HasWords 0 first second a b → nat_cmp first second ≡ Equal → HasWords 8 third fourth a b
+    → o ≡ nat_cmp third fourth → o ≢ Equal → o ≡ key_cmp (take n a) (take m b)
+second_words_decide n m first second third fourth a b o e zeros_a zeros_b w same later is differ =
+    sym (fronts_decide 16 n m a b o e zeros_a zeros_b differ (sixteen_cmp first second third fourth a b w same later ∙ sym is))
+
+-- ---- rooms whose first two words are the same
+
+-- lists that stand at one place in the order of keys are the same
+same_place : (xs ys : List ℕ) → key_cmp xs ys ≡ Equal → xs ≡ ys
+same_place xs ys tied = slice_cmp-IsAntisymmetric nat_cmp-IsAntisymmetric xs ys tied
+
+-- the first sixteen bytes are the same where the first and the second words are
+pub sixteen_same : (first second third fourth : ℕ) (a b : List ℕ) → HasWords 0 first second a b → nat_cmp first second ≡ Equal
+    → HasWords 8 third fourth a b → nat_cmp third fourth ≡ Equal → take 16 a ≡ take 16 b
+sixteen_same first second third fourth a b w same later same_later =
+    same_place (take 16 a) (take 16 b) (sixteen_cmp first second third fourth a b w same later ∙ same_later)
+
+fourteen_same : (a b : List ℕ) → take 16 a ≡ take 16 b → take 14 a ≡ take 14 b
+fourteen_same a b same = sym (take-take 14 16 a (omega arith)) ∙ ap (take 14) same ∙ take-take 14 16 b (omega arith)
+
+whole_of_two : (room : List ℕ) → take 22 room ≡ take 14 room ++ take 8 (drop 14 room)
+whole_of_two room = take-add 14 8 room
+
+-- the third words are in the order of the whole rooms
+whole_cmp : (fifth sixth : ℕ) (a b : List ℕ) → take 16 a ≡ take 16 b → HasWords 14 fifth sixth a b
+    → key_cmp (take 22 a) (take 22 b) ≡ nat_cmp fifth sixth
+whole_cmp fifth sixth a b same w =
+    rw (whole_of_two a, whole_of_two b) (
+    ap (λ (front : List ℕ). key_cmp (front ++ take 8 (drop 14 a)) (take 14 b ++ take 8 (drop 14 b))) (fourteen_same a b same)
+    ∙ key_cmp-same_front (take 14 b) (take 8 (drop 14 a)) (take 8 (drop 14 b))
+    ∙ words_cmp 14 fifth sixth a b w)
+
+-- the third words decide where they differ
+pub third_words_decide : (n m fifth sixth : ℕ) (a b : List ℕ) (o : Ordering) → length a ≡ length b → IsZeroFrom n a → IsZeroFrom m b
+    → take 16 a ≡ take 16 b → HasWords 14 fifth sixth a b → o ≡ nat_cmp fifth sixth → o ≢ Equal → o ≡ key_cmp (take n a) (take m b)
+third_words_decide n m fifth sixth a b o e zeros_a zeros_b same w is differ =
+    sym (fronts_decide 22 n m a b o e zeros_a zeros_b differ (whole_cmp fifth sixth a b same w ∙ sym is))
+
+-- rooms of 22 bytes are the same where their third words are too
+rooms_same : (fifth sixth : ℕ) (a b : List ℕ) → length a ≡ 22 → length b ≡ 22 → take 16 a ≡ take 16 b → HasWords 14 fifth sixth a b
+    → nat_cmp fifth sixth ≡ Equal → a ≡ b
+rooms_same fifth sixth a b whole_a whole_b same w tied =
+    sym (take_all 22 a (omega arith))
+    ∙ same_place (take 22 a) (take 22 b) (whole_cmp fifth sixth a b same w ∙ tied)
+    ∙ take_all 22 b (omega arith)
+
+-- fronts of one list are in the order of their lengths
+fronts_of_one : (n m : ℕ) (room : List ℕ) → n ≤ length room → m ≤ length room → key_cmp (take n room) (take m room) ≡ nat_cmp n m
+fronts_of_one zero zero room le_n le_m = sym (nat_cmp-equal 0 0 refl)
+fronts_of_one zero (suc m) [] le_n le_m = absurd (omega arith)
+fronts_of_one zero (suc m) (x ∷ room) le_n le_m = sym (nat_cmp-less 0 (suc m) (omega arith))
+fronts_of_one (suc n) m [] le_n le_m = absurd (omega arith)
+fronts_of_one (suc n) zero (x ∷ room) le_n le_m = sym (nat_cmp-greater (suc n) 0 (omega arith))
+fronts_of_one (suc n) (suc m) (x ∷ room) le_n le_m =
+    ap (λ (o : Ordering). ordering_then o (key_cmp (take n room) (take m room))) (nat_cmp-equal x x refl)
+    ∙ fronts_of_one n m room (omega arith) (omega arith)
+    ∙ nat_cmp-shift 1 n m
+    ∙ ap (λ (k : ℕ). nat_cmp k (1 + m)) (one_more n)
+    ∙ ap (nat_cmp (suc n)) (one_more m)
+  where
+    one_more : (k : ℕ) → 1 + k ≡ suc k
+    one_more k = omega arith
+
+-- the lengths decide where all three words are the same
+pub lengths_decide : (n m fifth sixth : ℕ) (a b : List ℕ) (o : Ordering) → length a ≡ 22 → length b ≡ 22 → n ≤ 22 → m ≤ 22
+    → take 16 a ≡ take 16 b → HasWords 14 fifth sixth a b → nat_cmp fifth sixth ≡ Equal
+    → o ≡ nat_cmp n m → o ≡ key_cmp (take n a) (take m b)
+lengths_decide n m fifth sixth a b o whole_a whole_b le_n le_m same w tied is =
+    is ∙ sym (fronts_of_one n m a (omega arith) (omega arith))
+    ∙ ap (λ (room : List ℕ). key_cmp (take n a) (take m room)) (rooms_same fifth sixth a b whole_a whole_b same w tied)

@@ -177,7 +177,7 @@ impl PartialEq for Bytes {
     ghost laws = { partial_equiv_from_equiv nat_list_eq_equiv };
 
     fn eq(&self, other: &Bytes) -> bool {
-        self.as_slice() == other.as_slice()
+        self.form.eq(&other.form)
     }
 }
 

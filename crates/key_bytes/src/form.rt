@@ -1,6 +1,7 @@
 //! The forms of a byte string.
 
-ghost use Rattle.std.specs.Prelude.{◌≡◌, ◌++◌, length, IfOk, OnOk, OnErr};
+ghost use Rattle.std.specs.Prelude.{◌≡◌, ◌++◌, length, IfOk, OnOk, OnErr, nat_eq};
+ghost use Rattle.std.specs.Cmp.Lexicographic.{pointwise};
 ghost use Rattle.key_bytes.specs.Keys.{IsByteString, key_cmp};
 ghost use Rattle.key_bytes.specs.Forms.{items_of};
 
@@ -82,6 +83,16 @@ impl Form {
         match (self, other) {
             (Form::InPlace(short), Form::InPlace(other)) => short.cmp(other),
             _ => self.as_slice().cmp(other.as_slice()),
+        }
+    }
+
+    // Whether the bytes are the same.
+    pub(crate) fn eq(&self, other: &Form) -> bool
+        ensures { result ≡ pointwise nat_eq (items_of self.now) (items_of other.now) }
+    {
+        match (self, other) {
+            (Form::InPlace(short), Form::InPlace(other)) => short.cmp(other).is_eq(),
+            _ => self.as_slice() == other.as_slice(),
         }
     }
 }

@@ -87,7 +87,8 @@ impl Short {
         &self.room[..usize::from(self.len)]
     }
 
-    // Which of two stands first in the order of keys.
+    // Which of two stands first in the order of keys. The second and the third word share two bytes, so that three words
+    // hold the whole room; where all three are the same, the longer one goes on with zeros and stands later.
     pub(crate) fn cmp(&self, other: &Short) -> Ordering
         ensures { result ≡ key_cmp self.now other.now }
     {
@@ -99,7 +100,11 @@ impl Short {
         if second.is_ne() {
             return second;
         }
-        self.as_slice().cmp(other.as_slice())
+        let third = word_at(&self.room, 14).cmp(&word_at(&other.room, 14));
+        if third.is_ne() {
+            return third;
+        }
+        self.len.cmp(&other.len)
     }
 }
 
