@@ -61,7 +61,7 @@ module _ {X : Type 0} where
 abbrev IsAtOrAmong : {X : Type 0} → List ℕ → List ℕ → List (List ℕ × X) → Type 0
 IsAtOrAmong b q es = (key_lt q b ≡ false) ⊎ (is_among b es ≡ true)
 
-not_above : (q r b : List ℕ) → key_lt q r ≡ true → key_lt q b ≡ false → key_lt r b ≡ false
+pub not_above : (q r b : List ℕ) → key_lt q r ≡ true → key_lt q b ≡ false → key_lt r b ≡ false
 not_above q r b lower at = elim (key_lt r b) as (λ t. key_lt r b ≡ t → t ≡ false) [
   | true ↦ λ above. absurd (true≢false (sym (lt_trans q r b lower above) ∙ at))
   | false ↦ λ _. refl

@@ -1,9 +1,13 @@
 -- What ranges of the places tell of the edges: what a key has, and which edge stands next to it.
-use Rattle.std.proofs.Common.{◌≡◌, ℕ, ◌<◌, Bool, true, false, cond, not, List, [], ◌∷◌, ◌++◌, get_or, Option, Some, None, is_some, refl, sym, ap, subst, ◌∙◌}
+use Rattle.std.proofs.Common.{◌≡◌, ℕ, ◌<◌, Bool, true, false, cond, not, ◌&&◌, List, [], ◌∷◌, ◌++◌, length, get_or, Option, Some, None, is_some, refl, sym, ap, subst, ◌∙◌}
 use Rattle.std.proofs.Math.Bool.{and-true}
+use Rattle.std.proofs.Math.ListN.{set}
+use Rattle.std.proofs.lemmas.List.{get_or_default}
 use Rattle.std.specs.BTreeMap.{is_at}
 use Rattle.std.specs.BTreeMap.Range.{range_contains}
+use Rattle.std.proofs.lemmas.List.Kept.{IsStrictlySortedBy-filter}
 use Rattle.std.specs.List.{filter}
+use Rattle.std.specs.List.Sorted.{IsStrictlySortedBy}
 use Rattle.std.specs.Map.{keys_of, lookup}
 use Rattle.std.specs.Option.{option_map, option_map_or, unwrap_or}
 use Rattle.std.specs.Ordering.{is_eq, is_lt}
@@ -13,13 +17,13 @@ use Rattle.std.proofs.lemmas.Map.Lookups.{exact_bytes}
 use Rattle.std.proofs.lemmas.Map.Views.{tells_apart}
 use Rattle.edge_map.proofs.Edged.{none_at}
 use Rattle.std.specs.declared.ops.Bound.TheVariants.{Included, Excluded, Unbounded}
-use Rattle.key_bytes.specs.Keys.{key_cmp, key_le, key_lt}
+use Rattle.key_bytes.specs.Keys.{key_cmp, key_le, key_lt, within}
 use Rattle.key_map.specs.Ends.{first, last}
 use Rattle.key_map.proofs.Spans.{last-append, range_contains-below}
 use Rattle.edge_map.specs.Edges.{held_from}
 use Rattle.edge_map.specs.Places.{laid_out, AreInside}
-use Rattle.edge_map.proofs.Held.{IsBelow, IsRising, is_among, rising_below, rising_rest, below_lower}
-use Rattle.edge_map.proofs.Placed.{Places, lookup-laid_out}
+use Rattle.edge_map.proofs.Held.{IsBelow, IsRising, is_among, rising_below, rising_rest, below_lower, not_above}
+use Rattle.edge_map.proofs.Placed.{Places, lookup-laid_out, set_all}
 
 -- ---- ends of lists
 
@@ -203,3 +207,47 @@ pub found_inside : (p : List ℕ × ℕ → Bool) (len : ℕ) (es span rest : Pl
     → span ≡ rest ++ e ∷ [] → AreInside len es → e.1 < len
 found_inside p len es span rest e between ends inside =
     inside_append len rest e (subst (AreInside len) (sym between ∙ ends) (inside_filter p len es inside))
+
+-- the edges of a part rise
+pub rising_filter : (p : List ℕ → Bool) (es : Places) → IsRising es → IsRising (filter (λ e. p e.0) es)
+rising_filter p es rising =
+    subst (IsStrictlySortedBy key_cmp) (sym (keys_of-filter p es)) (IsStrictlySortedBy-filter key_cmp p (keys_of es) rising)
+
+-- ---- the places from a key on, up to an end
+
+filter_both : (p q : List ℕ × ℕ → Bool) (es : Places) → filter p (filter q es) ≡ filter (λ e. q e && p e) es
+filter_both p q [] = refl
+filter_both p q (e ∷ es) = elim (q e)
+    as (λ t. filter p (cond t (e ∷ filter q es) (filter q es)) ≡ cond (t && p e) (e ∷ filter (λ e. q e && p e) es) (filter (λ e. q e && p e) es)) [
+      | true ↦ ap (λ rest. cond (p e) (e ∷ rest) rest) (filter_both p q es)
+      | false ↦ filter_both p q es
+    ]
+
+-- the places that are less than an end
+abbrev pub before : List ℕ → Places → Places
+before end es = filter (λ e. key_lt e.0 end) es
+
+pub before_within : (begin end : List ℕ) (es : Places)
+    → before end (filter (λ e. key_le begin e.0) es) ≡ filter (λ e. within begin end e.0) es
+before_within begin end es = filter_both (λ e. key_lt e.0 end) (λ e. key_le begin e.0) es
+
+before_first : (end : List ℕ) (e : List ℕ × ℕ) (es : Places) → key_lt e.0 end ≡ true → before end (e ∷ es) ≡ e ∷ before end es
+before_first end e es below = ap (λ t. cond t (e ∷ before end es) (before end es)) below
+
+none_past : (end key : List ℕ) (es : Places) → key_lt key end ≡ false → IsBelow key es → before end es ≡ []
+none_past end key [] past below = refl
+none_past end key (e ∷ es) past below =
+    ap (λ t. cond t (e ∷ before end es) (before end es)) (not_above key e.0 end below.0 past) ∙ none_past end key es past below.1
+
+-- where the first isn't less than the end none is
+pub before_none : (end : List ℕ) (e : List ℕ × ℕ) (es : Places) → IsRising (e ∷ es) → key_lt e.0 end ≡ false → before end (e ∷ es) ≡ []
+before_none end e es rising past =
+    ap (λ t. cond t (e ∷ before end es) (before end es)) past ∙ none_past end e.0 es past (rising_below e.0 e.1 es rising)
+
+-- where the first is, its thing changes, and then those of the others
+pub set_first : {X : Type 0} (base : X) (end : List ℕ) (f : X → X) (e : List ℕ × ℕ) (rest left : Places) (levels : List X) (old new : X)
+    → left ≡ e ∷ rest → key_lt e.0 end ≡ true → e.1 < length levels → old ≡ get_or levels e.1 old → new ≡ f old
+    → set_all base f (before end rest) (set levels e.1 new) ≡ set_all base f (before end left) levels
+set_first base end f e rest left levels old new begins below inside was is =
+    ap (λ x. set_all base f (before end rest) (set levels e.1 x)) (is ∙ ap f (was ∙ get_or_default levels e.1 old base inside))
+    ∙ sym (ap (λ es. set_all base f es levels) (ap (before end) begins ∙ before_first end e rest below))

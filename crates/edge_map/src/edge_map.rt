@@ -198,8 +198,8 @@ impl<T> EdgeMap<T> {
         mem::replace(&mut self.levels[place], level)
     }
 
-    /// Changes what each edge from `begin` on has that is less than `end`. It takes no memory, and one write for each such
-    /// edge.
+    /// Changes what each edge from `begin` on has that is less than `end`. It takes no memory, one search, and one write for each
+    /// such edge.
     pub fn change<C: Change<T>>(&mut self, begin: &Key, end: &Key, change: &C)
         ensures { self.new
             ≡ changed (within begin.now end.now) (C.changed change.now) self.old }

@@ -9,7 +9,7 @@ use crate::change::Change;
 use key_bytes::{Bytes, Key};
 use std::collections::BTreeMap;
 
-// Changes what lies at the places of the edges from `begin` on that are less than `end`.
+// Changes what lies at the places of the edges from `begin` on that are less than `end`: one search of the edges.
 pub(crate) fn change_between<T, C: Change<T>>(
     places: &BTreeMap<Bytes, usize>,
     levels: &mut Vec<T>,
@@ -23,10 +23,10 @@ pub(crate) fn change_between<T, C: Change<T>>(
         (laid_out base levels.old.items places.now.entries) }
     ensures len { length levels.new.items ≡ length levels.old.items }
 {
-    if !begin.cmp(end).is_lt() {
-        return;
-    }
-    for (_, place) in places.range(begin..end) {
+    for (edge, place) in places.range(begin..) {
+        if !edge.cmp(end).is_lt() {
+            return;
+        }
         change.change(&mut levels[*place]);
     }
 }
