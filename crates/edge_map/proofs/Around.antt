@@ -1,11 +1,14 @@
 -- What the places from a key on tell: what the key has where it is an edge, and the first edge above it.
-use Rattle.std.proofs.Common.{◌≡◌, ℕ, true, false, cond, List, [], ◌∷◌, None, Some, refl, sym, ap, subst, ◌∙◌, true≢false}
+use Rattle.std.proofs.Common.{◌≡◌, ℕ, true, false, cond, List, [], ◌∷◌, None, Some, bytes_eq, refl, sym, ap, subst, ◌∙◌, true≢false}
 use Rattle.std.proofs.Math.Bool.{and-true}
 use Rattle.std.proofs.lemmas.Map.Lookups.{exact_bytes}
+use Rattle.std.proofs.lemmas.Map.Text.{is_eq-slice_cmp}
 use Rattle.std.proofs.lemmas.Map.Views.{tells_apart}
 use Rattle.std.proofs.lemmas.Option.{same_Some, none-some}
 use Rattle.std.specs.BTreeMap.{is_at}
 use Rattle.std.specs.BTreeMap.Range.{range_contains}
+use Rattle.std.specs.Cmp.{eq_by_cmp_equiv}
+use Rattle.std.specs.Cmp.Lexicographic.{nat_list_cmp_total}
 use Rattle.std.specs.List.{filter}
 use Rattle.std.specs.Map.{keys_of, lookup}
 use Rattle.std.specs.Ordering.{is_eq, is_le, is_lt}
@@ -19,6 +22,10 @@ use Rattle.edge_map.specs.Places.{laid_out}
 use Rattle.edge_map.proofs.Held.{IsBelow, IsRising, rising_below, rising_rest}
 use Rattle.edge_map.proofs.Placed.{Places}
 use Rattle.edge_map.proofs.Spans.{keys_of-laid_out}
+
+-- a key compares as equal to an edge that has the same text
+pub same_text : (key edge : List ℕ) → is_at (key_cmp key) edge ≡ bytes_eq edge key
+same_text key edge = (eq_by_cmp_equiv nat_list_cmp_total).symm key edge ∙ is_eq-slice_cmp edge key
 
 module _ (k : List ℕ) where
   -- the places from the key on, and the edges above it

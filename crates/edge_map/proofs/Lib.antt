@@ -1,5 +1,6 @@
 pub mod Around
 pub mod Edged
+pub mod FirstTwo
 pub mod Held
 pub mod Neighbours
 pub mod Placed

@@ -5,7 +5,7 @@ ghost use Rattle.std.specs.BTreeMap.{is_at};
 ghost use Rattle.std.specs.List.{filter};
 ghost use Rattle.std.specs.List.Sorted.{IsStrictlySortedBy};
 ghost use Rattle.std.specs.Option.{option_map};
-ghost use Rattle.key_bytes.specs.Keys.{key_cmp, key_lt, within};
+ghost use Rattle.key_bytes.specs.Keys.{key_cmp, key_le, key_lt, within};
 ghost use Rattle.key_map.specs.Ends.{first, last};
 
 use crate::change::Change;
@@ -56,6 +56,7 @@ fn edge_of<'a>(found: Option<(&'a Bytes, &'a usize)>) -> Option<&'a Key>
 
 impl<T> EdgeMap<T> {
     ghost use Rattle.edge_map.specs.Edges.{changed, edges_of, held, is_edge, with_edge, without_edge};
+    ghost use Rattle.edge_map.specs.FirstTwo.{are_first_two};
 
     /// The map without an edge: each key has `base`. It takes no memory.
     pub fn new(alloc: Global, base: T) -> EdgeMap<T>
@@ -83,6 +84,24 @@ impl<T> EdgeMap<T> {
         ensures { result ≡ is_edge key.now self.now }
     {
         self.places.contains_key(key)
+    }
+
+    /// Whether `begin` is an edge and `end` is the next one: that the first two edges from `begin` on are these two. One search
+    /// of the edges; it takes no memory.
+    pub fn has_neighbours(&self, begin: &Key, end: &Key) -> bool
+        ensures { result ≡ are_first_two begin.now end.now (filter (λ e. key_le begin.now e.0) self.now.entries) }
+    {
+        let mut span = self.places.range(begin..);
+        let Some((edge, _)) = span.next() else {
+            return false;
+        };
+        if edge != begin {
+            return false;
+        }
+        match span.next() {
+            Some((next, _)) => next == end,
+            None => false,
+        }
     }
 
     /// The first edge above a key, if there is one. It takes no memory.

@@ -92,6 +92,21 @@ fn raises_ranges(rt: HostRuntime) -> Result<(), Fail> {
     Ok(())
 }
 
+// Whether two keys are edges next to each other.
+fn are_neighbours(alloc: Global, begin: &[u8], end: &[u8]) -> Result<bool, AllocError> {
+    let map = raised(alloc)?;
+    let (begin, end) = (key_of(alloc, begin)?, key_of(alloc, end)?);
+    Ok(map.has_neighbours(&begin, &end))
+}
+
+#[test]
+fn knows_neighbours(rt: HostRuntime) -> Result<(), Fail> {
+    assert!(rt; are_neighbours(rt.alloc(), b"b", b"c")?);
+    assert!(rt; !are_neighbours(rt.alloc(), b"b", b"d")?);
+    assert!(rt; !are_neighbours(rt.alloc(), b"ab", b"b")?);
+    Ok(())
+}
+
 // The edges of a walk as text: each with the lowest byte of what it has.
 fn walked(alloc: Global, edges: EdgesLeft<'_, u64>) -> Result<Bytes, AllocError> {
     let mut text = Bytes::new(alloc);

@@ -1,9 +1,6 @@
-use Rattle.std.proofs.Common.{◌≡◌, ℕ, List, Option, None, Some, length, bytes_eq, sym, ap, ◌∙◌, arith}
+use Rattle.std.proofs.Common.{◌≡◌, ℕ, List, Option, None, Some, length, sym, ap, ◌∙◌, arith}
 use Rattle.std.proofs.lemmas.List.{get_or_default}
-use Rattle.std.proofs.lemmas.Map.Text.{is_eq-slice_cmp}
 use Rattle.std.specs.BTreeMap.{is_at}
-use Rattle.std.specs.Cmp.{eq_by_cmp_equiv}
-use Rattle.std.specs.Cmp.Lexicographic.{nat_list_cmp_total}
 use Rattle.std.specs.List.{filter}
 use Rattle.std.specs.Map.{keys_of}
 use Rattle.std.specs.Map.Iter.{TakesFirst, deref_pair}
@@ -12,15 +9,11 @@ use denote.Bor.{Bor}
 use Rattle.key_bytes.specs.Keys.{key_cmp, key_lt}
 use Rattle.key_map.specs.Ends.{first}
 use Rattle.edge_map.specs.Edges.{edges_of, held}
-use Rattle.edge_map.proofs.Around.{above-there, above-other, above-none}
+use Rattle.edge_map.proofs.Around.{above-there, above-other, above-none, same_text}
 use Rattle.edge_map.proofs.Held.{held-at}
 use Rattle.edge_map.proofs.Placed.{Places, inside_found, lookup-laid_out}
 use Rattle.edge_map.proofs.Spans.{rising-laid_out}
 use Rattle.edge_map.proofs.edge_map.EdgeMap.around.Goals as goal
-
--- a key compares as equal to an edge that has the same text
-same_text : (key edge : List ℕ) → is_at (key_cmp key) edge ≡ bytes_eq edge key
-same_text key edge = (eq_by_cmp_equiv nat_list_cmp_total).symm key edge ∙ is_eq-slice_cmp edge key
 
 -- the edge of the place that was taken is the first one
 first_edge : (es rest : Places) (taken : Option (Bor (List ℕ) × Bor ℕ)) → TakesFirst deref_pair es taken rest
