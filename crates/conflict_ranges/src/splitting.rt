@@ -19,7 +19,8 @@ fn join<T: Drop>(edges: &mut EdgeMap<T>, key: &Key, is_new: bool)
     }
 }
 
-// Makes two keys edges, which changes what no key has. After a refusal the edges are as they were.
+// Makes two keys edges, which changes what no key has: one search where they are edges with none between, and else three or
+// more. After a refusal the edges are as they were.
 pub(crate) fn split_both<T: Spread + Drop>(
     edges: &mut EdgeMap<T>,
     begin: &Key,
@@ -30,6 +31,10 @@ pub(crate) fn split_both<T: Spread + Drop>(
     ensures err { OnErr result (edges.new ≡ edges.old) }
     ensures rising { OnOk result (IsStrictlySortedBy key_cmp (edges_of edges.new)) }
 {
+    if edges.has_neighbours(begin, end) {
+        edges.shows_rising();
+        return Ok(());
+    }
     let is_new = edges.split(begin)?;
     match edges.split(end) {
         Ok(_) => {

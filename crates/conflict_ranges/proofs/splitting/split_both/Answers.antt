@@ -1,6 +1,12 @@
-use Rattle.std.proofs.Common.{ap, ◌∙◌}
+use Rattle.std.proofs.Common.{arith, refl, sym, ap, ◌∙◌}
+use Rattle.edge_map.proofs.FirstTwo.{both_edges}
 use Rattle.conflict_ranges.proofs.Splits.{split_at, is_split_at, joined}
 use Rattle.conflict_ranges.proofs.splitting.split_both.Goals as goal
+
+pub returns-then-has_neighbours-clause-ok : goal.returns-then-has_neighbours-clause-ok
+returns-then-has_neighbours-clause-ok g c =
+    let both = both_edges c.args.begin.now c.args.end.now c.args.edges.now (sym c.has_neighbours.ensures ∙ c.if-has_neighbours.true) in
+    record { same = λ k. refl; kept = λ edge there. there; begins = both.0; ends = both.1; few = omega arith }
 
 pub returns-in-Ok-clause-ok : goal.returns-in-Ok-clause-ok
 returns-in-Ok-clause-ok g c =
