@@ -48,7 +48,8 @@ fn join(levels: &mut EdgeMap<Level>, key: &Key, is_new: bool)
     }
 }
 
-// Makes two keys edges. After a refusal the levels are as they were.
+// Makes two keys edges: one search where they are edges with none between, and else three or more. After a refusal the levels
+// are as they were.
 pub(crate) fn split_both(
     levels: &mut EdgeMap<Level>,
     begin: &Key,
@@ -58,6 +59,10 @@ pub(crate) fn split_both(
     ensures err { OnErr result (levels.new ≡ levels.old) }
     ensures rising { OnOk result (IsStrictlySortedBy key_cmp (edges_of levels.new)) }
 {
+    if levels.has_neighbours(begin, end) {
+        levels.shows_rising();
+        return Ok(());
+    }
     let is_new = levels.split(begin)?;
     match levels.split(end) {
         Ok(_) => {
