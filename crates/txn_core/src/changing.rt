@@ -1,12 +1,13 @@
-//! What the writes of a transaction change, by one walk along the edges of its pending mutations.
+//! What the writes of a transaction change, by one walk along the edges of its pending mutations; where it set one key, and no
+//! more, that is the one change.
 //!
 //! All keys of a segment, from an edge up to the next, have one state. Where that is a value or a list of atomic
 //! operations the segment has one key, and one change; where they have no value each key that is stored there is
 //! removed; else nothing changes. So the keys of the changes rise.
 
-ghost use Rattle.std.specs.Prelude.{◌≡◌, true, false, [], ◌∷◌, ◌++◌, Some, IfOk, OnOk, IsTrue, option_copied};
+ghost use Rattle.std.specs.Prelude.{◌≡◌, true, false, [], ◌∷◌, ◌++◌, Some, IfOk, IfSome, OnOk, IsTrue, option_copied};
 ghost use Rattle.std.specs.List.{All};
-ghost use Rattle.database_rules.specs.Databases.{do_all};
+ghost use Rattle.database_rules.specs.Databases.{Set, do_all};
 ghost use Rattle.database_rules.specs.KeyByKey.{is_modified_by};
 ghost use Rattle.database_rules.specs.States.{Decided, all_filled, covers, state_under, unreadable};
 ghost use Rattle.ryw_view.specs.Segments.{IsSegment};
@@ -15,13 +16,14 @@ ghost use Rattle.version_store.specs.Changed.{changed, is_above};
 ghost use Rattle.version_store.specs.Versions.{at, last_of};
 ghost use Rattle.txn_core.specs.Changing.{LeadUpTo};
 ghost use Rattle.write_map.specs.Answers.{IsStateUnder};
+ghost use Rattle.write_map.specs.Mutations.{mutations_of};
 
 use crate::txn::Txn;
 use key_bytes::{Bytes, Key};
 use ryw_view::{View, applied};
 use std::alloc::AllocError;
 use version_store::{Change, Changes, Store};
-use write_map::{KeyState, WriteMap};
+use write_map::{KeyState, Mutation, WriteMap};
 
 // Adds a change of a key above those of all others.
 fn push(changes: &mut Changes, key: &Key, value: Option<Bytes>) -> Result<(), AllocError>
@@ -135,13 +137,38 @@ impl Txn {
     }
 }
 
-// What leads from the map at the last version to that map after mutations without a versionstamp.
+// The key and the value of the one mutation, where there is one alone and it sets a key.
+fn only_set(mutations: &[Mutation]) -> Option<(&Key, &Bytes)>
+    ensures { IfSome result (λ set. mutations_of mutations.now ≡ Set set.0.now set.1.now ∷ []) }
+{
+    match mutations {
+        [Mutation::Set { key, value }] => Some((key, value)),
+        _ => None,
+    }
+}
+
+// The one change that sets a key.
+fn change_of_set(key: &Key, value: &Bytes) -> Result<Changes, AllocError>
+    ensures { IfOk result (λ changes. changes ≡ (key.now, Some value.now) ∷ []) }
+{
+    let mut changes = Changes::new(key.allocator());
+    let value = value.copy()?;
+    push(&mut changes, key, Some(value))?;
+    Ok(changes)
+}
+
+// What leads from the map at the last version to that map after mutations without a versionstamp. One mutation that sets a key
+// takes no walk.
 fn changes_at_last(edits: &WriteMap, store: &Store) -> Result<Changes, AllocError>
     requires readable { unreadable edits.now.mutations ≡ [] }
     ensures only { IfOk result (λ changes. All (λ change. is_modified_by edits.now.mutations change.0 ≡ true) changes) }
     ensures leads { IfOk result (λ changes. changed changes (at store.now (last_of store.now))
         ≡ do_all edits.now.mutations (at store.now (last_of store.now))) }
 {
+    if let Some((key, value)) = only_set(edits.mutations()) {
+        let changes = change_of_set(key, value)?;
+        return Ok(changes);
+    }
     let view = View {
         edits,
         store,
