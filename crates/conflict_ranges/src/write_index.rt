@@ -81,8 +81,8 @@ impl WriteIndex {
         newest
     }
 
-    /// Makes the ends of the ranges edges, so that `install` needs no memory. Each key keeps its version, after a refusal
-    /// too.
+    /// Makes the ends of the ranges edges, so that `install` needs no memory: one search for a range whose ends are edges with none
+    /// between, and five at most for any other. Each key keeps its version, after a refusal too.
     pub fn reserve(&mut self, ranges: &RangeSet) -> Result<(), AllocError>
         ensures same { (key : List ℕ) → newest_at self.new key ≡ newest_at self.old key }
         ensures room { OnOk result (HasRoom self.new ranges.now) }
@@ -93,8 +93,8 @@ impl WriteIndex {
         Ok(())
     }
 
-    /// Gives the keys of the ranges this version, after room was made for them. It takes no memory, and one write for each
-    /// edge in the ranges.
+    /// Gives the keys of the ranges this version, after room was made for them. It takes no memory, one search for each
+    /// range, and one write for each edge in it.
     pub fn install(&mut self, ranges: RangeSet, version: u64)
         requires { HasRoom self.old ranges }
         ensures { (key : List ℕ) → newest_at self.new key

@@ -154,7 +154,7 @@ impl WriteMap {
         self.levels.prev(key)
     }
 
-    // Adds a mutation of one key, after which it has this state. It searches the edges five times at most, and twice more
+    // Adds a mutation of one key, after which it has this state. It searches the edges six times at most, and twice more
     // where the key is unreadable. After a refusal the map is as it was.
     fn put(&mut self, mutation: Mutation, key: &Key, state: State) -> Result<(), AllocError>
         requires one { IsOn key.now (mutation_of mutation) }
@@ -196,7 +196,7 @@ impl WriteMap {
         self.put(Mutation::Clear { key: own }, &key, State::Decided(None))
     }
 
-    /// Clears the keys of a range: one mutation more. It searches the edges five times at most, and writes once for each edge
+    /// Clears the keys of a range: one mutation more. It searches the edges six times at most, and writes once for each edge
     /// in the range. After a refusal the map is as it was (API reference, "fdb_transaction_clear_range").
     pub fn clear_range(&mut self, range: &KeyRange) -> Result<(), AllocError>
         ensures added { OnOk result (self.new.mutations
