@@ -3,6 +3,7 @@ use denote.Param.Send.{IsSend, sendable}
 use Rattle.std.proofs.Crossing.{crosses}
 use Rattle.key_bytes.proofs.bytes.Bytes.TheSendSync.{the_send as bytes_send, the_sync as bytes_sync}
 use Rattle.fdb_calls.proofs.Reply.TheSendSync.{the_field_send as reply_send}
+use Rattle.fdb_calls.proofs.boxed_request.BoxedRequest.TheSendSync.{the_send as request_send}
 use Rattle.fdb_tuple.proofs.text.Text.TheSendSync.{the_send as text_send, the_sync as text_sync}
 use Rattle.fdb_tuple.proofs.tuple.Versionstamp.TheSendSync.{the_field_send as stamp_send, the_field_sync as stamp_sync}
 use Rattle.fdb_tuple.proofs.tuple.Tuple.TheLaws.TheKnot.{both_send-Elem, both_send-Tuple}
@@ -17,7 +18,6 @@ use Rattle.machine_rules.specs.contracts.ItemValue as item_value
 use Rattle.network.proofs.client.Client.TheSendSync.{the_field_send as client_send}
 use Rattle.stack_directories.proofs.directories.Directories.TheSendSync.{the_send as directories_send}
 use Rattle.stack_items.specs.contracts.stack.Stack as stack
-use Rattle.stack_machine.proofs.asked.Asked.TheSendSync.{the_send as asked_send}
 use Rattle.stack_machine.specs.contracts.machine.Machine as machine
 use Rattle.stack_machine.specs.contracts.registers.Registers as registers
 use Rattle.machine_seat.specs.contracts.seat.Seat as seat
@@ -42,7 +42,7 @@ machine_send : IsSend (machine.the_field).row
 machine_send = search (sendable, crosses, bytes_send, registers_send, state_send) depth 30
 
 seat_send : IsSend (seat.the_field).row
-seat_send = search (sendable, crosses, machine_send, asked_send) depth 12
+seat_send = search (sendable, crosses, machine_send, request_send) depth 12
 
 pub threaded_send : IsSend (threaded.the_field).row
 threaded_send = search (sendable, crosses, seat_send, client_send, waiter_send, reply_send, wake_send) depth 12

@@ -3,7 +3,7 @@ use Rattle.fdb_calls.specs.declared.Reply.{Reply}
 use Rattle.future_cell.specs.declared.waiter.Waiter.{Waiter}
 use Rattle.future_cell.specs.declared.wake.Wake.{Wake}
 use Rattle.machine_rules.specs.Machines.{resumed}
-use Rattle.machine_rules.specs.Runs.{at_rest, started_by}
+use Rattle.machine_rules.specs.Runs.{at_rest, start_prefix, started_by}
 use Rattle.machine_threads.specs.declared.threaded.ThreadedMachine.{ThreadedMachine}
 use Rattle.machine_threads.proofs.Running.{AskedOnce, runs_on, later_by_one, started_by_it}
 use Rattle.machine_threads.proofs.threaded.ThreadedMachine.ask.Given.{Over}
@@ -41,5 +41,6 @@ returns-clause-later g c = later_by_one c.args.self.now _ _ _ _ (asked_once g c)
 pub returns-clause-started : goal.returns-clause-started
 returns-clause-started g c =
     let heard = c.in_ok-waiter.ensures.heard in
-    started_by_it c.args.self.now (after g c) _ _ _ (asked_once g c) c.in_ok-prefix.prefix c.in_ok-waiter.started c.in_ok-prefix.ensures
+    started_by_it c.args.self.now (after g c) _ _ _ (asked_once g c) c.in_ok-prefix.prefix c.in_ok-waiter.started
+    (c.in_ok-prefix.ensures ∙ ap start_prefix c.request-2.ensures)
     (heard.3 ∙ ap (λ m. started_by c.in_ok-prefix.prefix m.machine.polls heard.0) c.hand_over-request.ensures.machine) c.in_ok-waiter.ensures.started
