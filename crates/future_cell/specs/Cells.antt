@@ -58,6 +58,10 @@ module _ {V C : Type 0} where
   abbrev pub Waited : Waiter V C → Waiter V C → Type 0
   Waited old new = (waiter_cell new ≡ waiter_cell old) × (registration new ≢ No) × IfSome (shown old) (λ v. shown new ≡ Some v)
 
+  -- the same waiter after it waited, or was refused: what it showed it still shows
+  abbrev pub Awaited : Waiter V C → Waiter V C → Type 0
+  Awaited old new = (waiter_cell new ≡ waiter_cell old) × IfSome (shown old) (λ v. shown new ≡ Some v)
+
 module _ {V : Type 0} where
   -- the value of a settled cell, and how many callbacks ran
   abbrev pub settled_value : Settled V → V

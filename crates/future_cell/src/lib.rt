@@ -31,8 +31,9 @@
 //! - `on_ready` answers `Parked` exactly where its one look found `EMPTY`, and `RanHere` exactly where it found `SET`.
 //! - `settle` gives the value that was set, which is the value that was shown. The receipt's `ran` is true exactly where
 //!   `on_ready` answered `Parked`. The settled `ran` is 1 where a callback was registered, and 0 where none was.
-//! - After `wait` the value is shown, and a callback is registered.
-//! - Only `pair` and `wakes` take memory, and nothing else can fail.
+//! - After `wait` the value is shown, and a callback is registered. After `wait_in` the value is shown, or memory was wanting and
+//!   none is registered.
+//! - Only `pair`, `wakes` and `wait_in` take memory, and nothing else can fail.
 //!
 //! None of `set`, `on_ready`, `peek` and `settle` takes a handle to wait by, so none of them takes a lock.
 //!

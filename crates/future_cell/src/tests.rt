@@ -49,6 +49,59 @@ fn a_thread_sleeps_until_the_value_is_there(rt: HostRuntime) -> Result<(), Fail>
     Ok(())
 }
 
+// What a waiter shows that waits once the value was set, and what became of its callback.
+fn waited_after_the_value<R: Wait>(rt: &R, alloc: Global) -> Result<(u64, Registered), AllocError> {
+    let (setter, mut waiter) = pair::<u64, Wake>(alloc)?;
+    let _receipt = setter.set(7);
+    let shown = *waiter.wait_in(rt, alloc)?;
+    Ok((shown, waiter.registered()))
+}
+
+// One thread waits, with a wake and a sleeper of its own if need be, while another sets a value: what was settled.
+fn waited_beside<R: Threads + Wait + Sync>(
+    rt: &R,
+    alloc: Global,
+    value: u64,
+) -> Result<u64, AllocError> {
+    let (setter, waiter) = pair::<u64, Wake>(alloc)?;
+    let (waited, receipt) = join(
+        rt,
+        move || -> Result<Waiter<u64, Wake>, AllocError>
+            requires { registration waiter ≡ No }
+            ensures { IfOk result (λ waited. waiter_cell waited ≡ waiter_cell waiter) }
+        { waited_in(rt, alloc, waiter) },
+        move || -> Receipt<u64, Wake>
+            ensures { receipt_cell result ≡ setter_cell setter }
+        { setter.set(value) },
+    );
+    Ok(settle(receipt, waited?).into_value())
+}
+
+fn waited_in<R: Wait>(
+    rt: &R,
+    alloc: Global,
+    mut waiter: Waiter<u64, Wake>,
+) -> Result<Waiter<u64, Wake>, AllocError>
+    requires { registration waiter ≡ No }
+    ensures { IfOk result (λ waited. waiter_cell waited ≡ waiter_cell waiter) }
+{
+    waiter.wait_in(rt, alloc)?;
+    Ok(waiter)
+}
+
+// No clause says that nothing is registered where the value is there at once.
+#[test]
+fn a_wait_registers_only_where_it_has_to_sleep(rt: HostRuntime) -> Result<(), Fail> {
+    assert_eq!(rt;
+        waited_after_the_value(&rt, rt.alloc())?,
+        (7, Registered::No)
+    );
+    for round in 0..1000 {
+        assert_eq!(rt; waited_beside(&rt, rt.alloc(), round)?, round);
+    }
+    Ok(())
+}
+
 // A callback that counts how often it ran.
 #[derive(Drop)]
 struct Raise {

@@ -39,14 +39,14 @@ impl Call for Wake {
 }
 
 impl<V> Waiter<V, Wake> {
-    ghost use Rattle.std.specs.Prelude.{◌≡◌, Some, IsSome, ⊤};
+    ghost use Rattle.std.specs.Prelude.{◌≡◌, Some, IsSome, MatchResult, ⊤};
     ghost use Rattle.std.specs.Borrow.{sem};
     ghost use mathlib.Core.Option.{none};
     ghost use denote.Follow.{follows_so};
     ghost use Rattle.future_cell.specs.contracts.waiter.Waiter.{the_row};
     ghost use Rattle.future_cell.specs.contracts.wake.Wake.{the_row as wake_row};
     ghost use Rattle.future_cell.specs.declared.callback.Registered.TheVariants.{No};
-    ghost use Rattle.future_cell.specs.Cells.{shown, registration, Peeked, Waited};
+    ghost use Rattle.future_cell.specs.Cells.{shown, registration, Awaited, Peeked, Waited};
 
     /// Looks for the value for a while, registers the wake, and then sleeps and looks again until the value is there. It takes no
     /// memory, and may wait for ever.
@@ -55,9 +55,33 @@ impl<V> Waiter<V, Wake> {
         ensures* after { sem 𝓛 (follows_so (the_row V.row wake_row) (the_row V.row wake_row) self.entry.ghost_name none (λ _ _. ⊤) (λ n. Waited self.old n × (shown n ≡ Some result.now))) }
     {
         self.watch();
+        self.register_and_sleep(rt, wake, sleeper);
+        self.shown_value()
+    }
+
+    /// Waits as `wait` does, with a wake and a sleeper that it makes itself, but only where the value does not come while it looks;
+    /// where it comes, no callback is registered and no memory is taken. `AllocError` is for want of memory; no callback is
+    /// registered then, and the value may be awaited again.
+    pub fn wait_in<R: Wait>(&mut self, rt: &R, alloc: Global) -> Result<&V, AllocError>
+        requires { registration self.old ≡ No }
+        ensures* after { sem 𝓛 (follows_so (the_row V.row wake_row) (the_row V.row wake_row) self.entry.ghost_name none (λ _ _. ⊤) (λ n. Awaited self.old n × MatchResult result (λ value. shown n ≡ Some value.now) (λ _. registration n ≡ No))) }
+    {
+        self.watch();
+        if self.value.is_none() {
+            let (wake, sleeper) = wakes(alloc)?;
+            self.register_and_sleep(rt, wake, sleeper);
+        }
+        Ok(self.shown_value())
+    }
+
+    // Registers the wake, and then sleeps and looks until the value is there.
+    fn register_and_sleep<R: Wait>(&mut self, rt: &R, wake: Wake, sleeper: Sleeper)
+        requires { registration self.old ≡ No }
+        ensures waited { Waited self.old self.new }
+        ensures there { IsSome (shown self.new) }
+    {
         self.on_ready(wake);
         self.sleep(rt, sleeper);
-        self.shown_value()
     }
 
     // Sleeps and looks until the value is there.

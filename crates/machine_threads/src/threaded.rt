@@ -17,7 +17,7 @@ use fdb_calls::Reply;
 use future_cell::{Waiter, Wake};
 use key_bytes::Bytes;
 use machine_seat::{Seat, is_no_memory, prefix_of, seat_started_by};
-use network::{Asked, Client, Post};
+use network::{Client, Post};
 use outside::Gate;
 use request_line::Sender;
 use std::alloc::{AllocError, Global};
@@ -110,7 +110,7 @@ impl ThreadedMachine {
         let request = self.seat.hand_over();
         let prefix = prefix_of(request.request())?;
         gate.pass(self.seat.machine.number(), self.waiters.len() as u64);
-        let asked = self.client.call(rt, alloc, request)?;
+        let asked = self.client.ask(rt, alloc, request)?;
         let (waiter, started) = hear(rt, alloc, &mut self.seat, prefix, asked)?;
         self.waiters.push_reserved(waiter);
         Ok(started)
@@ -163,23 +163,19 @@ fn hear<R: Wait>(
     alloc: Global,
     seat: &mut Seat,
     prefix: Option<Bytes>,
-    asked: Asked,
+    asked: Waiter<Reply, Wake>,
 ) -> Result<(Waiter<Reply, Wake>, Option<Seat>), AllocError>
     requires awaits { Awaits seat.old.machine }
-    requires unregistered { registration asked.waiter ≡ No }
-    ensures cell { IfOk result (λ heard. waiter_cell heard.0 ≡ waiter_cell asked.waiter) }
+    requires unregistered { registration asked ≡ No }
+    ensures cell { IfOk result (λ heard. waiter_cell heard.0 ≡ waiter_cell asked) }
     ensures heard { IfOk result (λ heard. (reply : ReplySaid) × (shown heard.0 ≡ Some reply)
         × (progress_of seat.new ≡ at_rest (resumed seat.old.machine.machine reply))
         × (map progress_of (option_to_list heard.1) ≡ started_by prefix seat.old.machine.machine.polls reply)) }
     ensures seated { OnOk result (IsSeated seat.new) }
     ensures started { IfOk result (λ heard. IfSome heard.1 IsSeated) }
 {
-    let Asked {
-        mut waiter,
-        wake,
-        sleeper,
-    } = asked;
-    let reply = waiter.wait(rt, wake, sleeper);
+    let mut waiter = asked;
+    let reply = waiter.wait_in(rt, alloc)?;
     let started = use_reply(alloc, seat, prefix, reply)?;
     Ok((waiter, started))
 }

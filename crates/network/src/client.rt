@@ -61,8 +61,30 @@ impl Client {
         ensures machine { client_machine self.new ≡ client_machine self.old }
         ensures line { client_line self.new ≡ client_line self.old }
     {
-        let (setter, waiter) = pair(alloc)?;
         let (wake, sleeper) = wakes(alloc)?;
+        let waiter = self.ask(rt, alloc, request)?;
+        Ok(Asked {
+            waiter,
+            wake,
+            sleeper,
+        })
+    }
+
+    /// Asks as `call` does, and gives the waiter alone, for `Waiter::wait_in`.
+    pub fn ask<R: Wait>(
+        &mut self,
+        rt: &R,
+        alloc: Global,
+        request: BoxedRequest,
+    ) -> Result<Waiter<Reply, Wake>, AllocError>
+        ensures posted { IfOk result (λ waiter. (setter : Setter Reply Wake) × (setter_cell setter ≡ waiter_cell waiter)
+            × (client_history self.new ≡ with_post (client_history self.old) (Ask (client_machine self.old) request setter))) }
+        ensures waiter { IfOk result (λ waiter. (registration waiter ≡ No) × (shown waiter ≡ None)) }
+        ensures err { OnErr result (client_history self.new ≡ client_history self.old) }
+        ensures machine { client_machine self.new ≡ client_machine self.old }
+        ensures line { client_line self.new ≡ client_line self.old }
+    {
+        let (setter, waiter) = pair(alloc)?;
         let machine = self.machine;
         let post = Post::Ask {
             machine,
@@ -70,11 +92,7 @@ impl Client {
             setter,
         };
         self.sender.post(rt, post);
-        Ok(Asked {
-            waiter,
-            wake,
-            sleeper,
-        })
+        Ok(waiter)
     }
 
     /// The client of a machine that was started. Its sender has the upper half of this one's span of numbers, and knows all

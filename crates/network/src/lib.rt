@@ -1,7 +1,8 @@
 //! Machines ask a service over a request line: one thread answers, and each machine waits for its own replies.
 //!
-//! A `Client` is a machine's end of the line. `Client::call` posts an Ask and gives what the machine waits by, `fork` makes
-//! the client of a machine that was started, and `over` posts that a machine is over. `serve` takes the posts in the order
+//! A `Client` is a machine's end of the line. `Client::call` posts an Ask and gives what the machine waits by; `ask` gives the
+//! waiter alone, for one that makes its wake only where it has to sleep. `fork` makes the client of a machine that was
+//! started, and `over` posts that a machine is over. `serve` takes the posts in the order
 //! of the line, has a `Service` answer each Ask, and sets the reply in the Ask's own future, until as many Overs were taken as
 //! machines were started: machine 0, and each that a reply says was started.
 //!
@@ -30,9 +31,9 @@
 //!   relation from its state before to its state after. The order names the machines of these Asks. The receipts stand in the
 //!   same order, each of the cell of its Ask's setter, each set to its reply. No reply is NoMemory.
 //! - As many Overs were taken as machines were started, whether memory lasted or not.
-//! - What `call` posts is one Ask with the client's machine and the request given. Its setter and the waiter that `call` gives
-//!   are of one cell. So the k-th waiter that a client gave is of the cell of its k-th Ask.
-//! - Where memory runs out, `call` posts nothing, and `fork` leaves the client as it was.
+//! - What `call` and `ask` post is one Ask with the client's machine and the request given. Its setter and the waiter that they
+//!   give are of one cell. So the k-th waiter that a client gave is of the cell of its k-th Ask.
+//! - Where memory runs out, `call` and `ask` post nothing, and `fork` leaves the client as it was.
 //!
 //! Laws follow for whoever closes the senders and settles the waiters:
 //!

@@ -87,8 +87,8 @@ fn ask<R: Wait>(
 ) -> Result<Told, AllocError>
     ensures { (client_history client.new).room ≡ (client_history client.old).room }
 {
-    let asked = client.call(rt, alloc, BoxedRequest::new(alloc, request)?)?;
-    Ok(told_to(rt, asked))
+    let mut waiter = client.ask(rt, alloc, BoxedRequest::new(alloc, request)?)?;
+    Ok(told_by(waiter.wait_in(rt, alloc)?))
 }
 
 // Waits for a reply, and tells it.

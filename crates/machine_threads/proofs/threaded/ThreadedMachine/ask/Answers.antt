@@ -10,7 +10,7 @@ use Rattle.machine_threads.proofs.threaded.ThreadedMachine.ask.Given.{Over}
 use Rattle.machine_threads.proofs.threaded.ThreadedMachine.ask.Goals as goal
 
 abbrev after : (g : Over) → goal.After-push_reserved g → ThreadedMachine
-after g c = record { seat = c.hear.new.seat; client = c.call.new.self; waiters = c.push_reserved.new.self }
+after g c = record { seat = c.hear.new.seat; client = c.ask.new.self; waiters = c.push_reserved.new.self }
 
 asked_once : (g : Over) (c : goal.After-push_reserved g)
     → AskedOnce c.args.self.now (after g c) c.hand_over-request.result c.in_ok-waiter.waiter c.in_ok-waiter.ensures.heard.0
@@ -23,8 +23,8 @@ asked_once g c =
       setter = posted.0;
       cell = posted.1 ∙ sym c.in_ok-waiter.ensures.cell;
       posts = posted.2;
-      own = c.call.ensures.machine;
-      line = c.call.ensures.line;
+      own = c.ask.ensures.machine;
+      line = c.ask.ensures.line;
       is_shown = heard.1;
       waiters = ◌∙◌ {A = List (Waiter Reply Wake)} c.push_reserved.ensures.items
           (ap (λ waiters. waiters ++ c.in_ok-waiter.waiter ∷ []) c.reserve.ensures.items);
