@@ -5,7 +5,7 @@
 //! operations the segment has one key, and one change; where they have no value each key that is stored there is
 //! removed; else nothing changes. So the keys of the changes rise.
 
-ghost use Rattle.std.specs.Prelude.{◌≡◌, true, false, [], ◌∷◌, ◌++◌, Some, IfOk, IfSome, OnOk, IsTrue, option_copied};
+ghost use Rattle.std.specs.Prelude.{◌≡◌, ◌≢◌, ℕ, List, true, false, [], ◌∷◌, ◌++◌, Some, IfOk, MatchOption, OnOk, IsTrue, option_copied};
 ghost use Rattle.std.specs.List.{All};
 ghost use Rattle.database_rules.specs.Databases.{Set, do_all};
 ghost use Rattle.database_rules.specs.KeyByKey.{is_modified_by};
@@ -137,9 +137,10 @@ impl Txn {
     }
 }
 
-// The key and the value of the one mutation, where there is one alone and it sets a key.
+// The key and the value of the one mutation, exactly where there is one alone and it sets a key.
 fn only_set(mutations: &[Mutation]) -> Option<(&Key, &Bytes)>
-    ensures { IfSome result (λ set. mutations_of mutations.now ≡ Set set.0.now set.1.now ∷ []) }
+    ensures { MatchOption result ((key value : List ℕ) → mutations_of mutations.now ≢ Set key value ∷ [])
+        (λ set. mutations_of mutations.now ≡ Set set.0.now set.1.now ∷ []) }
 {
     match mutations {
         [Mutation::Set { key, value }] => Some((key, value)),
