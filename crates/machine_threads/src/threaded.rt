@@ -111,6 +111,7 @@ impl ThreadedMachine {
         let prefix = prefix_of(request.request())?;
         gate.pass(self.seat.machine.number(), self.waiters.len() as u64);
         let asked = self.client.ask(rt, alloc, request)?;
+        self.client.prepare(alloc)?;
         let (waiter, started) = hear(rt, alloc, &mut self.seat, prefix, asked)?;
         self.waiters.push_reserved(waiter);
         Ok(started)

@@ -1,11 +1,13 @@
 //! A machine's end of the line.
 
-ghost use Rattle.std.specs.Prelude.{◌≡◌, ◌≤◌};
+ghost use Rattle.std.specs.Prelude.{◌≡◌, ◌≤◌, None};
+ghost use Rattle.future_cell.specs.declared.callback.Registered.TheVariants.{No};
+ghost use Rattle.future_cell.specs.Cells.{setter_cell, waiter_cell, shown, registration};
 ghost use Rattle.request_line.specs.Line.{sender_line, history};
 
 use crate::post::Post;
 use fdb_calls::{BoxedRequest, Reply};
-use future_cell::{Sleeper, Waiter, Wake, pair, wakes};
+use future_cell::{Setter, Sleeper, Waiter, Wake, pair, wakes};
 use request_line::Sender;
 use std::alloc::{AllocError, Global};
 use std::sync::Wait;
@@ -16,6 +18,17 @@ use std::sync::Wait;
 pub struct Client {
     machine: u16,
     sender: Sender<Post>,
+    prepared: Option<Halves>,
+}
+
+// The two halves of a cell that was made for a request to come.
+#[derive(Drop)]
+struct Halves {
+    setter: Setter<Reply, Wake>,
+    waiter: Waiter<Reply, Wake>,
+    ghost cell: { setter_cell setter ≡ waiter_cell waiter },
+    ghost unregistered: { registration waiter ≡ No },
+    ghost unshown: { shown waiter ≡ None },
 }
 
 /// A reply that is awaited, and what `Waiter::wait` needs to wait for it.
@@ -43,7 +56,11 @@ impl Client {
         ensures history { client_history result ≡ history sender }
         ensures line { client_line result ≡ sender_line sender }
     {
-        Client { machine, sender }
+        Client {
+            machine,
+            sender,
+            prepared: None,
+        }
     }
 
     /// Asks: posts one Ask of this client's machine, and gives what the reply is awaited by. It may wait while the line is full.
@@ -84,7 +101,7 @@ impl Client {
         ensures machine { client_machine self.new ≡ client_machine self.old }
         ensures line { client_line self.new ≡ client_line self.old }
     {
-        let (setter, waiter) = pair(alloc)?;
+        let (setter, waiter) = self.halves(alloc)?;
         let machine = self.machine;
         let post = Post::Ask {
             machine,
@@ -93,6 +110,36 @@ impl Client {
         };
         self.sender.post(rt, post);
         Ok(waiter)
+    }
+
+    // The halves of the cell that was made beforehand, or of a new one.
+    fn halves(
+        &mut self,
+        alloc: Global,
+    ) -> Result<(Setter<Reply, Wake>, Waiter<Reply, Wake>), AllocError>
+        ensures cell { IfOk result (λ halves. setter_cell halves.0 ≡ waiter_cell halves.1) }
+        ensures waiter { IfOk result (λ halves. (registration halves.1 ≡ No) × (shown halves.1 ≡ None)) }
+        ensures history { client_history self.new ≡ client_history self.old }
+        ensures machine { client_machine self.new ≡ client_machine self.old }
+        ensures line { client_line self.new ≡ client_line self.old }
+    {
+        if let Some(Halves { setter, waiter }) = self.prepared.take() {
+            return Ok((setter, waiter));
+        }
+        let (setter, waiter) = pair(alloc)?;
+        Ok((setter, waiter))
+    }
+
+    /// Makes the cell of the next request beforehand, to be called while a reply is awaited: the memory for it then takes no time
+    /// between two requests. Contracts see no change. `AllocError` is for want of memory; `ask` and `call` make the cell then.
+    pub fn prepare(&mut self, alloc: Global) -> Result<(), AllocError>
+        ensures history { client_history self.new ≡ client_history self.old }
+        ensures machine { client_machine self.new ≡ client_machine self.old }
+        ensures line { client_line self.new ≡ client_line self.old }
+    {
+        let (setter, waiter) = self.halves(alloc)?;
+        self.prepared = Some(Halves { setter, waiter });
+        Ok(())
     }
 
     /// The client of a machine that was started. Its sender has the upper half of this one's span of numbers, and knows all
@@ -110,7 +157,11 @@ impl Client {
         ensures line { client_line self.new ≡ client_line self.old }
     {
         let sender = self.sender.split()?;
-        Ok(Client { machine, sender })
+        Ok(Client {
+            machine,
+            sender,
+            prepared: None,
+        })
     }
 
     /// Posts that a machine is over: this client's own at its end, or one that was started and for which `fork` was refused. It
@@ -128,7 +179,11 @@ impl Client {
         ensures history { history result ≡ client_history self }
         ensures line { sender_line result ≡ client_line self }
     {
-        let Client { machine: _, sender } = self;
+        let Client {
+            machine: _,
+            sender,
+            prepared: _,
+        } = self;
         sender
     }
 }

@@ -1,10 +1,10 @@
 //! Machines ask a service over a request line: one thread answers, and each machine waits for its own replies.
 //!
 //! A `Client` is a machine's end of the line. `Client::call` posts an Ask and gives what the machine waits by; `ask` gives the
-//! waiter alone, for one that makes its wake only where it has to sleep. `fork` makes the client of a machine that was
-//! started, and `over` posts that a machine is over. `serve` takes the posts in the order
-//! of the line, has a `Service` answer each Ask, and sets the reply in the Ask's own future, until as many Overs were taken as
-//! machines were started: machine 0, and each that a reply says was started.
+//! waiter alone, for one that makes its wake only where it has to sleep, and `prepare` makes the next request's cell. `fork` makes
+//! the client of a machine that was started, and `over` posts that a machine is over. `serve` takes the posts in the order of the
+//! line, has a `Service` answer each Ask, and sets the reply in the Ask's own future, until as many Overs were taken as machines
+//! were started: machine 0, and each that a reply says was started.
 //!
 //! ```text
 //! let (sender, mut receiver) = open::<Post>(alloc, 64)?;

@@ -88,6 +88,7 @@ fn ask<R: Wait>(
     ensures { (client_history client.new).room ≡ (client_history client.old).room }
 {
     let mut waiter = client.ask(rt, alloc, BoxedRequest::new(alloc, request)?)?;
+    client.prepare(alloc)?;
     Ok(told_by(waiter.wait_in(rt, alloc)?))
 }
 

@@ -10,7 +10,7 @@ use Rattle.machine_threads.proofs.threaded.ThreadedMachine.ask.Given.{Over}
 use Rattle.machine_threads.proofs.threaded.ThreadedMachine.ask.Goals as goal
 
 abbrev after : (g : Over) → goal.After-push_reserved g → ThreadedMachine
-after g c = record { seat = c.hear.new.seat; client = c.ask.new.self; waiters = c.push_reserved.new.self }
+after g c = record { seat = c.hear.new.seat; client = c.prepare.new.self; waiters = c.push_reserved.new.self }
 
 asked_once : (g : Over) (c : goal.After-push_reserved g)
     → AskedOnce c.args.self.now (after g c) c.hand_over-request.result c.in_ok-waiter.waiter c.in_ok-waiter.ensures.heard.0
@@ -22,9 +22,9 @@ asked_once g c =
       asks = c.hand_over-request.ensures.request;
       setter = posted.0;
       cell = posted.1 ∙ sym c.in_ok-waiter.ensures.cell;
-      posts = posted.2;
-      own = c.ask.ensures.machine;
-      line = c.ask.ensures.line;
+      posts = c.prepare.ensures.history ∙ posted.2;
+      own = c.prepare.ensures.machine ∙ c.ask.ensures.machine;
+      line = c.prepare.ensures.line ∙ c.ask.ensures.line;
       is_shown = heard.1;
       waiters = ◌∙◌ {A = List (Waiter Reply Wake)} c.push_reserved.ensures.items
           (ap (λ waiters. waiters ++ c.in_ok-waiter.waiter ∷ []) c.reserve.ensures.items);
