@@ -1,5 +1,6 @@
 use super::*;
 use asks::{Say, call_of, range_of, selector_of};
+use by_name::{AskedByName, Named, is_named_so};
 use conflict_ranges::{RangeSet, WriteIndex};
 use database_rules::{AtomicOp, Code, Mode, Selector, Tried};
 use fdb_calls::{Outcome, Reply, Tr, TrFault, TxnCall};
@@ -12,6 +13,7 @@ mod asks;
 mod by_name;
 mod calls;
 mod conflicts;
+mod lives;
 mod resting;
 mod stamps;
 mod versions;
@@ -60,8 +62,8 @@ enum Told<'a> {
 type Entry = (&'static [u8], &'static [u8]);
 
 // A call that is answered so, or by these pairs, or one that is so answered by snapshot, or one on the other transaction;
-// the keys that the transaction rests on, or those that it declares to write, as spelled ranges; or a transaction of the
-// next life in the place of this one, at this version.
+// the keys that the transaction rests on, or those that it declares to write, as spelled ranges; a transaction of the
+// next life in the place of this one, at this version; or a call by its name.
 #[derive(Clone, Copy)]
 enum Row {
     Call(Say, Told<'static>),
@@ -71,6 +73,7 @@ enum Row {
     Rests(&'static [u8]),
     Declares(&'static [u8]),
     Next(u64),
+    Named(Named),
 }
 
 fn tell(answer: &Answer) -> Told<'_> {
@@ -129,6 +132,33 @@ fn spelled(alloc: Global, ranges: &RangeSet) -> Result<Vec<u8>, AllocError> {
     Ok(text)
 }
 
+// What rows ask of two transactions over their store. What goes over rows knows no more of a session, so that its proof
+// sees nothing of what a session holds.
+trait Asked {
+    // Whether a call, which reads by snapshot where that is said, is answered so.
+    fn is_answered(
+        &mut self,
+        say: Say,
+        snapshot: bool,
+        wanted: Told<'static>,
+    ) -> Result<bool, AllocError>;
+
+    // Whether a call on the other transaction is answered so.
+    fn is_answered_beside(&mut self, say: Say, wanted: Told<'static>) -> Result<bool, AllocError>;
+
+    // Whether a call is answered by these pairs.
+    fn is_read(&mut self, say: Say, wanted: &[Entry]) -> Result<bool, AllocError>;
+
+    // Whether the transaction rests on these keys.
+    fn is_resting_on(&mut self, wanted: &[u8]) -> Result<bool, AllocError>;
+
+    // Whether it declares to write these keys.
+    fn is_declaring(&mut self, wanted: &[u8]) -> Result<bool, AllocError>;
+
+    // A transaction of the next life, at the last version. Whether that is this one.
+    fn begins_anew(&mut self, version: u64) -> bool;
+}
+
 impl Session {
     // The first transaction on the store.
     fn on(&mut self) -> TxnOn<'_> {
@@ -155,7 +185,24 @@ impl Session {
         self.other.call(&mut self.store, &mut self.index, call, 8)
     }
 
-    // Whether a call, which reads by snapshot where that is said, is answered so.
+    // The keys that the transaction rests on.
+    fn rests(&self) -> Result<Vec<u8>, AllocError> {
+        spelled(self.alloc, self.txn.read_ranges())
+    }
+
+    // The keys that it declares to write.
+    fn declares(&mut self) -> Result<Vec<u8>, AllocError> {
+        let ranges = self.on().write_ranges(STAMP)?;
+        spelled(self.alloc, &ranges)
+    }
+
+    // A transaction of the next life, at the last version.
+    fn begin_anew(&mut self) {
+        self.txn = Txn::at_last(self.alloc, 1, &self.store);
+    }
+}
+
+impl Asked for Session {
     fn is_answered(
         &mut self,
         say: Say,
@@ -167,14 +214,12 @@ impl Session {
         Ok(tell(&answer) == wanted)
     }
 
-    // Whether a call on the other transaction is answered so.
     fn is_answered_beside(&mut self, say: Say, wanted: Told<'static>) -> Result<bool, AllocError> {
         let call = call_of(self.alloc, say, false)?;
         let answer = self.answer_other(&call)?;
         Ok(tell(&answer) == wanted)
     }
 
-    // Whether a call is answered by these pairs.
     fn is_read(&mut self, say: Say, wanted: &[Entry]) -> Result<bool, AllocError> {
         let call = call_of(self.alloc, say, false)?;
         let answer = self.answer(&call)?;
@@ -184,47 +229,31 @@ impl Session {
         })
     }
 
-    // The keys that the transaction rests on.
-    fn rests(&self) -> Result<Vec<u8>, AllocError> {
-        spelled(self.alloc, self.txn.read_ranges())
-    }
-
-    fn is_resting_on(&self, wanted: &[u8]) -> Result<bool, AllocError> {
+    fn is_resting_on(&mut self, wanted: &[u8]) -> Result<bool, AllocError> {
         Ok(self.rests()?.as_slice() == wanted)
-    }
-
-    // The keys that it declares to write.
-    fn declares(&mut self) -> Result<Vec<u8>, AllocError> {
-        let ranges = self.on().write_ranges(STAMP)?;
-        spelled(self.alloc, &ranges)
     }
 
     fn is_declaring(&mut self, wanted: &[u8]) -> Result<bool, AllocError> {
         Ok(self.declares()?.as_slice() == wanted)
     }
 
-    // A transaction of the next life, at the last version.
-    fn begin_anew(&mut self) {
-        self.txn = Txn::at_last(self.alloc, 1, &self.store);
-    }
-
-    // The same. Whether the last version is this one.
     fn begins_anew(&mut self, version: u64) -> bool {
         self.begin_anew();
         self.store.last() == version
     }
+}
 
-    // Whether a row holds.
-    fn is_so(&mut self, row: Row) -> Result<bool, AllocError> {
-        match row {
-            Row::Call(say, wanted) => self.is_answered(say, false, wanted),
-            Row::Pairs(say, wanted) => self.is_read(say, wanted),
-            Row::Snapshot(say, wanted) => self.is_answered(say, true, wanted),
-            Row::Other(say, wanted) => self.is_answered_beside(say, wanted),
-            Row::Rests(wanted) => self.is_resting_on(wanted),
-            Row::Declares(wanted) => self.is_declaring(wanted),
-            Row::Next(version) => Ok(self.begins_anew(version)),
-        }
+// Whether a row holds.
+fn is_so<A: Asked + AskedByName>(asked: &mut A, row: Row) -> Result<bool, AllocError> {
+    match row {
+        Row::Call(say, wanted) => asked.is_answered(say, false, wanted),
+        Row::Pairs(say, wanted) => asked.is_read(say, wanted),
+        Row::Snapshot(say, wanted) => asked.is_answered(say, true, wanted),
+        Row::Other(say, wanted) => asked.is_answered_beside(say, wanted),
+        Row::Rests(wanted) => asked.is_resting_on(wanted),
+        Row::Declares(wanted) => asked.is_declaring(wanted),
+        Row::Next(version) => Ok(asked.begins_anew(version)),
+        Row::Named(named) => is_named_so(asked, named),
     }
 }
 
@@ -242,13 +271,28 @@ fn are(pairs: &Pairs, wanted: &[Entry]) -> bool {
             .all(|(pair, entry)| is_entry(pair, entry))
 }
 
-// The place of the first row that does not hold of a new transaction over an empty store.
-fn first_wrong(alloc: Global, rows: &[Row]) -> Result<Option<usize>, AllocError> {
-    let mut session = new_session(alloc);
+// The place of the first row that does not hold.
+fn first_wrong_of<A: Asked + AskedByName>(
+    asked: &mut A,
+    rows: &[Row],
+) -> Result<Option<usize>, AllocError> {
     for (place, row) in rows.iter().enumerate() {
-        if !session.is_so(*row)? {
+        if !is_so(asked, *row)? {
             return Ok(Some(place));
         }
     }
     Ok(None)
+}
+
+// The same, over something that ends then.
+fn first_wrong_in<A: Asked + AskedByName + Drop>(
+    mut asked: A,
+    rows: &[Row],
+) -> Result<Option<usize>, AllocError> {
+    first_wrong_of(&mut asked, rows)
+}
+
+// The place of the first row that does not hold of a new transaction over an empty store.
+fn first_wrong(alloc: Global, rows: &[Row]) -> Result<Option<usize>, AllocError> {
+    first_wrong_in(new_session(alloc), rows)
 }

@@ -80,49 +80,74 @@ fn between(alloc: Global, begin: &[u8], end: &[u8], snapshot: bool) -> Result<Tx
     })
 }
 
+fn get_of(key: Bytes, snapshot: bool) -> TxnCall {
+    TxnCall::Get { key, snapshot }
+}
+
+fn get_key_of(selector: Selector, snapshot: bool) -> TxnCall {
+    TxnCall::GetKey { selector, snapshot }
+}
+
+fn get_key_range_of(
+    range: KeyRange,
+    limit: u32,
+    reverse: bool,
+    mode: Mode,
+    snapshot: bool,
+) -> TxnCall {
+    TxnCall::GetKeyRange {
+        range,
+        limit,
+        reverse,
+        mode,
+        snapshot,
+    }
+}
+
 // A read, which is by snapshot where that is said, or another call.
 pub fn call_of(alloc: Global, say: Say, snapshot: bool) -> Result<TxnCall, AllocError> {
-    Ok(match say {
-        Say::Get(key) => TxnCall::Get {
-            key: Bytes::from_slice(alloc, key)?,
-            snapshot,
-        },
-        Say::GetKey(key, or_equal, offset) => TxnCall::GetKey {
-            selector: selector_of(alloc, key, or_equal, offset)?,
-            snapshot,
-        },
-        Say::Range(begin, end, limit, reverse, mode) => TxnCall::GetKeyRange {
-            range: range_of(alloc, begin, end)?,
-            limit,
-            reverse,
-            mode,
-            snapshot,
-        },
-        Say::Between(begin, end) => between(alloc, begin, end, snapshot)?,
-        _ => write_of(alloc, say)?,
-    })
+    match say {
+        Say::Get(key) => Ok(get_of(Bytes::from_slice(alloc, key)?, snapshot)),
+        Say::GetKey(key, or_equal, offset) => {
+            Ok(get_key_of(selector_of(alloc, key, or_equal, offset)?, snapshot))
+        }
+        Say::Range(begin, end, limit, reverse, mode) => {
+            let range = range_of(alloc, begin, end)?;
+            Ok(get_key_range_of(range, limit, reverse, mode, snapshot))
+        }
+        Say::Between(begin, end) => between(alloc, begin, end, snapshot),
+        _ => write_of(alloc, say),
+    }
+}
+
+fn clear_of(key: Bytes) -> TxnCall {
+    TxnCall::Clear { key }
+}
+
+fn clear_range_of(range: KeyRange) -> TxnCall {
+    TxnCall::ClearRange { range }
+}
+
+fn read_conflict_of(range: KeyRange) -> TxnCall {
+    TxnCall::ReadConflict { range }
+}
+
+fn write_conflict_of(range: KeyRange) -> TxnCall {
+    TxnCall::WriteConflict { range }
 }
 
 fn write_of(alloc: Global, say: Say) -> Result<TxnCall, AllocError> {
-    Ok(match say {
-        Say::Set(key, value) => set_of(alloc, key, value)?,
-        Say::Clear(key) => TxnCall::Clear {
-            key: Bytes::from_slice(alloc, key)?,
-        },
-        Say::ClearRange(begin, end) => TxnCall::ClearRange {
-            range: range_of(alloc, begin, end)?,
-        },
-        Say::Append(key, operand) => atomic_of(alloc, b"APPEND_IF_FITS", key, operand)?,
-        Say::StampKey(key, value) => atomic_of(alloc, b"SET_VERSIONSTAMPED_KEY", key, value)?,
-        Say::StampValue(key, value) => atomic_of(alloc, b"SET_VERSIONSTAMPED_VALUE", key, value)?,
-        Say::ReadConflict(begin, end) => TxnCall::ReadConflict {
-            range: range_of(alloc, begin, end)?,
-        },
-        Say::WriteConflict(begin, end) => TxnCall::WriteConflict {
-            range: range_of(alloc, begin, end)?,
-        },
-        _ => short_of(say),
-    })
+    match say {
+        Say::Set(key, value) => set_of(alloc, key, value),
+        Say::Clear(key) => Ok(clear_of(Bytes::from_slice(alloc, key)?)),
+        Say::ClearRange(begin, end) => Ok(clear_range_of(range_of(alloc, begin, end)?)),
+        Say::Append(key, operand) => atomic_of(alloc, b"APPEND_IF_FITS", key, operand),
+        Say::StampKey(key, value) => atomic_of(alloc, b"SET_VERSIONSTAMPED_KEY", key, value),
+        Say::StampValue(key, value) => atomic_of(alloc, b"SET_VERSIONSTAMPED_VALUE", key, value),
+        Say::ReadConflict(begin, end) => Ok(read_conflict_of(range_of(alloc, begin, end)?)),
+        Say::WriteConflict(begin, end) => Ok(write_conflict_of(range_of(alloc, begin, end)?)),
+        _ => Ok(short_of(say)),
+    }
 }
 
 // A call without a key.

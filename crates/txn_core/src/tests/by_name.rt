@@ -1,6 +1,173 @@
 //! The calls by their names, and the parts of a commit.
 
 use super::*;
+use lives::{Living, is_so_of_life};
+
+/// A call by its name on the first transaction, or some of them in their order, and what it is answered.
+#[derive(Clone, Copy)]
+pub enum Named {
+    /// The writes of a layer, over any transaction.
+    Layer,
+    /// A set that declares nothing, a set, a key that is declared, and a range.
+    Declares,
+    DeclaresKey(&'static [u8], Result<(), TrFault>),
+    /// A range to rest on, and the keys that it rests on then.
+    Rests(&'static [u8]),
+    Sets(&'static [u8], &'static [u8], Result<(), TrFault>),
+    Clears(&'static [u8]),
+    Reads(&'static [u8], Option<&'static [u8]>),
+    /// How many bytes the first key has, and how many pairs the calls for more than one read, by snapshot where that is said.
+    Counts(bool, [usize; 4]),
+    /// The entries of a log, one too long among them where that is said.
+    Logs(bool, Result<(), TrFault>),
+    /// The index of a commit that made version 1 and declared the keys from `a` to `c`.
+    Indexed,
+    Judges(Result<Verdict, TrFault>),
+    /// How many keys the writes change.
+    Changes(usize),
+    /// A call on what the transaction alone keeps.
+    Life(Living),
+}
+
+/// What these calls ask of a transaction on its store.
+pub trait AskedByName {
+    /// Whether the writes of a layer are done.
+    fn is_written(&mut self) -> Result<bool, AllocError>;
+
+    /// Whether writes are done, and what is declared beside them.
+    fn is_told_to_declare(&mut self) -> Result<bool, AllocError>;
+
+    fn is_declaring_key(&mut self, key: &[u8], wanted: Result<(), TrFault>) -> bool;
+
+    fn is_told_to_rest(&mut self, wanted: &[u8]) -> Result<bool, AllocError>;
+
+    fn is_set(&mut self, key: &[u8], value: &[u8], wanted: Result<(), TrFault>) -> bool;
+
+    fn is_cleared(&mut self, key: &[u8]) -> bool;
+
+    fn is_read_as(&mut self, key: &[u8], wanted: Option<&[u8]>) -> bool;
+
+    fn is_counted(&mut self, snapshot: bool, wanted: [usize; 4]) -> Result<bool, AllocError>;
+
+    fn is_logged(
+        &mut self,
+        too_long: bool,
+        wanted: Result<(), TrFault>,
+    ) -> Result<bool, AllocError>;
+
+    fn is_indexed(&mut self) -> Result<bool, AllocError>;
+
+    fn is_judged(&mut self, wanted: Result<Verdict, TrFault>) -> bool;
+
+    /// Whether the writes change so many keys.
+    fn is_changing(&mut self, wanted: usize) -> Result<bool, AllocError>;
+
+    /// Whether a call that needs no store is answered so.
+    fn is_living_so(&mut self, living: Living) -> bool;
+}
+
+/// Whether a call by its name is answered so.
+pub fn is_named_so<A: AskedByName>(asked: &mut A, named: Named) -> Result<bool, AllocError> {
+    match named {
+        Named::Layer => asked.is_written(),
+        Named::Declares => asked.is_told_to_declare(),
+        Named::Rests(wanted) => asked.is_told_to_rest(wanted),
+        Named::Counts(snapshot, wanted) => asked.is_counted(snapshot, wanted),
+        Named::Logs(too_long, wanted) => asked.is_logged(too_long, wanted),
+        Named::Indexed => asked.is_indexed(),
+        Named::Changes(wanted) => asked.is_changing(wanted),
+        _ => Ok(is_plainly_so(asked, named)),
+    }
+}
+
+// The same of those that a test makes nothing for.
+fn is_plainly_so<A: AskedByName>(asked: &mut A, named: Named) -> bool {
+    match named {
+        Named::DeclaresKey(key, wanted) => asked.is_declaring_key(key, wanted),
+        Named::Sets(key, value, wanted) => asked.is_set(key, value, wanted),
+        Named::Clears(key) => asked.is_cleared(key),
+        Named::Reads(key, wanted) => asked.is_read_as(key, wanted),
+        Named::Judges(wanted) => asked.is_judged(wanted),
+        Named::Life(living) => asked.is_living_so(living),
+        _ => false,
+    }
+}
+
+impl AskedByName for Session {
+    fn is_written(&mut self) -> Result<bool, AllocError> {
+        let range = range_of(self.alloc, b"l", b"n")?;
+        Ok(write(&mut self.on(), &range).is_ok())
+    }
+
+    fn is_told_to_declare(&mut self) -> Result<bool, AllocError> {
+        let range = range_of(self.alloc, b"m", b"p")?;
+        Ok(declare_range(&mut self.on(), &range).is_ok())
+    }
+
+    fn is_declaring_key(&mut self, key: &[u8], wanted: Result<(), TrFault>) -> bool {
+        self.on().write_conflict_key(key) == wanted
+    }
+
+    fn is_told_to_rest(&mut self, wanted: &[u8]) -> Result<bool, AllocError> {
+        let alloc = self.alloc;
+        let range = range_of(alloc, b"m", b"p")?;
+        let text = rests_when_told(&mut self.on(), alloc, &range);
+        Ok(is_text(&text, wanted))
+    }
+
+    fn is_set(&mut self, key: &[u8], value: &[u8], wanted: Result<(), TrFault>) -> bool {
+        self.on().set(key, value) == wanted
+    }
+
+    fn is_cleared(&mut self, key: &[u8]) -> bool {
+        self.on().clear(key).is_ok()
+    }
+
+    fn is_read_as(&mut self, key: &[u8], wanted: Option<&[u8]>) -> bool {
+        is_value(&self.on().get(key, false), wanted)
+    }
+
+    fn is_counted(&mut self, snapshot: bool, wanted: [usize; 4]) -> Result<bool, AllocError> {
+        let places = places_read(self.alloc)?;
+        Ok(counts_by(&mut self.on(), &places, snapshot) == Ok(wanted))
+    }
+
+    fn is_logged(
+        &mut self,
+        too_long: bool,
+        wanted: Result<(), TrFault>,
+    ) -> Result<bool, AllocError> {
+        let prefix = Bytes::from_slice(self.alloc, b"L")?;
+        let entries = entries_of(self.alloc, too_long)?;
+        Ok(self.txn.log(&prefix, &entries) == wanted)
+    }
+
+    fn is_indexed(&mut self) -> Result<bool, AllocError> {
+        self.index = written_index(self.alloc)?;
+        Ok(true)
+    }
+
+    fn is_judged(&mut self, wanted: Result<Verdict, TrFault>) -> bool {
+        self.on().judge() == wanted
+    }
+
+    fn is_changing(&mut self, wanted: usize) -> Result<bool, AllocError> {
+        let changes = self.on().changes(STAMP)?;
+        Ok(changes.len() == wanted)
+    }
+
+    fn is_living_so(&mut self, living: Living) -> bool {
+        is_so_of_life(self, living)
+    }
+}
+
+fn is_value(read: &Result<Option<Bytes>, TrFault>, wanted: Option<&[u8]>) -> bool {
+    match read {
+        Ok(Some(value)) => wanted == Some(value.as_slice()),
+        Ok(None) => wanted.is_none(),
+        Err(_) => false,
+    }
+}
 
 // Some calls by their names, over any transaction.
 fn write<T: Tr>(tr: &mut T, range: &KeyRange) -> Result<(), TrFault> {
@@ -11,22 +178,14 @@ fn write<T: Tr>(tr: &mut T, range: &KeyRange) -> Result<(), TrFault> {
     tr.clear_range(range)
 }
 
-fn write_and_read(on: &mut TxnOn<'_>, range: &KeyRange) -> Result<Option<Bytes>, TrFault> {
-    write(on, range)?;
-    on.get(b"k", false)
-}
-
-// What a transaction on an empty store reads after these calls.
-fn read_after_writes(alloc: Global) -> Result<Option<Bytes>, TrFault> {
-    let range = range_of(alloc, b"l", b"n")?;
-    write_and_read(&mut new_session(alloc).on(), &range)
-}
+const LAYER: &[Row] = &[
+    Row::Named(Named::Layer),
+    Row::Named(Named::Reads(b"k", Some(b"\x00\x01"))),
+];
 
 #[test]
 fn a_layer_works_over_a_transaction_on_a_store(rt: HostRuntime) -> Result<(), Fail> {
-    let read = read_after_writes(rt.alloc())?;
-    let value = read.as_ref().map(|value| value.as_slice());
-    assert_eq!(rt; value, Some(b"\x00\x01".as_slice()));
+    assert_eq!(rt; first_wrong(rt.alloc(), LAYER)?, None);
     Ok(())
 }
 
@@ -38,36 +197,34 @@ fn declare<T: Tr>(tr: &mut T) -> Result<(), TrFault> {
     tr.write_conflict_key(b"k")
 }
 
-fn declare_range(on: &mut TxnOn<'_>, range: &KeyRange) -> Result<RangeSet, TrFault> {
+fn declare_range(on: &mut TxnOn<'_>, range: &KeyRange) -> Result<(), TrFault> {
     declare(on)?;
-    on.write_conflict(range)?;
-    Ok(on.write_ranges(STAMP)?)
+    on.write_conflict(range)
 }
 
-// The keys that a transaction declares after these calls, and after it was told to declare a range more.
-fn declared(alloc: Global) -> Result<Vec<u8>, TrFault> {
-    let range = range_of(alloc, b"m", b"p")?;
-    let ranges = declare_range(&mut new_session(alloc).on(), &range)?;
-    Ok(spelled(alloc, &ranges)?)
-}
+const DECLARED: &[Row] = &[
+    Row::Named(Named::Declares),
+    Row::Declares(b"b-b\0;k-k\0;m-p;"),
+];
 
 #[test]
 fn a_transaction_declares_what_it_wrote_and_was_told(rt: HostRuntime) -> Result<(), Fail> {
-    let text = declared(rt.alloc())?;
-    assert_eq!(rt; text.as_slice(), b"b-b\0;k-k\0;m-p;".as_slice());
+    assert_eq!(rt; first_wrong(rt.alloc(), DECLARED)?, None);
     Ok(())
 }
 
-// What it is answered to declare the key FF.
-fn end_declared(alloc: Global) -> Result<(), TrFault> {
-    new_session(alloc).on().write_conflict_key(b"\xff")
-}
+const END_DECLARED: &[Row] = &[Row::Named(Named::DeclaresKey(
+    b"\xff",
+    Err(TrFault::Code(Code(2004))),
+))];
 
 #[test]
-fn a_declared_key_lies_below_the_end(rt: HostRuntime) {
-    assert_eq!(rt; end_declared(rt.alloc()), Err(TrFault::Code(Code(2004))));
+fn a_declared_key_lies_below_the_end(rt: HostRuntime) -> Result<(), Fail> {
+    assert_eq!(rt; first_wrong(rt.alloc(), END_DECLARED)?, None);
+    Ok(())
 }
 
+// The keys that a transaction rests on which was told to.
 fn rests_when_told(
     on: &mut TxnOn<'_>,
     alloc: Global,
@@ -77,53 +234,35 @@ fn rests_when_told(
     Ok(spelled(alloc, on.read_ranges())?)
 }
 
-// The keys that a transaction rests on which was told to.
-fn told_to_rest(alloc: Global) -> Result<Vec<u8>, TrFault> {
-    let range = range_of(alloc, b"m", b"p")?;
-    rests_when_told(&mut new_session(alloc).on(), alloc, &range)
+fn is_text(text: &Result<Vec<u8>, TrFault>, wanted: &[u8]) -> bool {
+    match text {
+        Ok(text) => text.as_slice() == wanted,
+        Err(_) => false,
+    }
 }
+
+const TOLD_TO_REST: &[Row] = &[Row::Named(Named::Rests(b"m-p;"))];
 
 #[test]
 fn a_transaction_rests_on_what_it_was_told(rt: HostRuntime) -> Result<(), Fail> {
-    let text = told_to_rest(rt.alloc())?;
-    assert_eq!(rt; text.as_slice(), b"m-p;".as_slice());
+    assert_eq!(rt; first_wrong(rt.alloc(), TOLD_TO_REST)?, None);
     Ok(())
 }
 
-// A set and a clear.
-fn write_twice(on: &mut TxnOn<'_>) -> Result<(), TrFault> {
-    on.set(b"k", b"v")?;
-    on.clear(b"l")
-}
+const REFUSED: Result<Verdict, TrFault> = Err(TrFault::Code(Code(1020)));
 
-fn judge_twice(on: &mut TxnOn<'_>) -> Result<(Verdict, Verdict), TrFault> {
-    let before = on.judge()?;
-    write_twice(on)?;
-    Ok((before, on.judge()?))
-}
-
-// What the checks of a commit come to before and after two writes.
-fn judged(alloc: Global) -> Result<(Verdict, Verdict), TrFault> {
-    judge_twice(&mut new_session(alloc).on())
-}
-
-fn change(on: &mut TxnOn<'_>) -> Result<usize, TrFault> {
-    write_twice(on)?;
-    Ok(on.changes(STAMP)?.len())
-}
-
-// How many keys two writes change: the key that is cleared isn't there.
-fn changed_keys(alloc: Global) -> Result<usize, TrFault> {
-    change(&mut new_session(alloc).on())
-}
+// The key that is cleared isn't there.
+const JUDGED: &[Row] = &[
+    Row::Named(Named::Judges(Ok(Verdict::ReadOnly))),
+    Row::Named(Named::Sets(b"k", b"v", Ok(()))),
+    Row::Named(Named::Clears(b"l")),
+    Row::Named(Named::Changes(1)),
+    Row::Named(Named::Judges(Ok(Verdict::Commits))),
+];
 
 #[test]
 fn a_commit_is_judged_by_its_parts(rt: HostRuntime) -> Result<(), Fail> {
-    assert_eq!(rt;
-        judged(rt.alloc()),
-        Ok((Verdict::ReadOnly, Verdict::Commits))
-    );
-    assert_eq!(rt; changed_keys(rt.alloc()), Ok(1));
+    assert_eq!(rt; first_wrong(rt.alloc(), JUDGED)?, None);
     Ok(())
 }
 
@@ -137,70 +276,59 @@ fn written_index(alloc: Global) -> Result<WriteIndex, AllocError> {
     Ok(index)
 }
 
-fn judge_after_read(on: &mut TxnOn<'_>, key: &[u8]) -> Result<Verdict, TrFault> {
-    on.get(key, false)?;
-    on.set(b"k", b"v")?;
-    on.judge()
-}
+// At version 0.
+const INSIDE: &[Row] = &[
+    Row::Named(Named::Indexed),
+    Row::Named(Named::Reads(b"b", None)),
+    Row::Named(Named::Sets(b"k", b"v", Ok(()))),
+    Row::Named(Named::Judges(REFUSED)),
+];
 
-// What the checks come to, over that index, of a transaction at version 0 that read this key and wrote one.
-fn judged_after_read(alloc: Global, key: &[u8]) -> Result<Verdict, TrFault> {
-    let index = written_index(alloc)?;
-    judge_after_read(&mut new_session_over(alloc, index).on(), key)
-}
-
-#[test]
-fn a_commit_is_judged_by_the_index(rt: HostRuntime) {
-    let refused = Err(TrFault::Code(Code(1020)));
-    assert_eq!(rt; judged_after_read(rt.alloc(), b"b"), refused);
-    assert_eq!(rt; judged_after_read(rt.alloc(), b"c"), Ok(Verdict::Commits));
-}
-
-// What a write is answered after a commit that was tried.
-fn written_after_tried(alloc: Global) -> Result<(), TrFault> {
-    let (store, index) = (Store::new(alloc), WriteIndex::new(alloc));
-    let mut txn = Txn::new(alloc, 0);
-    let mut on = TxnOn {
-        txn: &mut txn,
-        store: &store,
-        index: &index,
-    };
-    on.tried(Tried::ReadOnly);
-    on.set(b"k", b"v")
-}
+const BESIDE: &[Row] = &[
+    Row::Named(Named::Indexed),
+    Row::Named(Named::Reads(b"c", None)),
+    Row::Named(Named::Sets(b"k", b"v", Ok(()))),
+    Row::Named(Named::Judges(Ok(Verdict::Commits))),
+];
 
 #[test]
-fn what_was_tried_takes_no_call(rt: HostRuntime) {
-    assert_eq!(rt;
-        written_after_tried(rt.alloc()),
-        Err(TrFault::Code(Code(2017)))
-    );
+fn a_commit_is_judged_by_the_index(rt: HostRuntime) -> Result<(), Fail> {
+    assert_eq!(rt; first_wrong(rt.alloc(), INSIDE)?, None);
+    assert_eq!(rt; first_wrong(rt.alloc(), BESIDE)?, None);
+    Ok(())
 }
 
-// How errors are handled in a life, after it was cancelled by one, and after a reset.
-fn handled(alloc: Global) -> [Result<(), Code>; 3] {
-    let mut txn = Txn::new(alloc, 0);
-    let cancels = txn.on_error(Code(2004), 1);
-    let cancelled = txn.on_error(Code(1020), 1);
-    txn.reset(1);
-    [cancels, cancelled, txn.on_error(Code(1020), 2)]
-}
-
-// What the checks of a commit come to after a cancel.
-fn judged_after_cancel(alloc: Global) -> Result<Verdict, TrFault> {
-    let mut session = new_session(alloc);
-    session.txn.cancel();
-    session.on().judge()
-}
+const TRIED: &[Row] = &[
+    Row::Named(Named::Life(Living::Tries(None))),
+    Row::Named(Named::Sets(b"k", b"v", Err(TrFault::Code(Code(2017))))),
+];
 
 #[test]
-fn a_life_ends_by_reset_cancel_and_errors(rt: HostRuntime) {
-    let lives = [Err(Code(2004)), Err(Code(1025)), Ok(())];
-    assert_eq!(rt; handled(rt.alloc()), lives);
-    assert_eq!(rt;
-        judged_after_cancel(rt.alloc()),
-        Err(TrFault::Code(Code(1025)))
-    );
+fn what_was_tried_takes_no_call(rt: HostRuntime) -> Result<(), Fail> {
+    assert_eq!(rt; first_wrong(rt.alloc(), TRIED)?, None);
+    Ok(())
+}
+
+// The last is judged after a cancel.
+const ENDED: &[Row] = &[
+    Row::Named(Named::Life(Living::Handles(2004, Err(Code(2004))))),
+    Row::Named(Named::Life(Living::Handles(1020, Err(Code(1025))))),
+    Row::Named(Named::Life(Living::Resets(1))),
+    Row::Named(Named::Life(Living::Handles(1020, Ok(())))),
+    Row::Named(Named::Life(Living::Cancels)),
+    Row::Named(Named::Judges(Err(TrFault::Code(Code(1025))))),
+];
+
+#[test]
+fn a_life_ends_by_reset_cancel_and_errors(rt: HostRuntime) -> Result<(), Fail> {
+    assert_eq!(rt; first_wrong(rt.alloc(), ENDED)?, None);
+    Ok(())
+}
+
+fn pair_of(alloc: Global, key: &[u8], value: &[u8]) -> Result<Pair, AllocError> {
+    let key = Bytes::from_slice(alloc, key)?;
+    let value = Bytes::from_slice(alloc, value)?;
+    Ok(Pair { key, value })
 }
 
 // The entries of a log: one that can be written, and where asked one that is too long.
@@ -213,46 +341,21 @@ fn entries_of(alloc: Global, too_long: bool) -> Result<Pairs, AllocError> {
     Ok(entries)
 }
 
-fn pair_of(alloc: Global, key: &[u8], value: &[u8]) -> Result<Pair, AllocError> {
-    let key = Bytes::from_slice(alloc, key)?;
-    let value = Bytes::from_slice(alloc, value)?;
-    Ok(Pair { key, value })
-}
+const LOGGED: &[Row] = &[
+    Row::Named(Named::Logs(false, Ok(()))),
+    Row::Named(Named::Reads(b"L1", Some(b"x"))),
+];
 
-// What the writes of entries under a prefix come to, and what is read of the prefix and the first key after them.
-fn log_and_read(
-    session: &mut Session,
-    prefix: &Key,
-    entries: &Pairs,
-) -> (Result<(), TrFault>, Result<Option<Bytes>, TrFault>) {
-    let written = session.txn.log(prefix, entries);
-    (written, session.on().get(b"L1", false))
-}
-
-// Whether the writes of entries come to this, and the value under the prefix and the first key is there after them.
-fn is_logged(
-    alloc: Global,
-    too_long: bool,
-    wanted: Result<(), TrFault>,
-) -> Result<bool, AllocError> {
-    let prefix = Bytes::from_slice(alloc, b"L")?;
-    let entries = entries_of(alloc, too_long)?;
-    let (written, value) = log_and_read(&mut new_session(alloc), &prefix, &entries);
-    Ok(written == wanted && is_read_as(&value, b"x"))
-}
-
-fn is_read_as(value: &Result<Option<Bytes>, TrFault>, wanted: &[u8]) -> bool {
-    match value {
-        Ok(Some(value)) => value.as_slice() == wanted,
-        _ => false,
-    }
-}
+const LOGGED_IN_PART: &[Row] = &[
+    Row::Named(Named::Logs(true, Err(TrFault::Code(Code(2102))))),
+    Row::Named(Named::Reads(b"L1", Some(b"x"))),
+];
 
 #[test]
-fn entries_are_logged_until_one_is_refused(rt: HostRuntime) {
-    assert_eq!(rt; is_logged(rt.alloc(), false, Ok(())), Ok(true));
-    let too_large = Err(TrFault::Code(Code(2102)));
-    assert_eq!(rt; is_logged(rt.alloc(), true, too_large), Ok(true));
+fn entries_are_logged_until_one_is_refused(rt: HostRuntime) -> Result<(), Fail> {
+    assert_eq!(rt; first_wrong(rt.alloc(), LOGGED)?, None);
+    assert_eq!(rt; first_wrong(rt.alloc(), LOGGED_IN_PART)?, None);
+    Ok(())
 }
 
 // What is read: a range, and the places of the first key and of `l`.
@@ -280,39 +383,23 @@ fn counts_by(on: &mut TxnOn<'_>, places: &Places, snapshot: bool) -> Result<[usi
     Ok([key.len(), selected.len(), ranged.len(), all.len()])
 }
 
-fn counts_after_writes(
-    on: &mut TxnOn<'_>,
-    places: &Places,
-    snapshot: bool,
-) -> Result<[usize; 4], TrFault> {
-    on.set(b"k", b"v")?;
-    on.set(b"l", b"w")?;
-    counts_by(on, places, snapshot)
-}
+const COUNTED: &[Row] = &[
+    Row::Named(Named::Sets(b"k", b"v", Ok(()))),
+    Row::Named(Named::Sets(b"l", b"w", Ok(()))),
+    Row::Named(Named::Counts(false, [1, 1, 1, 2])),
+    Row::Rests(b"-k;k\0-l;l\0-z;"),
+];
 
-// The counts, and the keys that the transaction rests on then.
-fn counted(
-    session: &mut Session,
-    places: &Places,
-    snapshot: bool,
-) -> Result<([usize; 4], Vec<u8>), TrFault> {
-    let counts = counts_after_writes(&mut session.on(), places, snapshot)?;
-    Ok((counts, session.rests()?))
-}
-
-// What a transaction on an empty store reads of two keys that it wrote, and the keys that it rests on then.
-fn read_by_name(alloc: Global, snapshot: bool) -> Result<([usize; 4], Vec<u8>), TrFault> {
-    let places = places_read(alloc)?;
-    counted(&mut new_session(alloc), &places, snapshot)
-}
+const COUNTED_BY_SNAPSHOT: &[Row] = &[
+    Row::Named(Named::Sets(b"k", b"v", Ok(()))),
+    Row::Named(Named::Sets(b"l", b"w", Ok(()))),
+    Row::Named(Named::Counts(true, [1, 1, 1, 2])),
+    Row::Rests(b""),
+];
 
 #[test]
 fn a_transaction_on_a_store_reads_keys_and_ranges(rt: HostRuntime) -> Result<(), Fail> {
-    let (counts, text) = read_by_name(rt.alloc(), false)?;
-    assert_eq!(rt; counts, [1, 1, 1, 2]);
-    assert_eq!(rt; text.as_slice(), b"-k;k\0-l;l\0-z;".as_slice());
-    let (counts, text) = read_by_name(rt.alloc(), true)?;
-    assert_eq!(rt; counts, [1, 1, 1, 2]);
-    assert_eq!(rt; text.as_slice(), b"".as_slice());
+    assert_eq!(rt; first_wrong(rt.alloc(), COUNTED)?, None);
+    assert_eq!(rt; first_wrong(rt.alloc(), COUNTED_BY_SNAPSHOT)?, None);
     Ok(())
 }

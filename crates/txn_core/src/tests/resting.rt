@@ -8,6 +8,7 @@ const STORED: &[Row] = &[
     Row::Call(Say::Set(b"e", b"5"), Told::Done),
     Row::Call(Say::Set(b"g", b"7"), Told::Done),
     Row::Call(Say::Commit, Told::Done),
+    Row::Next(1),
 ];
 
 // A read, and the keys that it rests on.
@@ -56,6 +57,12 @@ const SPANS: &[Resting] = &[
     (Say::Between(b"f", b"h"), b"f-\xff;"),
 ];
 
+// What readings ask of a transaction.
+trait Rested {
+    // Whether a new transaction rests on these keys after a read, and on none after a read by snapshot.
+    fn is_resting(&mut self, resting: Resting) -> Result<bool, AllocError>;
+}
+
 impl Session {
     // The keys that a new transaction rests on after a read, which is by snapshot where that is said.
     fn rests_after(&mut self, say: Say, snapshot: bool) -> Result<Vec<u8>, AllocError> {
@@ -63,8 +70,9 @@ impl Session {
         self.answer(&call_of(self.alloc, say, snapshot)?)?;
         self.rests()
     }
+}
 
-    // Whether a new transaction rests on these keys after a read, and on none after a read by snapshot.
+impl Rested for Session {
     fn is_resting(&mut self, resting: Resting) -> Result<bool, AllocError> {
         let (say, wanted) = resting;
         let is_bare = self.rests_after(say, true)?.is_empty();
@@ -72,24 +80,31 @@ impl Session {
     }
 }
 
-// The place of the first read over the stored pairs that rests on other keys.
-fn first_other(alloc: Global, readings: &[Resting]) -> Result<Option<usize>, AllocError> {
-    let mut session = stored(alloc)?;
+// The place of the first read that rests on other keys.
+fn first_other_of<A: Rested>(
+    asked: &mut A,
+    readings: &[Resting],
+) -> Result<Option<usize>, AllocError> {
     for (place, resting) in readings.iter().enumerate() {
-        if !session.is_resting(*resting)? {
+        if !asked.is_resting(*resting)? {
             return Ok(Some(place));
         }
     }
     Ok(None)
 }
 
-// A session over the stored pairs.
-fn stored(alloc: Global) -> Result<Session, AllocError> {
-    let mut session = new_session(alloc);
-    for row in STORED {
-        session.is_so(*row)?;
-    }
-    Ok(session)
+// The same over the stored pairs.
+fn first_other_over<A: Asked + AskedByName + Rested + Drop>(
+    mut asked: A,
+    readings: &[Resting],
+) -> Result<Option<usize>, AllocError> {
+    first_wrong_of(&mut asked, STORED)?;
+    first_other_of(&mut asked, readings)
+}
+
+// The place of the first read over the stored pairs that rests on other keys.
+fn first_other(alloc: Global, readings: &[Resting]) -> Result<Option<usize>, AllocError> {
+    first_other_over(new_session(alloc), readings)
 }
 
 #[test]
@@ -104,16 +119,19 @@ fn a_read_of_a_range_rests_on_what_it_went_over(rt: HostRuntime) -> Result<(), F
     Ok(())
 }
 
+// The place of the first row that does not hold behind others.
+fn first_wrong_behind<A: Asked + AskedByName + Drop>(
+    mut asked: A,
+    before: &[Row],
+    rows: &[Row],
+) -> Result<Option<usize>, AllocError> {
+    first_wrong_of(&mut asked, before)?;
+    first_wrong_of(&mut asked, rows)
+}
+
 // The place of the first row that does not hold of a new transaction over the stored pairs.
 fn first_wrong_over(alloc: Global, rows: &[Row]) -> Result<Option<usize>, AllocError> {
-    let mut session = stored(alloc)?;
-    session.begin_anew();
-    for (place, row) in rows.iter().enumerate() {
-        if !session.is_so(*row)? {
-            return Ok(Some(place));
-        }
-    }
-    Ok(None)
+    first_wrong_behind(new_session(alloc), STORED, rows)
 }
 
 const DECIDED: &[Row] = &[

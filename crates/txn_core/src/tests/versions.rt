@@ -1,75 +1,55 @@
 //! Versions, and the versionstamp that is promised.
 
 use super::*;
+use lives::Living;
 
-fn set_versions(on: &mut TxnOn<'_>) -> ([Result<(), TrFault>; 3], Result<u64, TrFault>) {
-    let zero = on.set_read_version(0);
-    let three = on.set_read_version(3);
-    let four = on.set_read_version(4);
-    ([zero, three, four], on.read_version())
-}
+// Of a transaction on an empty store.
+const SET_BY_NAME: &[Row] = &[
+    Row::Named(Named::Life(Living::SetsVersion(0, INVALID))),
+    Row::Named(Named::Life(Living::SetsVersion(3, Ok(())))),
+    Row::Named(Named::Life(Living::SetsVersion(4, ALREADY_SET))),
+    Row::Named(Named::Life(Living::Version(Ok(3)))),
+];
 
-// What a transaction on an empty store is answered when it sets its version to 0, to 3 and to 4, and its version then.
-fn versions_set(alloc: Global) -> ([Result<(), TrFault>; 3], Result<u64, TrFault>) {
-    set_versions(&mut new_session(alloc).on())
-}
+const INVALID: Result<(), TrFault> = Err(TrFault::Code(Code(2011)));
 
-#[test]
-fn a_version_is_set_once_and_above_0(rt: HostRuntime) {
-    let (set, version) = versions_set(rt.alloc());
-    let invalid = Err(TrFault::Code(Code(2011)));
-    let already = Err(TrFault::Code(Code(2010)));
-    assert_eq!(rt; set, [invalid, Ok(()), already]);
-    assert_eq!(rt; version, Ok(3));
-}
-
-// What is promised in a life, after a reset, and after a cancel.
-fn promised(alloc: Global) -> [Result<u64, Code>; 3] {
-    let mut txn = Txn::new(alloc, 7);
-    let first = txn.promise();
-    txn.reset(9);
-    let next = txn.promise();
-    txn.cancel();
-    [first, next, txn.promise()]
-}
-
-// What is promised after a commit that was tried.
-fn promised_after_tried(alloc: Global) -> Result<u64, Code> {
-    let (store, index) = (Store::new(alloc), WriteIndex::new(alloc));
-    let mut txn = Txn::new(alloc, 0);
-    let mut on = TxnOn {
-        txn: &mut txn,
-        store: &store,
-        index: &index,
-    };
-    on.tried(Tried::ReadOnly);
-    on.promise()
-}
+const ALREADY_SET: Result<(), TrFault> = Err(TrFault::Code(Code(2010)));
 
 #[test]
-fn a_life_promises_its_versionstamp(rt: HostRuntime) {
-    let wanted = [Ok(7), Ok(9), Err(Code(1025))];
-    assert_eq!(rt; promised(rt.alloc()), wanted);
-    assert_eq!(rt; promised_after_tried(rt.alloc()), Err(Code(2017)));
+fn a_version_is_set_once_and_above_0(rt: HostRuntime) -> Result<(), Fail> {
+    assert_eq!(rt; first_wrong(rt.alloc(), SET_BY_NAME)?, None);
+    Ok(())
+}
+
+// What is promised in a life, after a reset, after a cancel, and after a commit that was tried.
+const PROMISED: &[Row] = &[
+    Row::Named(Named::Life(Living::Begins(7))),
+    Row::Named(Named::Life(Living::Promises(Ok(7)))),
+    Row::Named(Named::Life(Living::Resets(9))),
+    Row::Named(Named::Life(Living::Promises(Ok(9)))),
+    Row::Named(Named::Life(Living::Cancels)),
+    Row::Named(Named::Life(Living::Promises(Err(Code(1025))))),
+    Row::Named(Named::Life(Living::Tries(None))),
+    Row::Named(Named::Life(Living::Promises(Err(Code(2017))))),
+];
+
+#[test]
+fn a_life_promises_its_versionstamp(rt: HostRuntime) -> Result<(), Fail> {
+    assert_eq!(rt; first_wrong(rt.alloc(), PROMISED)?, None);
+    Ok(())
 }
 
 // The version that a commit made, before it and after it.
-fn committed(alloc: Global) -> [i64; 2] {
-    let (store, index) = (Store::new(alloc), WriteIndex::new(alloc));
-    let mut txn = Txn::new(alloc, 0);
-    let before = txn.committed_version();
-    let mut on = TxnOn {
-        txn: &mut txn,
-        store: &store,
-        index: &index,
-    };
-    on.tried(Tried::Version(5));
-    [before, txn.committed_version()]
-}
+const COMMITTED: &[Row] = &[
+    Row::Named(Named::Life(Living::Committed(-1))),
+    Row::Named(Named::Life(Living::Tries(Some(5)))),
+    Row::Named(Named::Life(Living::Committed(5))),
+];
 
 #[test]
-fn a_transaction_tells_the_version_that_was_made(rt: HostRuntime) {
-    assert_eq!(rt; committed(rt.alloc()), [-1, 5]);
+fn a_transaction_tells_the_version_that_was_made(rt: HostRuntime) -> Result<(), Fail> {
+    assert_eq!(rt; first_wrong(rt.alloc(), COMMITTED)?, None);
+    Ok(())
 }
 
 const SET: &[Row] = &[
@@ -174,51 +154,34 @@ fn a_life_that_ended_takes_no_call_for_versions_and_conflicts(rt: HostRuntime) -
     Ok(())
 }
 
-// What became of a life after a read-only commit.
-fn outcome_of_read_only(alloc: Global) -> Option<Outcome> {
-    let (store, index) = (Store::new(alloc), WriteIndex::new(alloc));
-    let mut txn = Txn::new(alloc, 0);
-    let mut on = TxnOn {
-        txn: &mut txn,
-        store: &store,
-        index: &index,
-    };
-    on.tried(Tried::ReadOnly);
-    txn.outcome()
-}
-
-// What became of a life after a commit that made version 7.
-fn outcome_of_version(alloc: Global) -> Option<Outcome> {
-    let (store, index) = (Store::new(alloc), WriteIndex::new(alloc));
-    let mut txn = Txn::new(alloc, 0);
-    let mut on = TxnOn {
-        txn: &mut txn,
-        store: &store,
-        index: &index,
-    };
-    on.tried(Tried::Version(7));
-    txn.outcome()
-}
-
-// What became of a life before its commit, and after a cancel.
-fn outcomes(alloc: Global) -> [Option<Outcome>; 2] {
-    let mut txn = Txn::new(alloc, 7);
-    let open = txn.outcome();
-    txn.cancel();
-    [open, txn.outcome()]
-}
+// What became of a life before its end, and after a cancel.
+const PHASES: &[Row] = &[
+    Row::Named(Named::Life(Living::Begins(7))),
+    Row::Named(Named::Life(Living::Became(None))),
+    Row::Named(Named::Life(Living::Cancels)),
+    Row::Named(Named::Life(Living::Became(Some(Outcome::Lacks(Code(1025)))))),
+    Row::Named(Named::Life(Living::Begins(5))),
+    Row::Named(Named::Life(Living::Number(5))),
+];
 
 #[test]
-fn an_outcome_follows_from_the_phase(rt: HostRuntime) {
-    let wanted = [None, Some(Outcome::Lacks(Code(1025)))];
-    assert_eq!(rt; outcomes(rt.alloc()), wanted);
-    assert_eq!(rt; Txn::new(rt.alloc(), 5).life(), 5);
+fn an_outcome_follows_from_the_phase(rt: HostRuntime) -> Result<(), Fail> {
+    assert_eq!(rt; first_wrong(rt.alloc(), PHASES)?, None);
+    Ok(())
 }
 
+const STAMP_OF_7: Outcome = Outcome::HasStamp([0, 0, 0, 0, 0, 0, 0, 7, 0, 0]);
+
+// What became of a life after a read-only commit, and after one that made version 7.
+const OUTCOMES: &[Row] = &[
+    Row::Named(Named::Life(Living::Tries(None))),
+    Row::Named(Named::Life(Living::Became(Some(Outcome::Lacks(Code(2021)))))),
+    Row::Named(Named::Life(Living::Tries(Some(7)))),
+    Row::Named(Named::Life(Living::Became(Some(STAMP_OF_7)))),
+];
+
 #[test]
-fn an_outcome_follows_from_what_a_commit_came_to(rt: HostRuntime) {
-    let read_only = Some(Outcome::Lacks(Code(2021)));
-    let stamp = Outcome::HasStamp([0, 0, 0, 0, 0, 0, 0, 7, 0, 0]);
-    assert_eq!(rt; outcome_of_read_only(rt.alloc()), read_only);
-    assert_eq!(rt; outcome_of_version(rt.alloc()), Some(stamp));
+fn an_outcome_follows_from_what_a_commit_came_to(rt: HostRuntime) -> Result<(), Fail> {
+    assert_eq!(rt; first_wrong(rt.alloc(), OUTCOMES)?, None);
+    Ok(())
 }
