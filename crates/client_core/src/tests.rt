@@ -105,27 +105,87 @@ fn apply(core: &mut Core, request: &Request) -> Reply {
 // A request, what it is answered, and the last version after it.
 type Row = (Ask, Told<'static>, u64);
 
+// What rows ask of a core. What goes over rows knows no more of it, so that its proof sees nothing of what a core holds.
+trait Asked {
+    // Whether a request is answered so, is counted, and leaves this last version.
+    fn is_answered(&mut self, alloc: Global, row: Row) -> Result<bool, AllocError>;
+
+    // Whether these pairs are left at the last version, each as `key=value;`.
+    fn is_left(&self, alloc: Global, wanted: &[u8]) -> Result<bool, AllocError>;
+
+    // Whether it has these pairs between two keys.
+    fn is_between(&self, alloc: Global, span: Span) -> Result<bool, AllocError>;
+}
+
+// What a request is answered, and whether it is counted and leaves this last version.
+fn apply_counted(core: &mut Core, request: &Request, last: u64) -> (Reply, bool) {
+    let applied = core.applied().saturating_add(1);
+    let reply = apply(core, request);
+    (reply, core.last() == last && core.applied() == applied)
+}
+
 // Whether a request is answered so, is counted, and leaves this last version.
-fn is_answered(alloc: Global, core: &mut Core, row: Row) -> Result<bool, AllocError> {
-    let (ask, wanted, last) = row;
-    let request = request_of(alloc, ask)?;
-    let applied = core.applied();
-    let reply = apply(core, &request);
-    Ok(
-        core.last() == last
-            && core.applied() == applied.saturating_add(1)
-            && is_told(alloc, &reply, wanted)?,
-    )
+fn is_told_of(
+    alloc: Global,
+    core: &mut Core,
+    request: &Request,
+    wanted: Told<'_>,
+    last: u64,
+) -> Result<bool, AllocError> {
+    let (reply, is_counted) = apply_counted(core, request, last);
+    Ok(is_counted && is_told(alloc, &reply, wanted)?)
+}
+
+impl Asked for Core {
+    fn is_answered(&mut self, alloc: Global, row: Row) -> Result<bool, AllocError> {
+        let (ask, wanted, last) = row;
+        let request = request_of(alloc, ask)?;
+        is_told_of(alloc, self, &request, wanted, last)
+    }
+
+    fn is_left(&self, alloc: Global, wanted: &[u8]) -> Result<bool, AllocError> {
+        Ok(shown(alloc, self)?.as_slice() == wanted)
+    }
+
+    fn is_between(&self, alloc: Global, span: Span) -> Result<bool, AllocError> {
+        let (begin, end, wanted) = span;
+        let found = between(alloc, self, begin, end)?;
+        Ok(found.as_slice() == wanted)
+    }
 }
 
 // The place of the first request that is answered otherwise.
-fn first_wrong(alloc: Global, core: &mut Core, rows: &[Row]) -> Result<Option<usize>, AllocError> {
+fn first_wrong<A: Asked>(
+    alloc: Global,
+    asked: &mut A,
+    rows: &[Row],
+) -> Result<Option<usize>, AllocError> {
     for (place, row) in rows.iter().enumerate() {
-        if !is_answered(alloc, core, *row)? {
+        if !asked.is_answered(alloc, *row)? {
             return Ok(Some(place));
         }
     }
     Ok(None)
+}
+
+// The same, of something that ends then.
+fn first_wrong_in<A: Asked + Drop>(
+    alloc: Global,
+    mut asked: A,
+    rows: &[Row],
+) -> Result<Option<usize>, AllocError> {
+    first_wrong(alloc, &mut asked, rows)
+}
+
+// The same, and whether these pairs are left.
+fn outcome_of<A: Asked + Drop>(
+    alloc: Global,
+    mut asked: A,
+    rows: &[Row],
+    wanted: &[u8],
+) -> Result<(Option<usize>, bool), AllocError> {
+    let wrong = first_wrong(alloc, &mut asked, rows)?;
+    Ok((wrong, asked.is_left(alloc, wanted)?))
 }
 
 type Loaded = (&'static [u8], &'static [u8]);
@@ -144,13 +204,18 @@ fn pairs_of(alloc: Global, loaded: &[Loaded]) -> Result<Pairs, AllocError> {
     Ok(pairs)
 }
 
-fn core_of(alloc: Global, loaded: &[Loaded]) -> Result<Core, AllocError> {
-    let arguments = RunArgs {
+fn arguments_of(alloc: Global) -> Result<RunArgs, AllocError> {
+    Ok(RunArgs {
         prefix: bytes_of(alloc, b"p")?,
         seed: 0,
         polls: 10,
-    };
-    Core::load(alloc, &arguments, pairs_of(alloc, loaded)?)
+    })
+}
+
+fn core_of(alloc: Global, loaded: &[Loaded]) -> Result<Core, AllocError> {
+    let pairs = pairs_of(alloc, loaded)?;
+    let arguments = arguments_of(alloc)?;
+    Core::load(alloc, &arguments, pairs)
 }
 
 const TWO: &[Loaded] = &[(b"b", b"1"), (b"a", b"2"), (b"b", b"3")];
@@ -186,9 +251,27 @@ fn shown(alloc: Global, core: &Core) -> Result<Vec<u8>, AllocError> {
     Ok(text)
 }
 
-// The place of the first request that a new core answers otherwise, and the pairs that are left.
-fn outcome(alloc: Global, rows: &[Row]) -> Result<(Option<usize>, Vec<u8>), AllocError> {
-    outcome_over(alloc, TWO, rows)
+// The place of the first request that a new core answers otherwise.
+fn first_wrong_of_new(alloc: Global, rows: &[Row]) -> Result<Option<usize>, AllocError> {
+    first_wrong_in(alloc, new_core(alloc)?, rows)
+}
+
+// The same of a core over these pairs.
+fn first_wrong_over(
+    alloc: Global,
+    loaded: &[Loaded],
+    rows: &[Row],
+) -> Result<Option<usize>, AllocError> {
+    first_wrong_in(alloc, core_of(alloc, loaded)?, rows)
+}
+
+// The place of the first request that a new core answers otherwise, and whether these pairs are left.
+fn outcome(
+    alloc: Global,
+    rows: &[Row],
+    wanted: &[u8],
+) -> Result<(Option<usize>, bool), AllocError> {
+    outcome_of(alloc, new_core(alloc)?, rows, wanted)
 }
 
 // The same of a core over these pairs.
@@ -196,11 +279,9 @@ fn outcome_over(
     alloc: Global,
     loaded: &[Loaded],
     rows: &[Row],
-) -> Result<(Option<usize>, Vec<u8>), AllocError> {
-    let mut core = core_of(alloc, loaded)?;
-    let wrong = first_wrong(alloc, &mut core, rows)?;
-    let text = shown(alloc, &core)?;
-    Ok((wrong, text))
+    wanted: &[u8],
+) -> Result<(Option<usize>, bool), AllocError> {
+    outcome_of(alloc, core_of(alloc, loaded)?, rows, wanted)
 }
 
 // Two keys, and the pairs between them.
@@ -220,37 +301,41 @@ fn between(alloc: Global, core: &Core, begin: &[u8], end: &[u8]) -> Result<Vec<u
     spelled(alloc, &core.pairs_between(&range.begin, &range.end)?)
 }
 
-// Whether a core has these pairs between two keys.
-fn is_between(alloc: Global, core: &Core, span: Span) -> Result<bool, AllocError> {
-    let (begin, end, wanted) = span;
-    let found = between(alloc, core, begin, end)?;
-    Ok(found.as_slice() == wanted)
-}
-
-// The place of the first span of which a new core has other pairs.
-fn first_other_span(alloc: Global) -> Result<Option<usize>, AllocError> {
-    let core = new_core(alloc)?;
+// The place of the first span of which other pairs are there.
+fn first_other_span<A: Asked + Drop>(alloc: Global, asked: A) -> Result<Option<usize>, AllocError> {
     for (place, span) in SPANS.iter().enumerate() {
-        if !is_between(alloc, &core, *span)? {
+        if !asked.is_between(alloc, *span)? {
             return Ok(Some(place));
         }
     }
     Ok(None)
 }
 
-// The last version of a new core, how many requests it took, and its pairs.
-fn loaded(alloc: Global) -> Result<(u64, u64, Vec<u8>), AllocError> {
-    let core = new_core(alloc)?;
-    let text = spelled(alloc, &core.dump_pairs()?)?;
-    Ok((core.last(), core.applied(), text))
+// The same of a new core.
+fn first_other_of_new(alloc: Global) -> Result<Option<usize>, AllocError> {
+    first_other_span(alloc, new_core(alloc)?)
+}
+
+// The pairs of a dump.
+fn dumped(alloc: Global, core: &Core) -> Result<Vec<u8>, AllocError> {
+    spelled(alloc, &core.dump_pairs()?)
+}
+
+// The last version of a core, how many requests it took, and whether these are its pairs.
+fn state_of(alloc: Global, core: &Core, wanted: &[u8]) -> Result<(u64, u64, bool), AllocError> {
+    let is_dumped = dumped(alloc, core)?.as_slice() == wanted;
+    Ok((core.last(), core.applied(), is_dumped))
+}
+
+// The same of a new core.
+fn loaded(alloc: Global, wanted: &[u8]) -> Result<(u64, u64, bool), AllocError> {
+    state_of(alloc, &new_core(alloc)?, wanted)
 }
 
 #[test]
 fn loads_pairs(rt: HostRuntime) -> Result<(), Fail> {
-    let (last, applied, text) = loaded(rt.alloc())?;
-    assert_eq!(rt; (last, applied), (1, 0));
-    assert_eq!(rt; text.as_slice(), b"a=2;b=3;".as_slice());
-    assert_eq!(rt; first_other_span(rt.alloc())?, None);
+    assert_eq!(rt; loaded(rt.alloc(), b"a=2;b=3;")?, (1, 0, true));
+    assert_eq!(rt; first_other_of_new(rt.alloc())?, None);
     Ok(())
 }
 
@@ -269,9 +354,7 @@ const SETS: &[Row] = &[
 
 #[test]
 fn sets_and_commits(rt: HostRuntime) -> Result<(), Fail> {
-    let (wrong, text) = outcome(rt.alloc(), SETS)?;
-    assert_eq!(rt; wrong, None);
-    assert_eq!(rt; text.as_slice(), b"a=6;b=3;c=4;".as_slice());
+    assert_eq!(rt; outcome(rt.alloc(), SETS, b"a=6;b=3;c=4;")?, (None, true));
     Ok(())
 }
 
@@ -297,9 +380,7 @@ const READS: &[Row] = &[
 
 #[test]
 fn reads_its_own_writes_at_its_own_version(rt: HostRuntime) -> Result<(), Fail> {
-    let (wrong, text) = outcome(rt.alloc(), READS)?;
-    assert_eq!(rt; wrong, None);
-    assert_eq!(rt; text.as_slice(), b"".as_slice());
+    assert_eq!(rt; outcome(rt.alloc(), READS, b"")?, (None, true));
     Ok(())
 }
 
@@ -327,9 +408,7 @@ const LIVES: &[Row] = &[
 
 #[test]
 fn a_life_ends_with_its_commit(rt: HostRuntime) -> Result<(), Fail> {
-    let (wrong, text) = outcome(rt.alloc(), LIVES)?;
-    assert_eq!(rt; wrong, None);
-    assert_eq!(rt; text.as_slice(), b"a=2;b=3;c=4;".as_slice());
+    assert_eq!(rt; outcome(rt.alloc(), LIVES, b"a=2;b=3;c=4;")?, (None, true));
     Ok(())
 }
 
@@ -354,8 +433,7 @@ const CANCELLED: &[Row] = &[
 
 #[test]
 fn a_cancelled_life_takes_no_call(rt: HostRuntime) -> Result<(), Fail> {
-    let (wrong, _text) = outcome(rt.alloc(), CANCELLED)?;
-    assert_eq!(rt; wrong, None);
+    assert_eq!(rt; first_wrong_of_new(rt.alloc(), CANCELLED)?, None);
     Ok(())
 }
 
@@ -389,7 +467,7 @@ fn is_handled(alloc: Global, code: u16, may_retry: bool) -> Result<bool, AllocEr
         (Ask::On(P, Say::OnError(code)), answer, 1),
         (Ask::On(P, Say::Get(b"c")), next, 1),
     ];
-    Ok(outcome(alloc, &rows)?.0.is_none())
+    Ok(first_wrong_of_new(alloc, &rows)?.is_none())
 }
 
 // The first code that is handled otherwise.
@@ -417,8 +495,7 @@ const RENEWED: &[Row] = &[
 
 #[test]
 fn a_new_transaction_takes_the_place_of_the_old(rt: HostRuntime) -> Result<(), Fail> {
-    let (wrong, _text) = outcome(rt.alloc(), RENEWED)?;
-    assert_eq!(rt; wrong, None);
+    assert_eq!(rt; first_wrong_of_new(rt.alloc(), RENEWED)?, None);
     Ok(())
 }
 
@@ -443,9 +520,7 @@ const APART: &[Row] = &[
 
 #[test]
 fn a_call_on_the_database_is_committed(rt: HostRuntime) -> Result<(), Fail> {
-    let (wrong, text) = outcome(rt.alloc(), APART)?;
-    assert_eq!(rt; wrong, None);
-    assert_eq!(rt; text.as_slice(), b"c=4;".as_slice());
+    assert_eq!(rt; outcome(rt.alloc(), APART, b"c=4;")?, (None, true));
     Ok(())
 }
 
@@ -471,8 +546,9 @@ const LOGS: &[Row] = &[
 
 #[test]
 fn logs_all_entries_or_none(rt: HostRuntime) -> Result<(), Fail> {
-    let (wrong, text) = outcome(rt.alloc(), LOGS)?;
-    assert_eq!(rt; wrong, None);
-    assert_eq!(rt; text.as_slice(), b"a=2;b=3;c=4;log/1=y;log/2=z;".as_slice());
+    assert_eq!(rt;
+        outcome(rt.alloc(), LOGS, b"a=2;b=3;c=4;log/1=y;log/2=z;")?,
+        (None, true)
+    );
     Ok(())
 }

@@ -70,6 +70,22 @@ struct Answers {
     passed: usize,
 }
 
+fn new_answers(alloc: Global) -> Answers {
+    Answers {
+        faults: Vec::new(alloc),
+        values: 0,
+        keys: 0,
+        pairs: 0,
+        versions: 0,
+        lives: 0,
+        stamps: 0,
+        undecided: 0,
+        machines: 0,
+        emptied: 0,
+        passed: 0,
+    }
+}
+
 impl Answers {
     fn add(&mut self, reply: &Reply) -> Result<(), AllocError> {
         match reply {
@@ -122,26 +138,45 @@ fn is_alike(beside: &Beside) -> Result<bool, AllocError> {
     )
 }
 
-// Whether both take a request alike.
-fn is_taken_alike(
-    alloc: Global,
-    beside: &mut Beside,
-    ask: Ask,
-    answers: &mut Answers,
-) -> Result<bool, AllocError> {
-    let request = request_of(alloc, ask)?;
-    Ok(is_answered_alike(beside, &request, answers)? && is_alike(beside)?)
+// What lists of requests ask of the two.
+trait Taken {
+    // Whether both take a request alike.
+    fn is_taken_alike(
+        &mut self,
+        alloc: Global,
+        ask: Ask,
+        answers: &mut Answers,
+    ) -> Result<bool, AllocError>;
+
+    // How many commits rested on a key and were let through beside a commit after their version.
+    fn passed(&self) -> usize;
+}
+
+impl Taken for Beside {
+    fn is_taken_alike(
+        &mut self,
+        alloc: Global,
+        ask: Ask,
+        answers: &mut Answers,
+    ) -> Result<bool, AllocError> {
+        let request = request_of(alloc, ask)?;
+        Ok(is_answered_alike(self, &request, answers)? && is_alike(self)?)
+    }
+
+    fn passed(&self) -> usize {
+        self.plain.passed()
+    }
 }
 
 // The place of the first drawn request that the two take otherwise.
-fn first_drawn(
+fn first_drawn<T: Taken>(
     alloc: Global,
-    beside: &mut Beside,
+    beside: &mut T,
     draws: &mut Draws,
     answers: &mut Answers,
 ) -> Result<Option<usize>, AllocError> {
     for place in 0..REQUESTS {
-        if !is_taken_alike(alloc, beside, draws.ask(), answers)? {
+        if !beside.is_taken_alike(alloc, draws.ask(), answers)? {
             return Ok(Some(place));
         }
     }
@@ -149,13 +184,13 @@ fn first_drawn(
 }
 
 // The same of the last requests of a list, by which each name commits.
-fn first_last(
+fn first_last<T: Taken>(
     alloc: Global,
-    beside: &mut Beside,
+    beside: &mut T,
     answers: &mut Answers,
 ) -> Result<Option<usize>, AllocError> {
     for (place, name) in [P, Q, R].iter().enumerate() {
-        if !is_taken_alike(alloc, beside, Ask::On(name, Say::Commit), answers)? {
+        if !beside.is_taken_alike(alloc, Ask::On(name, Say::Commit), answers)? {
             return Ok(Some(place.saturating_add(REQUESTS)));
         }
     }
@@ -163,42 +198,42 @@ fn first_last(
 }
 
 // The place of the first request of a list that the two take otherwise.
+fn first_difference_of<T: Taken + Drop>(
+    alloc: Global,
+    mut beside: T,
+    draws: &mut Draws,
+    answers: &mut Answers,
+) -> Result<Option<usize>, AllocError> {
+    let mut place = first_drawn(alloc, &mut beside, draws, answers)?;
+    if place.is_none() {
+        place = first_last(alloc, &mut beside, answers)?;
+    }
+    answers.passed = answers.passed.saturating_add(beside.passed());
+    Ok(place)
+}
+
+// The same of a new core and a new plain program.
 fn first_difference(
     alloc: Global,
     draws: &mut Draws,
     answers: &mut Answers,
 ) -> Result<Option<usize>, AllocError> {
-    let mut beside = new_beside(alloc, draws.loaded())?;
-    let mut place = first_drawn(alloc, &mut beside, draws, answers)?;
-    if place.is_none() {
-        place = first_last(alloc, &mut beside, answers)?;
-    }
-    answers.passed = answers.passed.saturating_add(beside.plain.passed());
-    Ok(place)
+    let beside = new_beside(alloc, draws.loaded())?;
+    first_difference_of(alloc, beside, draws, answers)
 }
 
-// The first list in which the two differ, and the place of its request there; and what was answered.
-fn compared(alloc: Global) -> Result<(Option<(usize, usize)>, Answers), AllocError> {
-    let mut draws = Draws::new();
-    let mut answers = Answers {
-        faults: Vec::new(alloc),
-        values: 0,
-        keys: 0,
-        pairs: 0,
-        versions: 0,
-        lives: 0,
-        stamps: 0,
-        undecided: 0,
-        machines: 0,
-        emptied: 0,
-        passed: 0,
-    };
+// The first list in which the two differ, and the place of its request there.
+fn first_list(
+    alloc: Global,
+    draws: &mut Draws,
+    answers: &mut Answers,
+) -> Result<Option<(usize, usize)>, AllocError> {
     for list in 0..LISTS {
-        if let Some(place) = first_difference(alloc, &mut draws, &mut answers)? {
-            return Ok((Some((list, place)), answers));
+        if let Some(place) = first_difference(alloc, draws, answers)? {
+            return Ok(Some((list, place)));
         }
     }
-    Ok((None, answers))
+    Ok(None)
 }
 
 // The codes of faults that a request can be answered with, a code that is only handed in not among them.
@@ -216,14 +251,25 @@ fn first_missing(answers: &Answers) -> Option<u16> {
     None
 }
 
+// Whether there was some of each other answer.
+fn has_each(answers: &Answers) -> bool {
+    let reads = answers.values > 0 && answers.keys > 0 && answers.pairs > 0;
+    let lives = answers.versions > 0 && answers.lives > 0 && answers.passed > 0;
+    let stamps = answers.stamps > 0 && answers.undecided > 0;
+    let machines = answers.machines > 0 && answers.emptied > 0;
+    reads && lives && stamps && machines
+}
+
+// The first list in which the two differ, and the place of its request there; the first code that no request was
+// answered with; and whether there was some of each other answer.
+fn compared(alloc: Global) -> Result<(Option<(usize, usize)>, Option<u16>, bool), AllocError> {
+    let mut answers = new_answers(alloc);
+    let difference = first_list(alloc, &mut Draws::new(), &mut answers)?;
+    Ok((difference, first_missing(&answers), has_each(&answers)))
+}
+
 #[test]
 fn is_the_plain_program(rt: HostRuntime) -> Result<(), Fail> {
-    let (difference, answers) = compared(rt.alloc())?;
-    assert_eq!(rt; difference, None);
-    assert_eq!(rt; first_missing(&answers), None);
-    assert!(rt; answers.values > 0 && answers.keys > 0 && answers.pairs > 0);
-    assert!(rt; answers.versions > 0 && answers.lives > 0 && answers.passed > 0);
-    assert!(rt; answers.stamps > 0 && answers.undecided > 0);
-    assert!(rt; answers.machines > 0 && answers.emptied > 0);
+    assert_eq!(rt; compared(rt.alloc())?, (None, None, true));
     Ok(())
 }

@@ -28,9 +28,10 @@ const CONFLICTS: &[Row] = &[
 fn a_commit_is_refused_for_what_was_declared_since_its_version(
     rt: HostRuntime,
 ) -> Result<(), Fail> {
-    let (wrong, text) = outcome_over(rt.alloc(), K, CONFLICTS)?;
-    assert_eq!(rt; wrong, None);
-    assert_eq!(rt; text.as_slice(), b"k=2;".as_slice());
+    assert_eq!(rt;
+        outcome_over(rt.alloc(), K, CONFLICTS, b"k=2;")?,
+        (None, true)
+    );
     Ok(())
 }
 
@@ -51,9 +52,7 @@ const ABOUT: &[Row] = &[
 
 #[test]
 fn each_commit_declares_what_it_wrote(rt: HostRuntime) -> Result<(), Fail> {
-    let (wrong, text) = outcome(rt.alloc(), ABOUT)?;
-    assert_eq!(rt; wrong, None);
-    assert_eq!(rt; text.as_slice(), b"b=3;c1=y;x=1;".as_slice());
+    assert_eq!(rt; outcome(rt.alloc(), ABOUT, b"b=3;c1=y;x=1;")?, (None, true));
     Ok(())
 }
 
@@ -68,9 +67,10 @@ const SNAPSHOTS: &[Row] = &[
 
 #[test]
 fn no_commit_is_refused_for_reads_by_snapshot(rt: HostRuntime) -> Result<(), Fail> {
-    let (wrong, text) = outcome_over(rt.alloc(), K, SNAPSHOTS)?;
-    assert_eq!(rt; wrong, None);
-    assert_eq!(rt; text.as_slice(), b"k=2;".as_slice());
+    assert_eq!(rt;
+        outcome_over(rt.alloc(), K, SNAPSHOTS, b"k=2;")?,
+        (None, true)
+    );
     Ok(())
 }
 
@@ -85,9 +85,7 @@ const SILENT: &[Row] = &[
 
 #[test]
 fn no_commit_is_refused_for_a_silent_write(rt: HostRuntime) -> Result<(), Fail> {
-    let (wrong, text) = outcome_over(rt.alloc(), K, SILENT)?;
-    assert_eq!(rt; wrong, None);
-    assert_eq!(rt; text.as_slice(), b"k=1;".as_slice());
+    assert_eq!(rt; outcome_over(rt.alloc(), K, SILENT, b"k=1;")?, (None, true));
     Ok(())
 }
 
@@ -112,9 +110,7 @@ const TOLD: &[Row] = &[
 
 #[test]
 fn a_transaction_is_told_what_it_rests_on_and_declares(rt: HostRuntime) -> Result<(), Fail> {
-    let (wrong, text) = outcome_over(rt.alloc(), K, TOLD)?;
-    assert_eq!(rt; wrong, None);
-    assert_eq!(rt; text.as_slice(), b"".as_slice());
+    assert_eq!(rt; outcome_over(rt.alloc(), K, TOLD, b"")?, (None, true));
     Ok(())
 }
 
@@ -148,9 +144,10 @@ const VERSIONS: &[Row] = &[
 
 #[test]
 fn a_version_is_taken_set_and_made(rt: HostRuntime) -> Result<(), Fail> {
-    let (wrong, text) = outcome_over(rt.alloc(), K, VERSIONS)?;
-    assert_eq!(rt; wrong, None);
-    assert_eq!(rt; text.as_slice(), b"k=2;".as_slice());
+    assert_eq!(rt;
+        outcome_over(rt.alloc(), K, VERSIONS, b"k=2;")?,
+        (None, true)
+    );
     Ok(())
 }
 
@@ -177,8 +174,7 @@ const PROMISES: &[Row] = &[
 
 #[test]
 fn a_versionstamp_is_promised_by_the_number_of_the_life(rt: HostRuntime) -> Result<(), Fail> {
-    let (wrong, _text) = outcome(rt.alloc(), PROMISES)?;
-    assert_eq!(rt; wrong, None);
+    assert_eq!(rt; first_wrong_of_new(rt.alloc(), PROMISES)?, None);
     Ok(())
 }
 
@@ -219,11 +215,12 @@ const STAMPS: &[Row] = &[
 
 const FILLED: &[u8] = b"c\0\0\0\0\0\0\0\x02\0\0";
 
+// What is left then.
+const STAMPED: &[u8] =
+    b"c\0\0\0\0\0\0\0\x02\0\0=1;c\0\0\0\0\0\0\0\x03\0\0=1;k=<\0\0\0\0\0\0\0\x02\0\0;";
+
 #[test]
 fn a_commit_fills_its_versionstamp_in(rt: HostRuntime) -> Result<(), Fail> {
-    let (wrong, text) = outcome_over(rt.alloc(), K, STAMPS)?;
-    assert_eq!(rt; wrong, None);
-    let wanted = b"c\0\0\0\0\0\0\0\x02\0\0=1;c\0\0\0\0\0\0\0\x03\0\0=1;k=<\0\0\0\0\0\0\0\x02\0\0;";
-    assert_eq!(rt; text.as_slice(), wanted.as_slice());
+    assert_eq!(rt; outcome_over(rt.alloc(), K, STAMPS, STAMPED)?, (None, true));
     Ok(())
 }

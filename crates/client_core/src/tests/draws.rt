@@ -87,6 +87,14 @@ const KEY_LENS: &[usize] = &[0, 1, 9_999, 10_000, 10_001];
 
 const VALUE_LENS: &[usize] = &[0, 1, 99_999, 100_000, 100_001];
 
+// Of the keys that are appended to.
+const SHORT_LENS: &[usize] = &[0, 1];
+
+// The prefixes of full logs.
+const FULL_PREFIXES: &[&[u8]] = &[b"", b"a"];
+
+const NAMES: &[&[u8]] = &[P, Q, R];
+
 /// The prefixes of entries.
 pub const PREFIXES: &[&[u8]] = &[b"", b"a", b"\xff"];
 
@@ -223,12 +231,32 @@ impl Draws {
         match self.below(8) {
             0 => Say::LongSet(key, value),
             1 => Say::LongClear(key),
-            2 => Say::LongClearRange(key, self.len(KEY_LENS)),
-            3 => Say::LongAtomic(self.pick(OPERATIONS), key, value),
-            4 => Say::LongReadConflict(key, self.len(KEY_LENS)),
-            5 => Say::LongWriteConflict(key, self.len(KEY_LENS)),
-            _ => Say::LongAtomic(b"APPEND_IF_FITS", self.len(&[0, 1]), value),
+            2 => self.long_clear_range(key),
+            3 => self.long_atomic(key, value),
+            4 => self.long_read_conflict(key),
+            5 => self.long_write_conflict(key),
+            _ => self.long_append(value),
         }
+    }
+
+    fn long_clear_range(&mut self, begin: usize) -> Say {
+        Say::LongClearRange(begin, self.len(KEY_LENS))
+    }
+
+    fn long_atomic(&mut self, key: usize, operand: usize) -> Say {
+        Say::LongAtomic(self.pick(OPERATIONS), key, operand)
+    }
+
+    fn long_read_conflict(&mut self, begin: usize) -> Say {
+        Say::LongReadConflict(begin, self.len(KEY_LENS))
+    }
+
+    fn long_write_conflict(&mut self, begin: usize) -> Say {
+        Say::LongWriteConflict(begin, self.len(KEY_LENS))
+    }
+
+    fn long_append(&mut self, operand: usize) -> Say {
+        Say::LongAtomic(b"APPEND_IF_FITS", self.len(SHORT_LENS), operand)
     }
 
     // An atomic operation with a versionstamp.
@@ -291,7 +319,7 @@ impl Draws {
     fn long_log(&mut self) -> Ask {
         let (prefix, key) = (self.len(KEY_LENS), self.len(KEY_LENS));
         if self.is_one(2) {
-            Ask::FullLog(self.pick(&[b"", b"a"]), 100)
+            Ask::FullLog(self.pick(FULL_PREFIXES), 100)
         } else {
             Ask::LongLog(prefix, key, self.len(VALUE_LENS))
         }
@@ -330,7 +358,7 @@ impl Draws {
     }
 
     fn any(&mut self) -> Ask {
-        let name = self.pick(&[P, Q, R]);
+        let name = self.pick(NAMES);
         match self.below(256) {
             0..=5 => Ask::New(name),
             6..=25 => Ask::Database(self.say()),

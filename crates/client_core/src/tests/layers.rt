@@ -13,6 +13,38 @@ fn path_of(alloc: Global, names: &[&str]) -> Result<Path, Fail> {
     Ok(path)
 }
 
+fn layer_of(alloc: Global) -> Result<Layer, AllocError> {
+    let node = bytes_of(alloc, b"\xFE")?;
+    let content = bytes_of(alloc, b"")?;
+    Ok(Layer {
+        node,
+        content,
+        manual: false,
+    })
+}
+
+fn args_of(alloc: Global, names: &[&str]) -> Result<DirArgs, Fail> {
+    let path = path_of(alloc, names)?;
+    let new_path = path_of(alloc, &[])?;
+    let raw = bytes_of(alloc, b"log")?;
+    Ok(DirArgs {
+        path,
+        new_path,
+        layer: None,
+        prefix: None,
+        snapshot: false,
+        raw,
+        index: 7,
+    })
+}
+
+fn name_of(alloc: Global, name: Option<&[u8]>) -> Result<Option<Bytes>, AllocError> {
+    match name {
+        Some(name) => Ok(Some(bytes_of(alloc, name)?)),
+        None => Ok(None),
+    }
+}
+
 // A call on a path, on the transaction of a name if one is given. The nodes stand behind FE.
 fn request_on(
     alloc: Global,
@@ -20,27 +52,14 @@ fn request_on(
     kind: DirKind,
     names: &[&str],
 ) -> Result<Request, Fail> {
-    let name = match name {
-        Some(name) => Some(bytes_of(alloc, name)?),
-        None => None,
-    };
+    let name = name_of(alloc, name)?;
+    let layer = layer_of(alloc)?;
+    let args = args_of(alloc, names)?;
     Ok(Request::Directory {
         name,
-        layer: Layer {
-            node: bytes_of(alloc, b"\xFE")?,
-            content: bytes_of(alloc, b"")?,
-            manual: false,
-        },
+        layer,
         kind,
-        args: DirArgs {
-            path: path_of(alloc, names)?,
-            new_path: path_of(alloc, &[])?,
-            layer: None,
-            prefix: None,
-            snapshot: false,
-            raw: bytes_of(alloc, b"log")?,
-            index: 7,
-        },
+        args,
     })
 }
 
@@ -66,21 +85,58 @@ fn is_so(reply: &Reply, wanted: Answered) -> bool {
 }
 
 // A call on a path with one name, what it is answered, and the last version after it.
-type Called = (Option<&'static [u8]>, DirKind, &'static str, Answered, u64);
+type Call = (Option<&'static [u8]>, DirKind, &'static str, Answered, u64);
 
-// Whether such calls are answered so, one after the other.
-fn are_so(alloc: Global, core: &mut Core, calls: &[Called]) -> Result<bool, Fail> {
-    for (name, kind, path, wanted, last) in calls {
-        let request = request_on(alloc, *name, *kind, &[*path])?;
-        let reply = apply(core, &request);
-        if !is_so(&reply, *wanted) || core.last() != *last {
-            return Ok(false);
-        }
-    }
-    Ok(true)
+// What such calls ask of a core.
+trait Called {
+    // Whether a call is answered so.
+    fn is_called(&mut self, alloc: Global, call: Call) -> Result<bool, Fail>;
 }
 
-const ALONE: &[Called] = &[
+// Whether a request is answered so.
+fn is_so_of(core: &mut Core, request: &Request, wanted: Answered) -> bool {
+    is_so(&apply(core, request), wanted)
+}
+
+impl Called for Core {
+    fn is_called(&mut self, alloc: Global, call: Call) -> Result<bool, Fail> {
+        let (name, kind, path, wanted, last) = call;
+        let request = request_on(alloc, name, kind, &[path])?;
+        Ok(is_so_of(self, &request, wanted) && self.last() == last)
+    }
+}
+
+// The place of the first call that is answered otherwise.
+fn first_miscalled<A: Called>(
+    alloc: Global,
+    asked: &mut A,
+    calls: &[Call],
+) -> Result<Option<usize>, Fail> {
+    for (place, call) in calls.iter().enumerate() {
+        if !asked.is_called(alloc, *call)? {
+            return Ok(Some(place));
+        }
+    }
+    Ok(None)
+}
+
+// The same of the calls before a commit, whether that is done, and the same of those behind it.
+fn outcome_of_calls<A: Asked + Called + Drop>(
+    alloc: Global,
+    mut asked: A,
+) -> Result<(Option<usize>, bool, Option<usize>), Fail> {
+    let alone = first_miscalled(alloc, &mut asked, ALONE)?;
+    let is_done = asked.is_answered(alloc, (Ask::On(P, Say::Commit), Told::Done, 3))?;
+    let committed = first_miscalled(alloc, &mut asked, COMMITTED)?;
+    Ok((alone, is_done, committed))
+}
+
+// The same of a new core.
+fn outcome_of_new(alloc: Global) -> Result<(Option<usize>, bool, Option<usize>), Fail> {
+    outcome_of_calls(alloc, new_core(alloc)?)
+}
+
+const ALONE: &[Call] = &[
     (None, DirKind::Create, "a", Answered::Opened(b"\x14"), 2),
     (None, DirKind::Create, "a", Answered::Exists, 2),
     (None, DirKind::Exists, "a", Answered::Is(true), 2),
@@ -94,17 +150,13 @@ const ALONE: &[Called] = &[
     (None, DirKind::Exists, "b", Answered::Is(false), 2),
 ];
 
-const COMMITTED: &[Called] = &[
+const COMMITTED: &[Call] = &[
     (None, DirKind::Exists, "b", Answered::Is(true), 3),
     (Some(P), DirKind::Exists, "b", Answered::Code(2017), 3),
 ];
 
 #[test]
 fn a_call_of_its_own_is_committed(rt: HostRuntime) -> Result<(), Fail> {
-    let alloc = rt.alloc();
-    let mut core = new_core(alloc)?;
-    assert!(rt; are_so(alloc, &mut core, ALONE)?);
-    assert!(rt; is_answered(alloc, &mut core, (Ask::On(P, Say::Commit), Told::Done, 3))?);
-    assert!(rt; are_so(alloc, &mut core, COMMITTED)?);
+    assert_eq!(rt; outcome_of_new(rt.alloc())?, (None, true, None));
     Ok(())
 }

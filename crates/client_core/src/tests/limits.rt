@@ -48,8 +48,7 @@ const LONG: &[Row] = &[
 
 #[test]
 fn keys_and_values_have_limits(rt: HostRuntime) -> Result<(), Fail> {
-    let (wrong, _text) = outcome(rt.alloc(), LONG)?;
-    assert_eq!(rt; wrong, None);
+    assert_eq!(rt; first_wrong_of_new(rt.alloc(), LONG)?, None);
     Ok(())
 }
 
@@ -125,17 +124,16 @@ const ENDS: &[Row] = &[
 
 #[test]
 fn keys_have_an_end_and_atomic_operations_a_name(rt: HostRuntime) -> Result<(), Fail> {
-    let (wrong, _text) = outcome(rt.alloc(), ENDS)?;
-    assert_eq!(rt; wrong, None);
+    assert_eq!(rt; first_wrong_of_new(rt.alloc(), ENDS)?, None);
     Ok(())
 }
 
 const FULL_SET: Row = (Ask::On(P, Say::LongSet(0, 100_000)), Told::Done, 1);
 
 // Sets of 100000 bytes, so many of them: whether each is accepted.
-fn fill(alloc: Global, core: &mut Core, sets: usize) -> Result<bool, AllocError> {
+fn fill<A: Asked>(alloc: Global, asked: &mut A, sets: usize) -> Result<bool, AllocError> {
     for _ in 0..sets {
-        if !is_answered(alloc, core, FULL_SET)? {
+        if !asked.is_answered(alloc, FULL_SET)? {
             return Ok(false);
         }
     }
@@ -143,16 +141,25 @@ fn fill(alloc: Global, core: &mut Core, sets: usize) -> Result<bool, AllocError>
 }
 
 // The place of the first request that is answered otherwise after so many sets of 100000 bytes.
+fn first_wrong_behind<A: Asked + Drop>(
+    alloc: Global,
+    mut asked: A,
+    sets: usize,
+    rows: &[Row],
+) -> Result<Option<usize>, AllocError> {
+    if !fill(alloc, &mut asked, sets)? {
+        return Err(AllocError);
+    }
+    first_wrong(alloc, &mut asked, rows)
+}
+
+// The same of a new core.
 fn first_wrong_after(
     alloc: Global,
     sets: usize,
     rows: &[Row],
 ) -> Result<Option<usize>, AllocError> {
-    let mut core = new_core(alloc)?;
-    if !fill(alloc, &mut core, sets)? {
-        return Err(AllocError);
-    }
-    first_wrong(alloc, &mut core, rows)
+    first_wrong_behind(alloc, new_core(alloc)?, sets, rows)
 }
 
 // Behind 100 sets.
@@ -294,8 +301,7 @@ const FULL_LOGS: &[Row] = &[
 
 #[test]
 fn a_log_of_more_than_10_000_000_bytes_is_too_large(rt: HostRuntime) -> Result<(), Fail> {
-    let (wrong, _text) = outcome(rt.alloc(), FULL_LOGS)?;
-    assert_eq!(rt; wrong, None);
+    assert_eq!(rt; first_wrong_of_new(rt.alloc(), FULL_LOGS)?, None);
     Ok(())
 }
 
@@ -330,7 +336,6 @@ const COMPARE: &[u8] = b"COMPARE_AND_CLEAR";
 
 #[test]
 fn a_value_is_appended_to_where_the_two_fit(rt: HostRuntime) -> Result<(), Fail> {
-    let (wrong, _text) = outcome(rt.alloc(), APPENDS)?;
-    assert_eq!(rt; wrong, None);
+    assert_eq!(rt; first_wrong_of_new(rt.alloc(), APPENDS)?, None);
     Ok(())
 }

@@ -29,20 +29,34 @@ const STARTED: &[Row] = &[
 
 #[test]
 fn a_machine_has_the_instructions_of_the_last_map(rt: HostRuntime) -> Result<(), Fail> {
-    let (wrong, _text) = outcome_over(rt.alloc(), LISTED, STARTED)?;
-    assert_eq!(rt; wrong, None);
+    assert_eq!(rt; first_wrong_over(rt.alloc(), LISTED, STARTED)?, None);
     Ok(())
 }
 
 // The first start that isn't answered by the number of the machine, of 63.
-fn first_other_start(alloc: Global, core: &mut Core) -> Result<Option<u16>, AllocError> {
+fn first_other_start<A: Asked>(alloc: Global, asked: &mut A) -> Result<Option<u16>, AllocError> {
     for number in 1..64 {
         let row = (Ask::Start(b"q"), Told::Started(number, b""), 1);
-        if !is_answered(alloc, core, row)? {
+        if !asked.is_answered(alloc, row)? {
             return Ok(Some(number));
         }
     }
     Ok(None)
+}
+
+// The same, and the place of the first request behind them that is answered otherwise.
+fn outcome_of_starts<A: Asked + Drop>(
+    alloc: Global,
+    mut asked: A,
+) -> Result<(Option<u16>, Option<usize>), AllocError> {
+    let start = first_other_start(alloc, &mut asked)?;
+    let wrong = first_wrong(alloc, &mut asked, FULL)?;
+    Ok((start, wrong))
+}
+
+// The same of a new core.
+fn started(alloc: Global) -> Result<(Option<u16>, Option<usize>), AllocError> {
+    outcome_of_starts(alloc, new_core(alloc)?)
 }
 
 const FULL: &[Row] = &[
@@ -53,9 +67,7 @@ const FULL: &[Row] = &[
 
 #[test]
 fn there_are_64_machines(rt: HostRuntime) -> Result<(), Fail> {
-    let mut core = new_core(rt.alloc())?;
-    assert_eq!(rt; first_other_start(rt.alloc(), &mut core)?, None);
-    assert_eq!(rt; first_wrong(rt.alloc(), &mut core, FULL)?, None);
+    assert_eq!(rt; started(rt.alloc())?, (None, None));
     Ok(())
 }
 
@@ -74,7 +86,6 @@ const WATCHED: &[Row] = &[
 
 #[test]
 fn a_prefix_is_watched_in_the_last_map(rt: HostRuntime) -> Result<(), Fail> {
-    let (wrong, _text) = outcome(rt.alloc(), WATCHED)?;
-    assert_eq!(rt; wrong, None);
+    assert_eq!(rt; first_wrong_of_new(rt.alloc(), WATCHED)?, None);
     Ok(())
 }

@@ -191,37 +191,64 @@ impl Plain {
         Ok(Reply::Done)
     }
 
+    // A call on the life of a name.
+    fn take_on(&mut self, name: &Bytes, call: &TxnCall) -> Result<Reply, AllocError> {
+        let mut life = self.life_of(name)?;
+        let reply = self.call(&mut life, call)?;
+        self.lives.insert(name.copy()?, life)?;
+        Ok(reply)
+    }
+
+    // A call that is committed.
+    fn take_apart(&mut self, call: &TxnCall) -> Result<Reply, AllocError> {
+        let mut life = self.begin_at_last()?;
+        let reply = self.call(&mut life, call)?;
+        self.and_commit(&mut life, reply)
+    }
+
+    // Entries that are committed.
+    fn take_log(&mut self, prefix: &Bytes, entries: &Pairs) -> Result<Reply, AllocError> {
+        let mut life = self.begin_at_last()?;
+        let reply = self.log(&mut life, prefix, entries)?;
+        self.and_commit(&mut life, reply)
+    }
+
+    fn poll_empty(&self, prefix: &Bytes) -> Result<Reply, AllocError> {
+        match self.maps.last() {
+            Some(map) => watched(map, prefix),
+            None => Ok(Reply::Empty),
+        }
+    }
+
+    fn start(&mut self, prefix: &Bytes) -> Result<Reply, AllocError> {
+        match self.maps.last() {
+            Some(map) => started(self.alloc, &mut self.machines, map, prefix),
+            None => Ok(Reply::NoMachine),
+        }
+    }
+
     /// The step of a request. Calls of directory layers are none of its requests.
     pub fn take(&mut self, request: &Request) -> Result<Reply, AllocError> {
         match request {
             Request::New { name } => self.make_new(name),
-            Request::On { name, call } => {
-                let mut life = self.life_of(name)?;
-                let reply = self.call(&mut life, call)?;
-                self.lives.insert(name.copy()?, life)?;
-                Ok(reply)
-            }
-            Request::Database { call } => {
-                let mut life = self.begin_at_last()?;
-                let reply = self.call(&mut life, call)?;
-                self.and_commit(&mut life, reply)
-            }
-            Request::Log { prefix, entries } => {
-                let mut life = self.begin_at_last()?;
-                let reply = self.log(&mut life, prefix, entries)?;
-                self.and_commit(&mut life, reply)
-            }
+            Request::On { name, call } => self.take_on(name, call),
+            Request::Database { call } => self.take_apart(call),
+            Request::Log { prefix, entries } => self.take_log(prefix, entries),
             Request::Directory { .. } => Err(AllocError),
             Request::PollStamp { life } => Ok(self.fates.poll(*life)),
-            Request::PollEmpty { prefix } => match self.maps.last() {
-                Some(map) => watched(map, prefix),
-                None => Ok(Reply::Empty),
-            },
-            Request::Start { prefix } => match self.maps.last() {
-                Some(map) => started(self.alloc, &mut self.machines, map, prefix),
-                None => Ok(Reply::NoMachine),
-            },
+            Request::PollEmpty { prefix } => self.poll_empty(prefix),
+            Request::Start { prefix } => self.start(prefix),
         }
+    }
+
+    fn log_entry(
+        &mut self,
+        life: &mut Life,
+        prefix: &Bytes,
+        entry: &Pair,
+    ) -> Result<Reply, AllocError> {
+        let call = logged(prefix, entry)?;
+        self.call(life, &call)
     }
 
     // Writes entries, until one is refused.
@@ -232,7 +259,7 @@ impl Plain {
         entries: &Pairs,
     ) -> Result<Reply, AllocError> {
         for entry in entries.as_slice() {
-            let reply = self.call(life, &logged(prefix, entry)?)?;
+            let reply = self.log_entry(life, prefix, entry)?;
             if is_fault(&reply) {
                 return Ok(reply);
             }

@@ -135,12 +135,16 @@ fn add_all_stamped(alloc: Global, keys: &mut Vec<Key>) -> Result<(), AllocError>
     Ok(())
 }
 
+fn add_all(alloc: Global, keys: &mut Vec<Key>) -> Result<(), AllocError> {
+    add_named(alloc, keys)?;
+    add_logged(alloc, keys)?;
+    add_all_long(alloc, keys)?;
+    add_all_stamped(alloc, keys)
+}
+
 /// A key at each place where a set of keys can begin or end that the drawn requests name.
 pub fn alphabet(alloc: Global) -> Result<Vec<Key>, AllocError> {
     let mut keys = Vec::new(alloc);
-    add_named(alloc, &mut keys)?;
-    add_logged(alloc, &mut keys)?;
-    add_all_long(alloc, &mut keys)?;
-    add_all_stamped(alloc, &mut keys)?;
+    add_all(alloc, &mut keys)?;
     Ok(keys)
 }

@@ -120,12 +120,18 @@ impl Life {
         Ok(())
     }
 
+    // Does its writes to a map.
+    fn write_to(&self, map: &mut KeyMap<Bytes>) -> Result<(), AllocError> {
+        for made in self.made.as_slice() {
+            do_write(self.alloc, map, &made.write)?;
+        }
+        Ok(())
+    }
+
     /// The pairs of a map after its writes, without the keys that are unreadable.
     pub fn sees(&self, map: &KeyMap<Bytes>) -> Result<Pairs, AllocError> {
         let mut copy = KeyMap::from_pairs(self.alloc, map.pairs()?)?;
-        for made in self.made.as_slice() {
-            do_write(self.alloc, &mut copy, &made.write)?;
-        }
+        self.write_to(&mut copy)?;
         self.readable(&copy.pairs()?)
     }
 
@@ -139,6 +145,18 @@ impl Life {
         Ok(found)
     }
 
+    // Does its writes to a map in the commit of a stamp.
+    fn write_stamped_to(
+        &self,
+        map: &mut KeyMap<Bytes>,
+        stamp: &[u8; 10],
+    ) -> Result<(), AllocError> {
+        for made in self.made.as_slice() {
+            do_stamped(self.alloc, map, &made.write, stamp)?;
+        }
+        Ok(())
+    }
+
     /// A copy of a map, after its writes in the commit of a stamp.
     pub fn makes(
         &self,
@@ -146,9 +164,7 @@ impl Life {
         stamp: &[u8; 10],
     ) -> Result<KeyMap<Bytes>, AllocError> {
         let mut copy = KeyMap::from_pairs(self.alloc, map.pairs()?)?;
-        for made in self.made.as_slice() {
-            do_stamped(self.alloc, &mut copy, &made.write, stamp)?;
-        }
+        self.write_stamped_to(&mut copy, stamp)?;
         Ok(copy)
     }
 

@@ -41,8 +41,7 @@ const DECIDED: &[Row] = &[
 
 #[test]
 fn a_life_is_decided_once(rt: HostRuntime) -> Result<(), Fail> {
-    let (wrong, _text) = outcome(rt.alloc(), DECIDED)?;
-    assert_eq!(rt; wrong, None);
+    assert_eq!(rt; first_wrong_of_new(rt.alloc(), DECIDED)?, None);
     Ok(())
 }
 
@@ -64,7 +63,6 @@ const REFUSED: &[Row] = &[
 
 #[test]
 fn a_refused_life_has_the_code_of_its_commit(rt: HostRuntime) -> Result<(), Fail> {
-    let (wrong, _text) = outcome(rt.alloc(), REFUSED)?;
-    assert_eq!(rt; wrong, None);
+    assert_eq!(rt; first_wrong_of_new(rt.alloc(), REFUSED)?, None);
     Ok(())
 }
