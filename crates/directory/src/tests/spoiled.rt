@@ -2,102 +2,97 @@
 
 use super::*;
 
-fn is_bad_node(answer: Result<DirReply, DirFault>, bytes: &[u8]) -> bool {
-    match answer {
-        Err(DirFault::BadNode { key }) => key.as_slice() == bytes,
-        _ => false,
-    }
-}
+// The directory of ("a", "b") has 14, and that of ("a",) has 15 01. Each is made a child of the other.
+const SPOILED: &[Step] = &[
+    Step::On(DirKind::Create, &["a", "b"], "14 /a/b "),
+    Step::Set(b"\xFE\x01\x14\x00\x14\x02up\x00", b"\x15\x01"),
+    Step::On(DirKind::Exists, &["a", "b", "up", "b"], "true"),
+    Step::On(DirKind::Remove, &["a"], "done"),
+    Step::On(DirKind::List, &[], ""),
+    Step::On(DirKind::Create, &["c"], "1502 /c "),
+    Step::Set(b"\xFE\x01\x15\x02\x00\x14\x02d\x00\x14", b""),
+    Step::On(DirKind::List, &["c"], "a node is spoiled"),
+    Step::On(DirKind::Remove, &["c"], "a node is spoiled"),
+    Step::On(DirKind::Exists, &["c"], "true"),
+    Step::Spoiled(
+        DirKind::List,
+        &["c"],
+        b"\xFE\x01\x15\x02\x00\x14\x02d\x00\x14",
+    ),
+];
 
 #[test]
-fn removals_of_spoiled_nodes(rt: HostRuntime) -> Result<(), Fail> {
-    let mut it = Directories::new(rt.alloc())?;
-    it.on(DirKind::Create, &["a", "b"])?;
-    // The directory of ("a", "b") has 14, and that of ("a",) has 15 01. Each is made a child of the other.
-    it.set(b"\xFE\x01\x14\x00\x14\x02up\x00", b"\x15\x01")?;
-    let calls: [(DirKind, &[&str], &str); 4] = [
-        (DirKind::Exists, &["a", "b", "up", "b"], "true"),
-        (DirKind::Remove, &["a"], "done"),
-        (DirKind::List, &[], ""),
-        (DirKind::Create, &["c"], "1502 /c "),
+fn removals_of_spoiled_nodes(rt: HostRuntime) {
+    assert_eq!(rt; first_other(rt.alloc(), SPOILED), None);
+}
+
+const WITHOUT_A_GREATER: &[Step] = &[
+    Step::Set(b"\xFE\x01\xFE\x00\x14\x02a\x00", b"\xFF"),
+    Step::On(
+        DirKind::Remove,
+        &["a"],
+        "no key is above all with the prefix",
+    ),
+    Step::On(DirKind::Open, &["a"], "FF /a "),
+];
+
+#[test]
+fn a_directory_without_a_greater_key(rt: HostRuntime) {
+    assert_eq!(rt; first_other(rt.alloc(), WITHOUT_A_GREATER), None);
+}
+
+const VERSION_KEY: &[u8] = b"\xFE\x01\xFE\x00\x01version\x00";
+
+const NEWER: &str = "the directories have a newer version";
+
+const BAD: &str = "a node is spoiled";
+
+// A version of the layer, and what list and create are told where it is this one.
+const VERSIONS: [(&[u8], &str, &str); 6] = [
+    (b"\x01\0\0\0\0\0\0\0\x05\0\0\0", "", "14 /a "),
+    (b"\x01\0\0\0\x01\0\0\0\0\0\0\0", "", NEWER),
+    (b"\0\0\0\0\x05\0\0\0\0\0\0\0", "", NEWER),
+    (b"\x02\0\0\0\0\0\0\0\0\0\0\0", NEWER, NEWER),
+    (b"\x01\0\0\0", BAD, BAD),
+    (b"\x01\0\0\0\0\0\0\0\0\0\0\0\0", BAD, BAD),
+];
+
+// Whether list and create are told this where the layer's version is this one.
+fn is_told_by(
+    alloc: Global,
+    version: &'static [u8],
+    listed: &'static str,
+    created: &'static str,
+) -> bool {
+    let steps = [
+        Step::Set(VERSION_KEY, version),
+        Step::On(DirKind::List, &[], listed),
+        Step::On(DirKind::Create, &["a"], created),
     ];
-    assert!(rt; it.are_told(&calls)?);
-    it.set(b"\xFE\x01\x15\x02\x00\x14\x02d\x00\x14", b"")?;
-    let spoiled: [(DirKind, &[&str], &str); 3] = [
-        (DirKind::List, &["c"], "a node is spoiled"),
-        (DirKind::Remove, &["c"], "a node is spoiled"),
-        (DirKind::Exists, &["c"], "true"),
-    ];
-    assert!(rt; it.are_told(&spoiled)?);
-    let answer = it.answer(DirKind::List, &args(rt.alloc(), &["c"])?);
-    assert!(rt; is_bad_node(answer, b"\xFE\x01\x15\x02\x00\x14\x02d\x00\x14"));
-    Ok(())
+    first_other(alloc, &steps).is_none()
 }
 
-#[test]
-fn a_directory_without_a_greater_key(rt: HostRuntime) -> Result<(), Fail> {
-    let mut it = Directories::new(rt.alloc())?;
-    it.set(b"\xFE\x01\xFE\x00\x14\x02a\x00", b"\xFF")?;
-    assert_eq!(rt;
-        it.on(DirKind::Remove, &["a"])?.as_str(),
-        "no key is above all with the prefix"
-    );
-    assert_eq!(rt; it.on(DirKind::Open, &["a"])?.as_str(), "FF /a ");
-    Ok(())
-}
-
-// What list and create are told where the layer's version is this one.
-fn told_by(alloc: Global, version: &[u8]) -> Result<String, Fail> {
-    let mut it = Directories::new(alloc)?;
-    it.set(b"\xFE\x01\xFE\x00\x01version\x00", version)?;
-    let listed = it.on(DirKind::List, &[])?;
-    let created = it.on(DirKind::Create, &["a"])?;
-    let mut text = String::new(alloc);
-    write!(text, "{}; {}", listed.as_str(), created.as_str())?;
-    Ok(text)
-}
-
-#[test]
-fn versions(rt: HostRuntime) -> Result<(), Fail> {
-    let newer = "the directories have a newer version; the directories have a newer version";
-    let rows: [(&[u8], &str); 6] = [
-        (b"\x01\0\0\0\0\0\0\0\x05\0\0\0", "; 14 /a "),
-        (
-            b"\x01\0\0\0\x01\0\0\0\0\0\0\0",
-            "; the directories have a newer version",
-        ),
-        (
-            b"\0\0\0\0\x05\0\0\0\0\0\0\0",
-            "; the directories have a newer version",
-        ),
-        (b"\x02\0\0\0\0\0\0\0\0\0\0\0", newer),
-        (b"\x01\0\0\0", "a node is spoiled; a node is spoiled"),
-        (
-            b"\x01\0\0\0\0\0\0\0\0\0\0\0\0",
-            "a node is spoiled; a node is spoiled",
-        ),
-    ];
-    for (version, wanted) in rows {
-        assert_eq!(rt; told_by(rt.alloc(), version)?.as_str(), wanted);
+// The first version where they are told another thing.
+fn first_other_version(alloc: Global) -> Option<usize> {
+    for (place, (version, listed, created)) in VERSIONS.iter().enumerate() {
+        if !is_told_by(alloc, *version, *listed, *created) {
+            return Some(place);
+        }
     }
-    Ok(())
-}
-
-fn is_newer(answer: Result<DirReply, DirFault>, numbers: [u32; 3]) -> bool {
-    match answer {
-        Err(DirFault::VersionNewer { version }) => version == numbers,
-        _ => false,
-    }
+    None
 }
 
 #[test]
-fn a_newer_version_is_told(rt: HostRuntime) -> Result<(), Fail> {
-    let mut it = Directories::new(rt.alloc())?;
-    it.set(
-        b"\xFE\x01\xFE\x00\x01version\x00",
-        b"\x03\0\0\0\x01\x01\0\0\x02\0\0\0",
-    )?;
-    let answer = it.answer(DirKind::Exists, &args(rt.alloc(), &[])?);
-    assert!(rt; is_newer(answer, [3, 257, 2]));
-    Ok(())
+fn versions(rt: HostRuntime) {
+    assert_eq!(rt; first_other_version(rt.alloc()), None);
+}
+
+const A_NEWER: &[Step] = &[
+    Step::Set(VERSION_KEY, b"\x03\0\0\0\x01\x01\0\0\x02\0\0\0"),
+    Step::Newer(DirKind::Exists, &[], [3, 257, 2]),
+];
+
+#[test]
+fn a_newer_version_is_told(rt: HostRuntime) {
+    assert_eq!(rt; first_other(rt.alloc(), A_NEWER), None);
 }
