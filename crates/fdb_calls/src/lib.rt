@@ -5,16 +5,16 @@
 //! `Tr` has the calls of a transaction by their names, for layers that work over any transaction that answers so.
 #![tactic(auto)]
 
-mod boxed_request;
 mod fault;
+mod shared_request;
 mod tr;
 
-pub use boxed_request::BoxedRequest;
 pub use database_rules::Code;
 use database_rules::{Mode, Selector};
 use directory_types::{DirArgs, DirFault, DirKind, DirReply, Layer};
 pub use fault::TrFault;
 use key_bytes::{Bytes, Key, KeyRange, Pairs};
+pub use shared_request::SharedRequest;
 pub use tr::Tr;
 
 /// A call on a transaction (API reference, "Transaction").

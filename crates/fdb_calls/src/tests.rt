@@ -2,10 +2,10 @@ use super::*;
 use std::alloc::{AllocError, Global};
 use std::test::Fail;
 
-// The life of a request that was put in a block.
+// The life of a request that was put in a block, and shared.
 fn life_in_a_block(alloc: Global, life: u64) -> Result<Option<u64>, AllocError> {
-    let boxed = BoxedRequest::new(alloc, Request::PollStamp { life })?;
-    match boxed.request() {
+    let shared = SharedRequest::new(alloc, Request::PollStamp { life })?.share()?;
+    match shared.request() {
         Request::PollStamp { life } => Ok(Some(*life)),
         _ => Ok(None),
     }

@@ -7,7 +7,7 @@ ghost use Rattle.machine_rules.specs.Runs.{at_rest};
 ghost use Rattle.machine_rules.specs.Laws.{is_awaiting};
 ghost use Rattle.machine_seat.specs.Seats.{progress_of, with_asked, work_left, Awaits, IsNearer, IsSeated};
 
-use fdb_calls::{BoxedRequest, Reply};
+use fdb_calls::{SharedRequest, Reply};
 use stack_machine::{Machine, Step};
 use std::alloc::AllocError;
 
@@ -15,7 +15,7 @@ use std::alloc::AllocError;
 #[derive(Debug, Drop)]
 pub struct Seat {
     pub machine: Machine,
-    pub asks: Option<BoxedRequest>,
+    pub asks: Option<SharedRequest>,
 }
 
 impl Seat {
@@ -45,7 +45,7 @@ impl Seat {
     }
 
     /// Hands over what the machine asks: it awaits the reply then (`use_awaited`). It takes no memory.
-    pub fn hand_over(&mut self) -> BoxedRequest
+    pub fn hand_over(&mut self) -> SharedRequest
         requires asks { IsSome self.old.asks }
         ensures request { self.old.asks ≡ Some result }
         ensures machine { self.new.machine ≡ self.old.machine }
@@ -74,7 +74,7 @@ impl Seat {
 }
 
 // Lets a machine that awaits no reply run on, until it asks or has stopped: what it asks.
-fn run_on(machine: &mut Machine) -> Result<Option<BoxedRequest>, AllocError>
+fn run_on(machine: &mut Machine) -> Result<Option<SharedRequest>, AllocError>
     requires ready { machine.old.is_out_of_memory ≡ false }
     requires silent { is_awaiting machine.old.machine.state ≡ false }
     ensures rests { IfOk result (λ asks. with_asked machine.new.machine asks ≡ at_rest (silent machine.old.machine)) }

@@ -3,7 +3,7 @@ use denote.Param.Send.{IsSend, sendable}
 use Rattle.std.proofs.Crossing.{crosses}
 use Rattle.key_bytes.proofs.bytes.Bytes.TheSendSync.{the_send as bytes_send, the_sync as bytes_sync}
 use Rattle.fdb_calls.proofs.Reply.TheSendSync.{the_field_send as reply_send}
-use Rattle.fdb_calls.proofs.boxed_request.BoxedRequest.TheSendSync.{the_send as request_send}
+use Rattle.fdb_calls.proofs.shared_request.SharedRequest.TheSendSync.{the_send as request_send}
 use Rattle.fdb_tuple.proofs.text.Text.TheSendSync.{the_send as text_send, the_sync as text_sync}
 use Rattle.fdb_tuple.proofs.tuple.Versionstamp.TheSendSync.{the_field_send as stamp_send, the_field_sync as stamp_sync}
 use Rattle.fdb_tuple.proofs.tuple.Tuple.TheLaws.TheKnot.{both_send-Elem, both_send-Tuple}

@@ -6,7 +6,7 @@ ghost use Rattle.future_cell.specs.Cells.{setter_cell, waiter_cell, shown, regis
 ghost use Rattle.request_line.specs.Line.{sender_line, history};
 
 use crate::post::Post;
-use fdb_calls::{BoxedRequest, Reply};
+use fdb_calls::{Reply, SharedRequest};
 use future_cell::{Setter, Sleeper, Waiter, Wake, pair, wakes};
 use request_line::Sender;
 use std::alloc::{AllocError, Global};
@@ -69,7 +69,7 @@ impl Client {
         &mut self,
         rt: &R,
         alloc: Global,
-        request: BoxedRequest,
+        request: SharedRequest,
     ) -> Result<Asked, AllocError>
         ensures posted { IfOk result (λ asked. (setter : Setter Reply Wake) × (setter_cell setter ≡ waiter_cell asked.waiter)
             × (client_history self.new ≡ with_post (client_history self.old) (Ask (client_machine self.old) request setter))) }
@@ -92,7 +92,7 @@ impl Client {
         &mut self,
         rt: &R,
         alloc: Global,
-        request: BoxedRequest,
+        request: SharedRequest,
     ) -> Result<Waiter<Reply, Wake>, AllocError>
         ensures posted { IfOk result (λ waiter. (setter : Setter Reply Wake) × (setter_cell setter ≡ waiter_cell waiter)
             × (client_history self.new ≡ with_post (client_history self.old) (Ask (client_machine self.old) request setter))) }

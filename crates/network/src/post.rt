@@ -1,6 +1,6 @@
 //! What goes over the line.
 
-use fdb_calls::{BoxedRequest, Reply};
+use fdb_calls::{Reply, SharedRequest};
 use future_cell::{Setter, Wake};
 
 /// What a machine posts. It is small: the request lies in a block of its own.
@@ -9,7 +9,7 @@ pub enum Post {
     /// The machine asks. The reply is to be set in the cell of the setter.
     Ask {
         machine: u16,
-        request: BoxedRequest,
+        request: SharedRequest,
         setter: Setter<Reply, Wake>,
     },
     /// The machine is over: it asks no more.

@@ -4,7 +4,7 @@ ghost use Rattle.future_cell.specs.Cells.{registration};
 ghost use Rattle.network.specs.Clients.{client_history};
 
 use super::*;
-use fdb_calls::{BoxedRequest, Reply, Request};
+use fdb_calls::{Reply, Request, SharedRequest};
 use key_bytes::{Bytes, Pairs};
 use request_line::{Receiver, open};
 use std::alloc::{AllocError, Global};
@@ -87,7 +87,7 @@ fn ask<R: Wait>(
 ) -> Result<Told, AllocError>
     ensures { (client_history client.new).room ≡ (client_history client.old).room }
 {
-    let mut waiter = client.ask(rt, alloc, BoxedRequest::new(alloc, request)?)?;
+    let mut waiter = client.ask(rt, alloc, SharedRequest::new(alloc, request)?)?;
     client.prepare(alloc)?;
     Ok(told_by(waiter.wait_in(rt, alloc)?))
 }
@@ -210,8 +210,8 @@ fn two_machines_are_answered_by_a_thread(rt: HostRuntime) -> Result<(), Fail> {
 fn run_short<R: Wait>(rt: &R, alloc: Global) -> Result<(Told, Told, bool, u64, u64), AllocError> {
     let (sender, mut receiver) = open::<Post>(alloc, 4)?;
     let mut client = Client::new(0, sender);
-    let first = BoxedRequest::new(alloc, Request::PollStamp { life: 0 })?;
-    let second = BoxedRequest::new(alloc, Request::PollStamp { life: 1 })?;
+    let first = SharedRequest::new(alloc, Request::PollStamp { life: 0 })?;
+    let second = SharedRequest::new(alloc, Request::PollStamp { life: 1 })?;
     let first = client.call(rt, alloc, first)?;
     let second = client.call(rt, alloc, second)?;
     client.over(rt, 0);

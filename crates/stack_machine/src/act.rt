@@ -3,7 +3,7 @@
 ghost use Rattle.std.specs.Prelude.{◌≡◌, IfOk, IsErr};
 ghost use Rattle.stack_machine.specs.Acts.{polls_for, refusal_of};
 
-use fdb_calls::{BoxedRequest, Request};
+use fdb_calls::{Request, SharedRequest};
 use key_bytes::Bytes;
 use machine_rules::{Awaits, End, Wait};
 use stack_items::StackFault;
@@ -17,7 +17,7 @@ pub enum Act {
     /// It stops the machine.
     Stops(End),
     /// It asks a request, whose reply it awaits.
-    Asks(BoxedRequest, Awaits),
+    Asks(SharedRequest, Awaits),
 }
 
 /// What an instruction of this number that was refused comes to: it stops the machine, or polls for the item that waits. Want
@@ -41,7 +41,7 @@ pub fn ask_empty(prefix: &Bytes, polled: u32) -> Result<Act, AllocError>
     let request = Request::PollEmpty {
         prefix: prefix.copy()?,
     };
-    let asked = BoxedRequest::new(prefix.allocator(), request)?;
+    let asked = SharedRequest::new(prefix.allocator(), request)?;
     let prefix = prefix.copy()?;
     Ok(Act::Asks(asked, Awaits::Empty { prefix, polled }))
 }
@@ -51,6 +51,6 @@ fn poll(alloc: Global, life: u64) -> Result<Act, AllocError>
     ensures { IfOk result (λ act. act ≡ polls_for life) }
 {
     let wait = Wait { life, polled: 0 };
-    let asked = BoxedRequest::new(alloc, Request::PollStamp { life })?;
+    let asked = SharedRequest::new(alloc, Request::PollStamp { life })?;
     Ok(Act::Asks(asked, Awaits::Stamp(wait)))
 }

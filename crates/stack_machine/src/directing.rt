@@ -9,7 +9,7 @@ ghost use Rattle.stack_machine.specs.Acts.{act_with};
 
 use crate::act::Act;
 use crate::registers::Registers;
-use fdb_calls::BoxedRequest;
+use fdb_calls::SharedRequest;
 use fdb_tuple::Elem;
 use key_bytes::Bytes;
 use machine_rules::{DirectoryOperation, Object};
@@ -46,7 +46,7 @@ impl Registers {
                 self.fault(number, appends, name)
             }
             Directed::Asks(request, awaits) => {
-                let asked = BoxedRequest::new(self.alloc(), request)?;
+                let asked = SharedRequest::new(self.alloc(), request)?;
                 Ok(Act::Asks(asked, awaits))
             }
         }

@@ -11,7 +11,7 @@ use crate::act::Act;
 use crate::errors::Errors;
 use crate::instruction::instruction_of;
 use crate::registers::Registers;
-use fdb_calls::{BoxedRequest, Reply};
+use fdb_calls::{Reply, SharedRequest};
 use key_bytes::{Bytes, Pairs};
 use machine_rules::{Awaits, End, Instruction, State};
 use stack_items::Stack;
@@ -22,7 +22,7 @@ use std::marker::Model;
 #[derive(Debug, Drop)]
 pub enum Step {
     /// The machine asks this, and awaits the reply.
-    Ask(BoxedRequest),
+    Ask(SharedRequest),
     /// It ran an instruction, or used the reply, and is ready to go on.
     Again,
     /// It has stopped.

@@ -11,7 +11,7 @@ ghost use Rattle.stack_machine.specs.Pushes.{PushesAnElement};
 use crate::act::{Act, ask_empty};
 use crate::errors::error_item;
 use crate::registers::Registers;
-use fdb_calls::{BoxedRequest, Code, Reply, Request};
+use fdb_calls::{Code, Reply, Request, SharedRequest};
 use fdb_tuple::Elem;
 use key_bytes::Bytes;
 use machine_rules::{Awaits, End, Instruction, Wait};
@@ -103,7 +103,7 @@ impl Registers {
             Polled::Known => self.run(number, instruction),
             Polled::NotYet(wait) => {
                 let request = Request::PollStamp { life: wait.life };
-                let asked = BoxedRequest::new(self.alloc(), request)?;
+                let asked = SharedRequest::new(self.alloc(), request)?;
                 Ok(Act::Asks(asked, Awaits::Stamp(wait)))
             }
             Polled::Bound => Ok(Act::Stops(End::WaitBound(number))),
@@ -127,7 +127,7 @@ impl Registers {
             Polled::Known => self.log_on(prefix),
             Polled::NotYet(wait) => {
                 let request = Request::PollStamp { life: wait.life };
-                let asked = BoxedRequest::new(self.alloc(), request)?;
+                let asked = SharedRequest::new(self.alloc(), request)?;
                 let prefix = prefix.copy()?;
                 Ok(Act::Asks(asked, Awaits::LoggedStamp { prefix, wait }))
             }

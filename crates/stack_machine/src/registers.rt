@@ -17,7 +17,7 @@ use crate::call::call_of;
 use crate::directing::appends;
 use crate::errors::Errors;
 use crate::requests::{awaits_of, request_of};
-use fdb_calls::{BoxedRequest, Request, TxnCall};
+use fdb_calls::{Request, SharedRequest, TxnCall};
 use fdb_tuple::Elem;
 use key_bytes::Bytes;
 use machine_rules::{
@@ -203,7 +203,7 @@ impl Registers {
         let popped = operands.popped();
         match self.stack.settle(popped, request) {
             Ok(request) => {
-                let asked = BoxedRequest::new(self.alloc, request)?;
+                let asked = SharedRequest::new(self.alloc, request)?;
                 Ok(Act::Asks(asked, awaits_of(operation)))
             }
             Err(fault) => refused(self.alloc, number, fault),
@@ -229,15 +229,15 @@ impl Registers {
     }
 
     // The request that makes a call in this scope.
-    fn asked_in(&self, scope: Scope, call: TxnCall) -> Result<BoxedRequest, AllocError>
+    fn asked_in(&self, scope: Scope, call: TxnCall) -> Result<SharedRequest, AllocError>
         ensures { IfOk result (λ asked. asked ≡ request_in scope self.now.name call) }
     {
         match scope {
             Scope::Transaction | Scope::Snapshot => {
                 let name = self.name.copy()?;
-                BoxedRequest::new(self.alloc, Request::On { name, call })
+                SharedRequest::new(self.alloc, Request::On { name, call })
             }
-            Scope::Database => BoxedRequest::new(self.alloc, Request::Database { call }),
+            Scope::Database => SharedRequest::new(self.alloc, Request::Database { call }),
         }
     }
 
@@ -305,7 +305,7 @@ impl Registers {
     {
         match self.stack.pop_bytes() {
             Ok(prefix) => {
-                let asked = BoxedRequest::new(self.alloc, Request::Start { prefix })?;
+                let asked = SharedRequest::new(self.alloc, Request::Start { prefix })?;
                 Ok(Act::Asks(asked, Awaits::Start))
             }
             Err(fault) => refused(self.alloc, number, fault),
@@ -341,7 +341,7 @@ impl Registers {
         let copy = prefix.copy()?;
         if let Some(life) = self.stack.batch_life() {
             let wait = Wait { life, polled: 0 };
-            let asked = BoxedRequest::new(self.alloc, Request::PollStamp { life })?;
+            let asked = SharedRequest::new(self.alloc, Request::PollStamp { life })?;
             return Ok(Act::Asks(asked, Awaits::LoggedStamp { prefix: copy, wait }));
         }
         let entries = self.stack.take_log()?;
@@ -350,7 +350,7 @@ impl Registers {
             prefix: copy,
             entries,
         };
-        let asked = BoxedRequest::new(self.alloc, request)?;
+        let asked = SharedRequest::new(self.alloc, request)?;
         Ok(Act::Asks(asked, Awaits::Logged { prefix }))
     }
 

@@ -42,24 +42,85 @@ fn element(alloc: Global, item: Lying) -> Result<Elem, AllocError>
     }
 }
 
-fn lay(
-    alloc: Global,
-    registers: &mut Registers,
-    item: Lying,
-    number: u64,
-) -> Result<(), AllocError> {
-    let element = element(alloc, item)?;
-    let _act = registers.push(number, element)?;
+// What the tests do with registers. What does it by the trait knows no more of them, so that its proof sees nothing of what
+// they hold.
+trait Worked {
+    // Lays an item on the stack, by the instruction of this number.
+    fn lay(&mut self, alloc: Global, item: Lying, number: u64) -> Result<(), AllocError>;
+
+    // What an instruction comes to: a call on the database, one on the transaction, and LOG_STACK.
+    fn call(&mut self, operation: DatabaseOperation, scope: Scope) -> Result<Act, AllocError>;
+
+    fn work(&mut self, operation: TransactionOperation) -> Result<Act, AllocError>;
+
+    fn log(&mut self) -> Result<Act, AllocError>;
+
+    // What a reply comes to.
+    fn reply(&mut self, awaits: &Awaits, reply: &Reply) -> Result<Act, AllocError>;
+
+    // How many items there are.
+    fn count(&self) -> usize;
+
+    // Whether the items left are this text alone, or none.
+    fn is_left(&self, text: Option<&[u8]>) -> bool;
+
+    // Whether one error was noted, and the item that tells of it is on top.
+    fn is_refused(&self) -> bool;
+}
+
+impl Worked for Registers {
+    fn lay(&mut self, alloc: Global, item: Lying, number: u64) -> Result<(), AllocError> {
+        let element = element(alloc, item)?;
+        let _act = self.push(number, element)?;
+        Ok(())
+    }
+
+    fn call(&mut self, operation: DatabaseOperation, scope: Scope) -> Result<Act, AllocError> {
+        self.run(RUN, Some(Instruction::OnDatabase(operation, scope)))
+    }
+
+    fn work(&mut self, operation: TransactionOperation) -> Result<Act, AllocError> {
+        self.run(RUN, Some(Instruction::OnTransaction(operation)))
+    }
+
+    fn log(&mut self) -> Result<Act, AllocError> {
+        self.run(RUN, Some(Instruction::LogStack))
+    }
+
+    fn reply(&mut self, awaits: &Awaits, reply: &Reply) -> Result<Act, AllocError> {
+        self.use_reply(RUN, awaits, reply)
+    }
+
+    fn count(&self) -> usize {
+        self.stack().len()
+    }
+
+    fn is_left(&self, text: Option<&[u8]>) -> bool {
+        match text {
+            Some(text) => self.stack().len() == 1 && top_bytes(self) == text,
+            None => self.stack().is_empty(),
+        }
+    }
+
+    fn is_refused(&self) -> bool {
+        let top = self.stack().as_slice().last();
+        self.errors().len() == 1
+            && top_bytes(self) == b"\x01ERROR\x00\x012102\x00".as_slice()
+            && matches!(top, Some(item) if item.instruction == RUN)
+    }
+}
+
+// Lays these items, the first the oldest, by the instructions of their places.
+fn lay_all<W: Worked>(alloc: Global, worked: &mut W, items: &[Lying]) -> Result<(), AllocError> {
+    for (place, item) in items.iter().enumerate() {
+        worked.lay(alloc, *item, place as u64)?;
+    }
     Ok(())
 }
 
-// Registers with these items, the first the oldest, by the instructions of their places.
-fn registers_with(alloc: Global, items: &[Lying]) -> Result<Registers, AllocError> {
-    let mut registers = Registers::new(alloc, Bytes::from_slice(alloc, b"p")?)?;
-    for (place, item) in items.iter().enumerate() {
-        lay(alloc, &mut registers, *item, place as u64)?;
-    }
-    Ok(registers)
+// Registers of the transaction `p`, with no item.
+fn new_registers(alloc: Global) -> Result<Registers, AllocError> {
+    Registers::new(alloc, Bytes::from_slice(alloc, b"p")?)
 }
 
 // The bytes of an item; none where it is no string, or waits.
@@ -92,6 +153,19 @@ fn course_of(act: &Act) -> Course {
 // The items before an operation, the top last; how it goes on, and how many items it leaves.
 type Row = (&'static [Lying], Course, usize);
 
+// How an operation goes on over these items, and how many it leaves.
+fn outcome_of<W: Worked + Drop>(
+    alloc: Global,
+    mut worked: W,
+    items: &[Lying],
+    operation: DatabaseOperation,
+    scope: Scope,
+) -> Result<(Course, usize), AllocError> {
+    lay_all(alloc, &mut worked, items)?;
+    let course = course_of(&worked.call(operation, scope)?);
+    Ok((course, worked.count()))
+}
+
 fn is_answered(
     alloc: Global,
     operation: DatabaseOperation,
@@ -99,9 +173,8 @@ fn is_answered(
     row: Row,
 ) -> Result<bool, AllocError> {
     let (items, course, left) = row;
-    let mut registers = registers_with(alloc, items)?;
-    let act = registers.run(RUN, Some(Instruction::OnDatabase(operation, scope)))?;
-    Ok(course_of(&act) == course && registers.stack().len() == left)
+    let (found, count) = outcome_of(alloc, new_registers(alloc)?, items, operation, scope)?;
+    Ok(found == course && count == left)
 }
 
 // The first of the rows that an operation in this scope doesn't answer as it says.
@@ -199,18 +272,27 @@ const SELECTOR_READS: &[Row] = &[
     (&[ZERO, ZERO, Int(3), ONE, ZERO, K, ONE, ZERO, K], Under, 0),
 ];
 
+// The rows of each operation.
+const OPERANDS: [(DatabaseOperation, &[Row]); 4] = [
+    (GetKey, KEY_READS),
+    (GetRange, RANGE_READS),
+    (GetRangeStartsWith, PREFIX_READS),
+    (GetRangeSelector, SELECTOR_READS),
+];
+
+// The first of the operations that isn't answered as its rows say, with the row.
+fn first_other_operands(alloc: Global) -> Result<Option<(usize, usize)>, AllocError> {
+    for (place, (operation, rows)) in OPERANDS.iter().enumerate() {
+        if let Some(row) = first_other(alloc, *operation, rows)? {
+            return Ok(Some((place, row)));
+        }
+    }
+    Ok(None)
+}
+
 #[test]
 fn operands_are_judged_one_at_a_time(rt: HostRuntime) -> Result<(), Fail> {
-    assert_eq!(rt; first_other(rt.alloc(), GetKey, KEY_READS)?, None);
-    assert_eq!(rt; first_other(rt.alloc(), GetRange, RANGE_READS)?, None);
-    assert_eq!(rt;
-        first_other(rt.alloc(), GetRangeStartsWith, PREFIX_READS)?,
-        None
-    );
-    assert_eq!(rt;
-        first_other(rt.alloc(), GetRangeSelector, SELECTOR_READS)?,
-        None
-    );
+    assert_eq!(rt; first_other_operands(rt.alloc())?, None);
     Ok(())
 }
 
@@ -259,21 +341,31 @@ fn is_read_request(request: &Request, is_by_snapshot: bool, is_named: bool) -> b
     }
 }
 
+// Whether an operation in this scope asks a read as its name says.
+fn asks_as_named<W: Worked + Drop>(
+    alloc: Global,
+    mut worked: W,
+    items: &[Lying],
+    operation: DatabaseOperation,
+    scope: Scope,
+) -> Result<bool, AllocError> {
+    lay_all(alloc, &mut worked, items)?;
+    let is_by_snapshot = scope == Scope::Snapshot;
+    let is_named = scope != Scope::Database;
+    Ok(is_read(&worked.call(operation, scope)?, is_by_snapshot, is_named))
+}
+
 fn reads_in(
     alloc: Global,
     row: (&[Lying], DatabaseOperation),
     scope: Scope,
 ) -> Result<bool, AllocError> {
     let (items, operation) = row;
-    let mut registers = registers_with(alloc, items)?;
-    let act = registers.run(RUN, Some(Instruction::OnDatabase(operation, scope)))?;
-    let is_by_snapshot = scope == Scope::Snapshot;
-    let is_named = scope != Scope::Database;
-    Ok(is_read(&act, is_by_snapshot, is_named))
+    asks_as_named(alloc, new_registers(alloc)?, items, operation, scope)
 }
 
 // The first of the reads that asks otherwise in this scope.
-fn first_other_read(alloc: Global, scope: Scope) -> Result<Option<usize>, AllocError> {
+fn first_other_read_in(alloc: Global, scope: Scope) -> Result<Option<usize>, AllocError> {
     for (place, row) in READS.iter().enumerate() {
         if !reads_in(alloc, *row, scope)? {
             return Ok(Some(place));
@@ -282,11 +374,19 @@ fn first_other_read(alloc: Global, scope: Scope) -> Result<Option<usize>, AllocE
     Ok(None)
 }
 
+// The first of the scopes in which a read asks otherwise, with the read.
+fn first_other_read(alloc: Global) -> Result<Option<(usize, usize)>, AllocError> {
+    for (place, scope) in SCOPES.iter().enumerate() {
+        if let Some(read) = first_other_read_in(alloc, *scope)? {
+            return Ok(Some((place, read)));
+        }
+    }
+    Ok(None)
+}
+
 #[test]
 fn reads_are_by_snapshot_where_their_name_says_so(rt: HostRuntime) -> Result<(), Fail> {
-    assert_eq!(rt; first_other_read(rt.alloc(), Scope::Transaction)?, None);
-    assert_eq!(rt; first_other_read(rt.alloc(), Scope::Snapshot)?, None);
-    assert_eq!(rt; first_other_read(rt.alloc(), Scope::Database)?, None);
+    assert_eq!(rt; first_other_read(rt.alloc())?, None);
     Ok(())
 }
 
@@ -346,30 +446,48 @@ type Work = (
     Option<&'static [u8]>,
 );
 
-// Whether the items left are this text alone, or none.
-fn is_left(registers: &Registers, text: Option<&[u8]>) -> bool {
-    match text {
-        Some(text) => registers.stack().len() == 1 && top_bytes(registers) == text,
-        None => registers.stack().is_empty(),
-    }
+// Uses the reply that a call has; true.
+fn uses_reply_to<W: Worked>(
+    worked: &mut W,
+    awaits: &Awaits,
+    asked: Wanted,
+) -> Result<bool, AllocError> {
+    let _act = worked.reply(awaits, &reply_to(asked))?;
+    Ok(true)
 }
 
 // Uses the reply to an act's request, if it asks this; whether it does.
-fn replies(registers: &mut Registers, act: &Act, asked: Wanted) -> Result<bool, AllocError> {
+fn replies<W: Worked>(worked: &mut W, act: &Act, asked: Wanted) -> Result<bool, AllocError> {
     match act {
         Act::Asks(request, awaits) if is_asked(request.request(), asked) => {
-            let _act = registers.use_reply(RUN, awaits, &reply_to(asked))?;
-            Ok(true)
+            uses_reply_to(worked, awaits, asked)
         }
         _ => Ok(false),
     }
 }
 
-fn works(alloc: Global, work: Work) -> Result<bool, AllocError> {
+// Runs an operation and uses the reply, if it asks this; whether it does.
+fn works_on<W: Worked>(
+    worked: &mut W,
+    operation: TransactionOperation,
+    asked: Wanted,
+) -> Result<bool, AllocError> {
+    let act = worked.work(operation)?;
+    replies(worked, &act, asked)
+}
+
+fn works_over<W: Worked + Drop>(
+    alloc: Global,
+    mut worked: W,
+    work: Work,
+) -> Result<bool, AllocError> {
     let (items, operation, asked, text) = work;
-    let mut registers = registers_with(alloc, items)?;
-    let act = registers.run(RUN, Some(Instruction::OnTransaction(operation)))?;
-    Ok(replies(&mut registers, &act, asked)? && is_left(&registers, text))
+    lay_all(alloc, &mut worked, items)?;
+    Ok(works_on(&mut worked, operation, asked)? && worked.is_left(text))
+}
+
+fn works(alloc: Global, work: Work) -> Result<bool, AllocError> {
+    works_over(alloc, new_registers(alloc)?, work)
 }
 
 const WORKS: &[Work] = &[
@@ -424,35 +542,55 @@ fn first_other_work(alloc: Global) -> Result<Option<usize>, AllocError> {
 }
 
 // Whether SET_READ_VERSION hands on this version after this reply.
+fn hands_on_after<W: Worked + Drop>(
+    mut worked: W,
+    awaits: &Awaits,
+    reply: &Reply,
+    version: i64,
+) -> Result<bool, AllocError> {
+    let _act = worked.reply(awaits, reply)?;
+    works_on(&mut worked, SetReadVersion, Wanted::SetReadVersion(version))
+}
+
 fn hands_on(
     alloc: Global,
     awaits: &Awaits,
     reply: &Reply,
     version: i64,
 ) -> Result<bool, AllocError> {
-    let mut registers = registers_with(alloc, &[])?;
-    let _act = registers.use_reply(RUN, awaits, reply)?;
-    let act = registers.run(RUN, Some(Instruction::OnTransaction(SetReadVersion)))?;
-    replies(&mut registers, &act, Wanted::SetReadVersion(version))
+    hands_on_after(new_registers(alloc)?, awaits, reply, version)
+}
+
+// Whether it hands on a version that was read, one that was committed, and 0 after a fault.
+fn are_handed_on(alloc: Global) -> Result<(bool, bool, bool), AllocError> {
+    let read = hands_on(alloc, &Awaits::ReadVersion, &Reply::Version(7), 7)?;
+    let committed = hands_on(alloc, &Awaits::CommittedVersion, &Reply::Version(-1), -1)?;
+    let refused = hands_on(alloc, &Awaits::ReadVersion, &Reply::Fault(Code(1025)), 0)?;
+    Ok((read, committed, refused))
 }
 
 #[test]
 fn versions_and_conflict_ranges_are_asked(rt: HostRuntime) -> Result<(), Fail> {
-    let alloc = rt.alloc();
-    assert_eq!(rt; first_other_work(alloc)?, None);
-    assert!(rt; hands_on(alloc, &Awaits::ReadVersion, &Reply::Version(7), 7)?);
-    assert!(rt; hands_on(alloc, &Awaits::CommittedVersion, &Reply::Version(-1), -1)?);
-    assert!(rt; hands_on(alloc, &Awaits::ReadVersion, &Reply::Fault(Code(1025)), 0)?);
+    assert_eq!(rt; first_other_work(rt.alloc())?, None);
+    assert_eq!(rt; are_handed_on(rt.alloc())?, (true, true, true));
     Ok(())
 }
 
 // ---- replies
 
 // Whether the reply pushes these bytes.
+fn pushes_on<W: Worked + Drop>(
+    mut worked: W,
+    awaits: &Awaits,
+    reply: &Reply,
+    bytes: &[u8],
+) -> Result<bool, AllocError> {
+    let _act = worked.reply(awaits, reply)?;
+    Ok(worked.is_left(Some(bytes)))
+}
+
 fn pushes(alloc: Global, awaits: &Awaits, reply: &Reply, bytes: &[u8]) -> Result<bool, AllocError> {
-    let mut registers = registers_with(alloc, &[])?;
-    let _act = registers.use_reply(RUN, awaits, reply)?;
-    Ok(is_left(&registers, Some(bytes)))
+    pushes_on(new_registers(alloc)?, awaits, reply, bytes)
 }
 
 // A prefix, a key that was found, and what is pushed.
@@ -508,12 +646,17 @@ fn pushes_pairs_within(alloc: Global) -> Result<bool, AllocError> {
     )
 }
 
+// Whether two pairs are pushed, and the one alone that lies within a prefix.
+fn are_pushed(alloc: Global) -> Result<(bool, bool), AllocError> {
+    let all = b"\x01g\x00\x017\x00\x01d\x00\x014\x00";
+    let is_all = pushes_pairs(alloc, &Awaits::Pairs, all)?;
+    Ok((is_all, pushes_pairs_within(alloc)?))
+}
+
 #[test]
 fn what_was_read_is_pushed(rt: HostRuntime) -> Result<(), Fail> {
-    let all = b"\x01g\x00\x017\x00\x01d\x00\x014\x00";
     assert_eq!(rt; first_other_key(rt.alloc())?, None);
-    assert!(rt; pushes_pairs(rt.alloc(), &Awaits::Pairs, all)?);
-    assert!(rt; pushes_pairs_within(rt.alloc())?);
+    assert_eq!(rt; are_pushed(rt.alloc())?, (true, true));
     Ok(())
 }
 
@@ -527,33 +670,36 @@ fn entry_count(request: &Request) -> usize {
     }
 }
 
-// How many entries an act's request has, 0 where there is none, and what its reply comes to.
-fn logged(registers: &mut Registers, act: Act, reply: &Reply) -> Result<(usize, Act), AllocError> {
+// How many entries an act's request has; 0 where there is none.
+fn asked_count(act: &Act) -> usize {
     match act {
-        Act::Asks(asked, awaits) => {
-            let next = registers.use_reply(RUN, &awaits, reply)?;
-            Ok((entry_count(asked.request()), next))
-        }
-        _ => Ok((0, act)),
+        Act::Asks(asked, _) => entry_count(asked.request()),
+        _ => 0,
     }
 }
 
-// How many entries the requests of LOG_STACK have, where the second has this reply.
-fn log_all(registers: &mut Registers, second: &Reply) -> Result<[usize; 4], AllocError> {
-    let act = registers.run(RUN, Some(Instruction::LogStack))?;
-    let (newest, act) = logged(registers, act, &Reply::Done)?;
-    let (middle, act) = logged(registers, act, second)?;
-    let (oldest, act) = logged(registers, act, &Reply::Done)?;
-    let (none, _act) = logged(registers, act, &Reply::Done)?;
-    Ok([newest, middle, oldest, none])
+// What the reply to an act's request comes to; that all is done, where there is none.
+fn follows<W: Worked>(worked: &mut W, act: &Act, reply: &Reply) -> Result<Act, AllocError> {
+    match act {
+        Act::Asks(_, awaits) => worked.reply(awaits, reply),
+        _ => Ok(Act::Does),
+    }
 }
 
-// Whether one error was noted, and the item that tells of it is on top.
-fn is_refused(registers: &Registers) -> bool {
-    let top = registers.stack().as_slice().last();
-    registers.errors().len() == 1
-        && top_bytes(registers) == b"\x01ERROR\x00\x012102\x00".as_slice()
-        && matches!(top, Some(item) if item.instruction == RUN)
+// Both of an act.
+fn logged<W: Worked>(worked: &mut W, act: &Act, reply: &Reply) -> Result<(usize, Act), AllocError> {
+    let next = follows(worked, act, reply)?;
+    Ok((asked_count(act), next))
+}
+
+// How many entries the requests of LOG_STACK have, where the second has this reply.
+fn log_all<W: Worked>(worked: &mut W, second: &Reply) -> Result<[usize; 4], AllocError> {
+    let act = worked.log()?;
+    let (newest, act) = logged(worked, &act, &Reply::Done)?;
+    let (middle, act) = logged(worked, &act, second)?;
+    let (oldest, act) = logged(worked, &act, &Reply::Done)?;
+    let (none, _act) = logged(worked, &act, &Reply::Done)?;
+    Ok([newest, middle, oldest, none])
 }
 
 // The prefix, and so many items below it.
@@ -562,12 +708,22 @@ const LOGGED: [Lying; 206] = [Str(b"L"); 206];
 // How many entries the requests have, how many items are left, and whether the second was refused.
 type Outcome = ([usize; 4], usize, bool);
 
+// The same where LOG_STACK runs over these items.
+fn log_over<W: Worked + Drop>(
+    alloc: Global,
+    mut worked: W,
+    items: &[Lying],
+    second: &Reply,
+) -> Result<Outcome, AllocError> {
+    lay_all(alloc, &mut worked, items)?;
+    let sizes = log_all(&mut worked, second)?;
+    Ok((sizes, worked.count(), worked.is_refused()))
+}
+
 fn logs(alloc: Global, count: usize, second: &Reply) -> Result<Outcome, AllocError>
     requires { count ≤ 205 }
 {
-    let mut registers = registers_with(alloc, &LOGGED[..count + 1])?;
-    let sizes = log_all(&mut registers, second)?;
-    Ok((sizes, registers.stack().len(), is_refused(&registers)))
+    log_over(alloc, new_registers(alloc)?, &LOGGED[..count + 1], second)
 }
 
 #[test]
