@@ -7,7 +7,7 @@ ghost use Rattle.machine_rules.specs.Runs.{at_rest};
 ghost use Rattle.machine_rules.specs.Laws.{is_awaiting};
 ghost use Rattle.machine_seat.specs.Seats.{progress_of, with_asked, work_left, Awaits, IsNearer, IsSeated};
 
-use fdb_calls::{SharedRequest, Reply};
+use fdb_calls::{Reply, SharedRequest};
 use stack_machine::{Machine, Step};
 use std::alloc::AllocError;
 

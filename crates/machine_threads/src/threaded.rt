@@ -109,12 +109,10 @@ impl ThreadedMachine {
         self.waiters.reserve(1)?;
         let request = self.seat.hand_over();
         let prefix = prefix_of(request.request())?;
-        let kept = request.share()?;
         gate.pass(self.seat.machine.number(), self.waiters.len() as u64);
         let asked = self.client.ask(rt, alloc, request)?;
         self.client.prepare(alloc)?;
         let (waiter, started) = hear(rt, alloc, &mut self.seat, prefix, asked)?;
-        drop(kept);
         self.waiters.push_reserved(waiter);
         Ok(started)
     }

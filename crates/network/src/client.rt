@@ -19,6 +19,9 @@ pub struct Client {
     machine: u16,
     sender: Sender<Post>,
     prepared: Option<Halves>,
+    // The request that was asked last. It is let go of while the next is answered, so that its block goes back here, where it was
+    // taken, and not where it was answered.
+    asked: Option<SharedRequest>,
 }
 
 // The two halves of a cell that was made for a request to come.
@@ -60,6 +63,7 @@ impl Client {
             machine,
             sender,
             prepared: None,
+            asked: None,
         }
     }
 
@@ -101,6 +105,7 @@ impl Client {
         ensures machine { client_machine self.new ≡ client_machine self.old }
         ensures line { client_line self.new ≡ client_line self.old }
     {
+        let shared = request.share()?;
         let (setter, waiter) = self.halves(alloc)?;
         let machine = self.machine;
         let post = Post::Ask {
@@ -109,6 +114,7 @@ impl Client {
             setter,
         };
         self.sender.post(rt, post);
+        self.asked = Some(shared);
         Ok(waiter)
     }
 
@@ -161,6 +167,7 @@ impl Client {
             machine,
             sender,
             prepared: None,
+            asked: None,
         })
     }
 
@@ -183,6 +190,7 @@ impl Client {
             machine: _,
             sender,
             prepared: _,
+            asked: _,
         } = self;
         sender
     }

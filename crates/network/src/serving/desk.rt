@@ -9,7 +9,7 @@ use super::Served;
 use crate::post::Post;
 use crate::receipts::Receipts;
 use crate::service::Service;
-use fdb_calls::{Reply, SharedRequest};
+use fdb_calls::{Reply, Request};
 use future_cell::{Receipt, Setter, Wake};
 use input_rules::Order;
 use lists::List;
@@ -61,21 +61,20 @@ impl Desk {
                 machine,
                 request,
                 setter,
-            } => self.answer(service, machine, request, setter),
+            } => self.answer(service, machine, request.request(), setter),
             Post::Over { machine: _ } => self.over += 1,
         }
     }
 
-    // Has the service answer a request, while memory lasts, and sets the reply. It lets go of the request first, so that the machine,
-    // which shares it, gives back the block that it took.
+    // Has the service answer a request, while memory lasts, and sets the reply.
     fn answer<S: Service>(
         &mut self,
         service: &mut S,
         machine: u16,
-        request: SharedRequest,
+        request: &Request,
         setter: Setter<Reply, Wake>,
     )
-        ensures answered { self.new.short ≡ false → (self.old.short ≡ false) × AddsAnswer S.answers service.old service.new machine request setter
+        ensures answered { self.new.short ≡ false → (self.old.short ≡ false) × AddsAnswer S.answers service.old service.new machine request.now setter
             self.old.order self.old.receipts.items self.new.order self.new.receipts.items }
         ensures over { self.new.over ≡ self.old.over }
         ensures machines { self.old.machines ≤ self.new.machines }
@@ -85,8 +84,7 @@ impl Desk {
             refuse(setter);
             return;
         }
-        let reply = service.answer(machine, request.request());
-        drop(request);
+        let reply = service.answer(machine, request);
         self.set(setter, reply);
     }
 

@@ -1,4 +1,4 @@
-use Rattle.std.proofs.Common.{[], ◌∷◌, ◌++◌, sym, ap, subst, ◌∙◌}
+use Rattle.std.proofs.Common.{[], ◌∷◌, ◌++◌, sym, ap, ◌∙◌}
 use Rattle.network.proofs.serving.desk.Desk.answer.Goals as goal
 
 pub returns-clause-answered : goal.returns-clause-answered
@@ -9,8 +9,7 @@ returns-clause-answered g c short =
       sym c.make_room.ensures.rest.0 ∙ kept.0,
       (
         c.answer-reply.result,
-        subst (λ request. g.S.Service.answers c.args.service.now c.args.machine request c.answer-reply.result c.answer-reply.new.self)
-            c.request-2.ensures c.answer-reply.ensures,
+        c.answer-reply.ensures,
         kept.1,
         (added.0, added.1, added.2, added.3 ∙ ap (λ l. l ++ added.0 ∷ []) c.make_room.ensures.receipts),
         c.set.ensures.order ∙ room.1,
