@@ -17,6 +17,24 @@ acted_registers machine registers (Does left) = refl
 acted_registers machine registers (Stops left end) = refl
 acted_registers machine registers (Asks left request awaiting) = refl
 
+-- what came of a reply to what is awaited, done by the machine with the registers that it left, is what the machine makes of the reply
+pub resumed_as : (old : MachineModel) (registers : Registers) (act : Act) (awaiting its : Awaits) (given : Reply) (answer : Step) (new : MachineModel)
+    → old.machine.state ≡ state.Awaiting awaiting → awaiting ≡ its → act ≡ replied_act its old.machine given
+    → Moves (record old { machine = record old.machine { registers = registers } }) (acted (record old.machine { registers = registers }) act) answer new
+    → Moves old (resumed old.machine given) answer new
+unfolding resumed
+resumed_as old registers act awaiting its given answer new stands exact is moves = record {
+  before = moves.before;
+  after = moves.after;
+  machine = moves.machine ∙ ap (λ (progress : Progress). progress.machine) same;
+  answer_is = moves.answer_is ∙ ap answer_of same;
+}
+  where
+    same : acted (record old.machine { registers = registers }) act ≡ resumed_by old.machine.state old.machine given
+    same = acted_registers old.machine registers act
+        ∙ ap (acted old.machine) (is ∙ sym (ap (λ awaits. replied_act awaits old.machine given) exact))
+        ∙ sym (ap (λ its. resumed_by its old.machine given) stands)
+
 plain_act : (awaiting : Awaits) (machine : Machine) (given : Reply)
     → ((wait : Wait) → awaiting ≡ awaits.Stamp wait → ⊥)
     → ((prefix : List ℕ) (wait : Wait) → awaiting ≡ awaits.LoggedStamp prefix wait → ⊥)
@@ -27,7 +45,7 @@ plain_act (awaits.LoggedStamp prefix wait) machine given polls logs watches = ab
 plain_act (awaits.Empty prefix polled) machine given polls logs watches = absurd (watches prefix polled refl)
 plain_act awaiting machine given polls logs watches = refl
 
--- what came of such a reply, done by the machine with the registers that it left, is what the machine makes of the reply
+-- the same of a reply that no poll awaits
 pub resumed_plainly : (old : MachineModel) (registers : Registers) (act : Act) (awaiting : Awaits) (given : Reply) (answer : Step) (new : MachineModel)
     → old.machine.state ≡ state.Awaiting awaiting
     → ((wait : Wait) → awaiting ≡ awaits.Stamp wait → ⊥)
@@ -36,15 +54,6 @@ pub resumed_plainly : (old : MachineModel) (registers : Registers) (act : Act) (
     → act ≡ used old.machine.next old.machine.registers (use_of awaiting given)
     → Moves (record old { machine = record old.machine { registers = registers } }) (acted (record old.machine { registers = registers }) act) answer new
     → Moves old (resumed old.machine given) answer new
-unfolding resumed
-resumed_plainly old registers act awaiting given answer new stands polls logs watches is moves = record {
-  before = moves.before;
-  after = moves.after;
-  machine = moves.machine ∙ ap (λ (progress : Progress). progress.machine) same;
-  answer_is = moves.answer_is ∙ ap answer_of same;
-}
-  where
-    same : acted (record old.machine { registers = registers }) act ≡ resumed_by old.machine.state old.machine given
-    same = acted_registers old.machine registers act
-        ∙ ap (acted old.machine) (is ∙ sym (plain_act awaiting old.machine given polls logs watches))
-        ∙ sym (ap (λ its. resumed_by its old.machine given) stands)
+resumed_plainly old registers act awaiting given answer new stands polls logs watches is moves =
+    resumed_as old registers act awaiting awaiting given answer new stands refl
+    (is ∙ sym (plain_act awaiting old.machine given polls logs watches)) moves
