@@ -9,7 +9,7 @@ use Rattle.fdb_calls.specs.declared.TxnCall.TheVariants as call
 use Rattle.database_rules.specs.Histories.{History, Setting, grown_by, last}
 use Rattle.database_rules.specs.Transactions.{Transaction, fresh, with_version}
 use Rattle.fdb_calls.specs.Calling.{Called, called, is_fault}
-use Rattle.edge_map.specs.Edges.{Edges}
+use Rattle.conflict_ranges.specs.Writes.{Index}
 use Rattle.machine_rules.specs.Worlds.{World, next_life, decide, with_lives, called_apart, commit_made, database_by, fresh_at_last}
 use Rattle.version_store.specs.Versions.{Versions, last_of}
 use Rattle.txn_core.specs.Stands as txn
@@ -29,7 +29,7 @@ pub drawn_apart : (core after : ContentsModel) (world : World) (next : ℕ) (beg
 drawn_apart core after world next begun counted fresh_one store index transactions lives stands = (
   subst (λ n. txn.StandsFor begun (with_version world.setting (fresh n))) (counted ∙ ap length stands.lives) (fresh_one world.setting stands.keeps),
   record {
-    keeps = subst (λ (both : Versions × Edges ℕ). txn.Keeps both.0 both.1 world.setting) (λ i. (sym store i, sym index i)) stands.keeps;
+    keeps = subst (λ (both : Versions × Index). txn.Keeps both.0 both.1 world.setting) (λ i. (sym store i, sym index i)) stands.keeps;
     transactions = subst (λ (m : KeptTransactions). AllAlike m world.transactions) (sym transactions) stands.transactions;
     lives = lives ∙ ap (λ kept. with_lives kept 1) stands.lives;
   },
@@ -81,7 +81,7 @@ logged_apart core after world life outcome left before made stands none no_life 
     apart_stands core after world life 0 outcome left before made stands
     (subst (λ (h : History). txn.Keeps after.store after.index (record world.setting { history = h }))
     (sym (ap (λ commits. world.setting.history ++ commits) none ∙ append-nil world.setting.history))
-    (subst (λ (both : Versions × Edges ℕ). txn.Keeps both.0 both.1 world.setting) (λ i. (sym store i, sym index i)) stands.keeps))
+    (subst (λ (both : Versions × Index). txn.Keeps both.0 both.1 world.setting) (λ i. (sym store i, sym index i)) stands.keeps))
     transactions lives becomes is (sym no_life) left_stands
 
 -- a core that is sound has a version to spare

@@ -15,7 +15,7 @@ use Rattle.directory_rules.specs.Courses.{Reached}
 use Rattle.directory.specs.Runs.{AnswersBy, IsAnswered}
 use Rattle.fdb_calls.specs.declared.Outcome.{Outcome}
 use Rattle.fdb_calls.specs.declared.Reply.{Reply}
-use Rattle.edge_map.specs.Edges.{Edges}
+use Rattle.conflict_ranges.specs.Writes.{Index}
 use Rattle.machine_rules.specs.Worlds.{World, HasWords, decide, with_lives, transaction_of, fresh_at_last, next_life, with_new, with_named, called_apart, commit_made}
 use Rattle.machine_rules.specs.Worlds.{with_drawn, directory_called, directory_reply, directory_named, directory_alone, refusing}
 use Rattle.version_store.specs.Versions.{Versions}
@@ -50,11 +50,11 @@ reaches_there its_reply kept words left others kind layer args setting t has rea
     subst (λ (these : ℕ → ℕ). Reaches its_reply kept these left (effect kind layer args setting these t)) (λ i place. has place i) reaches
 
 -- a store and an index keep a history to which no commit was added
-keeps_still : (store later : Versions) (index later_index : Edges ℕ) (setting : Setting) → later ≡ store → later_index ≡ index
+keeps_still : (store later : Versions) (index later_index : Index) (setting : Setting) → later ≡ store → later_index ≡ index
     → txn.Keeps store index setting → txn.Keeps later later_index (record setting { history = setting.history ++ [] })
 keeps_still store later index later_index setting same same_index keeps =
     subst (λ (h : History). txn.Keeps later later_index (record setting { history = h })) (sym (append-nil setting.history))
-    (subst (λ (both : Versions × Edges ℕ). txn.Keeps both.0 both.1 setting) (λ i. (sym same i, sym same_index i)) keeps)
+    (subst (λ (both : Versions × Index). txn.Keeps both.0 both.1 setting) (λ i. (sym same i, sym same_index i)) keeps)
 
 -- a world in which a name gets a transaction has the same words
 pub named_has_words : (world : World) (name : List ℕ) (words : ℕ → ℕ) → HasWords world words → HasWords (with_named world name) words

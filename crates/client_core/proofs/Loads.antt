@@ -4,8 +4,7 @@ use Rattle.std.specs.FinMap as finite
 use Rattle.key_bytes.specs.Keys.{key_cmp}
 use Rattle.database_rules.specs.Databases.{do_all}
 use Rattle.database_rules.specs.Histories.{loaded, at}
-use Rattle.edge_map.specs.Edges.{Edges}
-use Rattle.conflict_ranges.specs.Writes.{newest_at}
+use Rattle.conflict_ranges.specs.Writes.{newest_at, Index}
 use Rattle.version_store.specs.Versions as versions
 use Rattle.version_store.specs.Versions.{Versions, last_of}
 use Rattle.database_rules.specs.Transactions.{Transaction}
@@ -15,7 +14,7 @@ use Rattle.txn_core.specs.Stands.{Kept, Keeps}
 use Rattle.client_core.specs.Stands.{ContentsModel, KeptTransactions, KeepsWorld, AreAlike}
 
 -- the store keeps the history of the first commit
-pub first_kept : (store : Versions) (index : Edges ℕ) (pairs : List (List ℕ × List ℕ)) → last_of store ≡ 1 → versions.at store 0 ≡ finite.empty
+pub first_kept : (store : Versions) (index : Index) (pairs : List (List ℕ × List ℕ)) → last_of store ≡ 1 → versions.at store 0 ≡ finite.empty
     → versions.at store 1 ≡ do_all (loaded pairs).mutations finite.empty → ((key : List ℕ) → newest_at index key ≡ 0)
     → Keeps store index (record { history = loaded pairs ∷ [] })
 first_kept store index pairs last empty first unwritten = record { last_is = last; at_is = by_version; newest_is = unwritten }

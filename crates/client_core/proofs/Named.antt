@@ -12,7 +12,7 @@ use Rattle.database_rules.specs.Transactions.{Transaction, fresh}
 use Rattle.fdb_calls.specs.declared.Outcome.{Outcome}
 use Rattle.fdb_calls.specs.Calling.{called}
 use Rattle.machine_rules.specs.Worlds.{World, Transactions, next_life, decide, with_lives, transaction_of, call_named, with_new, with_named}
-use Rattle.edge_map.specs.Edges.{Edges}
+use Rattle.conflict_ranges.specs.Writes.{Index}
 use Rattle.version_store.specs.Versions.{Versions}
 use Rattle.txn_core.specs.Stands as txn
 use Rattle.txn_core.specs.declared.answer.Answer.{Answer}
@@ -58,7 +58,7 @@ new_stands core after world name next life outcome kept stands counted fresh_one
     let fresh_there : txn.StandsFor kept (fresh (next_life world)) =
     subst (λ n. txn.StandsFor kept (fresh n)) (counted ∙ ap length stands.lives) fresh_one in
     record {
-      keeps = subst (λ (both : Versions × Edges ℕ). txn.Keeps both.0 both.1 world.setting) (λ i. (sym store i, sym index i)) stands.keeps;
+      keeps = subst (λ (both : Versions × Index). txn.Keeps both.0 both.1 world.setting) (λ i. (sym store i, sym index i)) stands.keeps;
       transactions = subst (λ (m : KeptTransactions). AllAlike m (finite.insert world.transactions name (fresh (next_life world)))) (sym transactions)
           (alike_inserted core.transactions world.transactions name kept (fresh (next_life world)) fresh_there stands.transactions);
       lives = lives

@@ -8,7 +8,7 @@ use Rattle.key_bytes.specs.Keys.{key_cmp}
 use Rattle.database_rules.specs.Transactions.{Transaction}
 use Rattle.machine_rules.specs.Worlds.{World, Stepped, HasWords}
 use Rattle.machine_rules.specs.declared.TheConstants.{MACHINES}
-use Rattle.edge_map.specs.Edges.{Edges}
+use Rattle.conflict_ranges.specs.Writes.{Index}
 use Rattle.version_store.specs.Versions.{Versions}
 use Rattle.txn_core.specs.Stands as txn
 
@@ -20,7 +20,7 @@ KeptTransactions = finite.FinMap key_cmp txn.Kept
 -- by name, what became of each life that was drawn, and how many requests it took
 pub record ContentsModel : Type 0 where
   pub store : Versions
-  pub index : Edges ℕ
+  pub index : Index
   pub transactions : KeptTransactions
   pub lives : List (Option Outcome)
   pub applied : ℕ
@@ -28,7 +28,7 @@ pub record ContentsModel : Type 0 where
 -- the same, and the prefixes of the machines that were started, by their numbers
 pub record CoreModel : Type 0 where
   pub store : Versions
-  pub index : Edges ℕ
+  pub index : Index
   pub transactions : KeptTransactions
   pub lives : List (Option Outcome)
   pub applied : ℕ

@@ -18,7 +18,7 @@ abbrev pub greatest : ℕ → Numbers → ℕ
 greatest number [] = number
 greatest number (e ∷ es) = greatest (max number e.1) es
 
-grows : (number : ℕ) (es : Numbers) → number ≤ greatest number es
+pub grows : (number : ℕ) (es : Numbers) → number ≤ greatest number es
 grows number [] = omega arith
 grows number (e ∷ es) = let more = grows (max number e.1) es in omega (arith, more)
 

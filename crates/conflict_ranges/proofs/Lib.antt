@@ -1,3 +1,4 @@
+pub mod Alone
 pub mod Between
 pub mod Changed
 pub mod Greatest
@@ -9,3 +10,5 @@ pub mod Sound
 pub mod Splits
 pub mod Taken
 pub mod Walks
+pub mod Versions
+pub mod Rooms

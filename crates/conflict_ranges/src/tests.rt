@@ -143,7 +143,7 @@ fn write(
 ) -> Result<(), AllocError> {
     let mut ranges = RangeSet::new(alloc);
     ranges.add(range)?;
-    index.reserve(&ranges)?;
+    index.reserve(&ranges, version)?;
     index.install(ranges, version);
     Ok(())
 }
@@ -201,7 +201,7 @@ fn takes_many_commits(rt: HostRuntime) -> Result<(), Fail> {
     Ok(())
 }
 
-// ---- beside plain lists, with an entry for each key of one byte
+// ---- beside plain lists, with two entries for each key of one byte: one for that key alone, and one for the keys behind it
 
 // Numbers from a fixed seed (Knuth's MMIX constants).
 #[derive(Clone, Copy)]
@@ -219,17 +219,29 @@ impl Dice {
     }
 }
 
-const KEYS: u8 = 16;
+// How many entries there are.
+const PLACES: u8 = 24;
+
+// The first key of an entry: a key of one byte, or the next key after that.
+fn key_at(alloc: Global, place: u8) -> Result<Key, AllocError> {
+    let key = Bytes::from_slice(alloc, &[place / 2])?;
+    if place % 2 == 0 {
+        return Ok(key);
+    }
+    key.after()
+}
 
 fn roll_range(alloc: Global, dice: &mut Dice) -> Result<(u8, u8, KeyRange), AllocError> {
-    let (begin, end) = (dice.roll(KEYS), dice.roll(KEYS));
-    Ok((begin, end, range_of(alloc, &[begin], &[end])?))
+    let (first, last) = (dice.roll(PLACES), dice.roll(PLACES));
+    let begin = key_at(alloc, first)?;
+    let end = key_at(alloc, last)?;
+    Ok((first, last, KeyRange { begin, end }))
 }
 
 // Writes a number for the keys of a range.
 fn write_plain(plain: &mut [u64], begin: u8, end: u8, number: u64) {
-    for (key, entry) in plain.iter_mut().enumerate() {
-        if usize::from(begin) <= key && key < usize::from(end) {
+    for (place, entry) in plain.iter_mut().enumerate() {
+        if usize::from(begin) <= place && place < usize::from(end) {
             *entry = number;
         }
     }
@@ -238,8 +250,8 @@ fn write_plain(plain: &mut [u64], begin: u8, end: u8, number: u64) {
 // The greatest number of the keys of a range, or 0.
 fn greatest_plain(plain: &[u64], begin: u8, end: u8) -> u64 {
     let mut greatest = 0;
-    for (key, entry) in plain.iter().enumerate() {
-        if usize::from(begin) <= key && key < usize::from(end) {
+    for (place, entry) in plain.iter().enumerate() {
+        if usize::from(begin) <= place && place < usize::from(end) {
             greatest = greatest.max(*entry);
         }
     }
@@ -247,7 +259,7 @@ fn greatest_plain(plain: &[u64], begin: u8, end: u8) -> u64 {
 }
 
 fn new_plain(alloc: Global) -> Result<Vec<u64>, AllocError> {
-    vec![in alloc; 0; usize::from(KEYS)]
+    vec![in alloc; 0; usize::from(PLACES)]
 }
 
 // Adds the keys of some ranges, or takes those of a range away; the plain list has 1 for the keys of the set, and 0 for the
@@ -291,7 +303,7 @@ fn is_set_alike(
             return Ok(false);
         }
     }
-    Ok(set.is_empty() == (greatest_plain(plain, 0, KEYS) == 0))
+    Ok(set.is_empty() == (greatest_plain(plain, 0, PLACES) == 0))
 }
 
 // The first of 400 changes after which a set and the plain list differ. Each eighth begins with new ones, so that changes
@@ -333,7 +345,7 @@ fn write_random(
         set.add(&range)?;
         write_plain(plain, begin, end, version);
     }
-    index.reserve(&set)?;
+    index.reserve(&set, version)?;
     index.install(set, version);
     Ok(())
 }
@@ -354,15 +366,16 @@ fn is_index_alike(
     Ok(true)
 }
 
-// The first of 400 versions after which an index and the plain list differ.
+// The first of 400 versions after which an index and the plain list differ. One of four is no greater than all before it.
 fn first_index_apart(alloc: Global) -> Result<Option<u64>, AllocError> {
     let mut dice = Dice { state: 11 };
     let mut index = WriteIndex::new(alloc);
     let mut plain = new_plain(alloc)?;
-    for version in 1..400 {
+    for step in 1..400 {
+        let version = if dice.roll(4) == 0 { step / 2 } else { step };
         write_random(alloc, &mut index, &mut plain, &mut dice, version)?;
         if !is_index_alike(alloc, &index, &plain, &mut dice)? {
-            return Ok(Some(version));
+            return Ok(Some(step));
         }
     }
     Ok(None)

@@ -1,61 +1,64 @@
 //! Which version last declared each key.
 
-ghost use Rattle.std.specs.Prelude.{◌≡◌, ◌≤◌, ◌⊎◌, ℕ, List, [], true, if◌then◌else◌, OnOk};
+ghost use Rattle.std.specs.Prelude.{◌≡◌, ◌≤◌, ◌⊎◌, ℕ, List, [], true, if◌then◌else◌, MatchBool, OnOk};
+ghost use Rattle.std.specs.FinMap as finite;
 ghost use Rattle.key_bytes.specs.Keys.{within};
 ghost use Rattle.key_bytes.specs.Ranges.{has};
-ghost use Rattle.database_rules.specs.States.{covers};
-ghost use Rattle.conflict_ranges.specs.Ends.{HasRoom};
-ghost use Rattle.conflict_ranges.specs.Writes.{newest_at};
+ghost use Rattle.database_rules.specs.States.{covers, range_from};
+ghost use Rattle.edge_map.specs.Edges.{is_edge};
+ghost use Rattle.conflict_ranges.specs.Writes.{newest_at, GoesAlone, GoesAsRange, HasRoomFor, IsReadyFor, Keeps, KeepsRoom};
 
+use crate::newest::{Written, is_after, newest_of_keys, newest_of_ranges};
 use crate::range_set::RangeSet;
 use crate::splitting::split_both;
-use edge_map::{Change, EdgeMap};
+use edge_map::EdgeMap;
 use key_bytes::{Key, KeyRange};
+use key_map::KeyMap;
 use std::alloc::{AllocError, Global};
 use std::marker::Model;
 
-// The keys were last written at this version, whatever it was before.
-#[derive(Drop)]
-struct Written(u64);
-
-impl Change<u64> for Written {
-    ghost changed = { λ written _. written.0 };
-
-    fn change(&self, level: &mut u64) {
-        *level = self.0;
-    }
-}
-
 /// The newest version of each key: that of the last commit that declared to write it, or 0 (API reference, "Transaction":
-/// conflict ranges). Contracts see edges, each with the version that all keys from it up to the next edge have.
+/// conflict ranges). A range of one key is kept as that key, any other by its ends. Contracts see what is known of keys alone and
+/// of ranges; `newest_at` says of both the version of a key.
 #[derive(Drop)]
 pub struct WriteIndex {
-    versions: EdgeMap<u64>,
+    keys: KeyMap<u64>,
+    ranges: EdgeMap<u64>,
+    // No version is greater.
+    newest: u64,
 }
 
 impl Model for WriteIndex {
-    ghost use Rattle.std.specs.Prelude.{ℕ};
-    ghost use Rattle.edge_map.specs.Edges.{Edges};
+    ghost use Rattle.std.specs.Coded.{codes, coded_ℕ, coded_list};
+    ghost use Rattle.std.specs.FinMap as finite;
+    ghost use Rattle.key_bytes.specs.Keys.{key_cmp};
+    ghost use Rattle.conflict_ranges.specs.Writes.{Index, IsBounded};
 
-    ghost Value = { Edges ℕ };
+    ghost Value = { Index };
 
-    ghost view = { λ index. index.versions };
+    ghost coded = { Prim.hlevel (codes, coded_ℕ, coded_list, finite.code {R = key_cmp} (coded_list coded_ℕ) coded_ℕ) };
+
+    ghost view = { λ index. record { keys = index.keys; ranges = index.ranges; newest = index.newest } };
+
+    ghost invariant = { λ index. IsBounded (record { keys = index.keys; ranges = index.ranges; newest = index.newest }) };
 }
 
 impl WriteIndex {
     /// The index where no key was written: each has version 0. It takes no memory, and keeps the allocator for what is added
     /// later.
     pub fn new(alloc: Global) -> WriteIndex
-        ensures edges { result ≡ record { base = 0; entries = [] } }
+        ensures empty { result ≡ record { keys = finite.empty; ranges = record { base = 0; entries = [] }; newest = 0 } }
         ensures unwritten { (key : List ℕ) → newest_at result key ≡ 0 }
     {
         WriteIndex {
-            versions: EdgeMap::new(alloc, 0),
+            keys: KeyMap::new(alloc),
+            ranges: EdgeMap::new(alloc, 0),
+            newest: 0,
         }
     }
 
-    /// The newest version that a key of the range has; 0 where the range is empty. It takes no memory, two searches, and one step
-    /// for each edge in the range.
+    /// The newest version that a key of the range has; 0 where the range is empty. It takes no memory. For one key it takes two
+    /// searches, and else four, and one step for each key and each edge in the range.
     pub fn newest_in(&self, range: &KeyRange) -> u64
         ensures above { (key : List ℕ) → has range.now key ≡ true → newest_at self.now key ≤ result }
         ensures reached { (result ≡ 0)
@@ -70,39 +73,124 @@ impl WriteIndex {
         ensures reached { (result ≡ 0)
             ⊎ ((key : List ℕ) × (within begin.now end.now key ≡ true) × (newest_at self.now key ≡ result)) }
     {
+        if is_after(begin, end) {
+            return self.newest_of(begin);
+        }
         if !begin.cmp(end).is_lt() {
             return 0;
         }
-        self.versions.shows_rising();
-        let mut newest = *self.versions.at(begin);
-        for (_, version) in self.versions.edges_between(begin, end) {
-            newest = newest.max(*version);
-        }
-        newest
+        newest_of_ranges(&self.ranges, begin, end).max(newest_of_keys(&self.keys, begin, end))
     }
 
-    /// Makes the ends of the ranges edges, so that `install` needs no memory: one search for a range whose ends are edges with none
-    /// between, and five at most for any other. Each key keeps its version, after a refusal too.
-    pub fn reserve(&mut self, ranges: &RangeSet) -> Result<(), AllocError>
+    // The newest version of a key. It takes no memory, and two searches.
+    fn newest_of(&self, key: &Key) -> u64
+        ensures { result ≡ newest_at self.now key.now }
+    {
+        let in_ranges = *self.ranges.at(key);
+        match self.keys.get(key) {
+            Some(version) => in_ranges.max(*version),
+            None => in_ranges,
+        }
+    }
+
+    // Whether these keys, from `begin` up to `end`, are kept as a key where they get this version. It takes no memory.
+    fn goes_alone(&self, begin: &Key, end: &Key, version: u64) -> bool
+        ensures { MatchBool result (GoesAlone self.now version begin.now end.now) (GoesAsRange self.now version begin.now end.now) }
+    {
+        self.newest <= version && is_after(begin, end)
+    }
+
+    /// Takes the memory that `install` of these ranges at this version needs: one search for a range of one key that is known, two
+    /// for another key, and five at most for any other range. Each key keeps its version, after a refusal too.
+    pub fn reserve(&mut self, ranges: &RangeSet, version: u64) -> Result<(), AllocError>
         ensures same { (key : List ℕ) → newest_at self.new key ≡ newest_at self.old key }
-        ensures room { OnOk result (HasRoom self.new ranges.now) }
+        ensures ready { OnOk result (IsReadyFor self.new version ranges.now) }
     {
         for (begin, end) in ranges.ranges() {
-            split_both(&mut self.versions, begin, end)?;
+            self.make_room(begin, end, version)?;
         }
         Ok(())
     }
 
-    /// Gives the keys of the ranges this version, after room was made for them. It takes no memory, one search for each
-    /// range, and one write for each edge in it.
+    // Makes room for one range.
+    fn make_room(&mut self, begin: &Key, end: &Key, version: u64) -> Result<(), AllocError>
+        ensures same { (key : List ℕ) → newest_at self.new key ≡ newest_at self.old key }
+        ensures kept { KeepsRoom version self.old self.new }
+        ensures room { OnOk result (HasRoomFor self.new version (range_from begin.now end.now)) }
+    {
+        if self.goes_alone(begin, end, version) {
+            return self.add_key(begin);
+        }
+        split_both(&mut self.ranges, begin, end)
+    }
+
+    // Makes a key known, which was declared alone at no version yet.
+    fn add_key(&mut self, key: &Key) -> Result<(), AllocError>
+        ensures same { (key : List ℕ) → newest_at self.new key ≡ newest_at self.old key }
+        ensures kept { Keeps self.old self.new }
+        ensures known { OnOk result (finite.contains_key self.new.keys key.now ≡ true) }
+    {
+        if !self.keys.contains_key(key) {
+            self.keys.insert(key.copy()?, 0)?;
+        }
+        Ok(())
+    }
+
+    /// Gives the keys of the ranges this version, after room was made for them. It takes no memory, one search for each range, and
+    /// one write for each edge in it; where a greater version is known, one step for each key besides.
     pub fn install(&mut self, ranges: RangeSet, version: u64)
-        requires { HasRoom self.old ranges }
+        requires { IsReadyFor self.old version ranges }
         ensures { (key : List ℕ) → newest_at self.new key
             ≡ (if covers ranges key then version else newest_at self.old key) }
     {
+        self.newest = self.newest.max(version);
         for (begin, end) in ranges.ranges() {
-            self.versions.shows_rising();
-            self.versions.change(begin, end, &Written(version));
+            self.give(begin, end, version);
+        }
+    }
+
+    // Gives the keys of one range this version. It takes no memory.
+    fn give(&mut self, begin: &Key, end: &Key, version: u64)
+        requires bounded { version ≤ self.old.newest }
+        requires room { HasRoomFor self.old version (range_from begin.now end.now) }
+        ensures given { (key : List ℕ) → newest_at self.new key
+            ≡ (if within begin.now end.now key then version else newest_at self.old key) }
+        ensures kept { KeepsRoom version self.old self.new }
+        ensures newest { self.new.newest ≡ self.old.newest }
+    {
+        if self.goes_alone(begin, end, version) {
+            self.give_key(begin, end, version);
+        } else {
+            self.give_range(begin, end, version);
+        }
+    }
+
+    // Gives a key that is known this version: the one key from `begin` up to `end`. It takes no memory.
+    fn give_key(&mut self, begin: &Key, end: &Key, version: u64)
+        requires alone { GoesAlone self.old version begin.now end.now }
+        requires bounded { version ≤ self.old.newest }
+        requires known { finite.contains_key self.old.keys begin.now ≡ true }
+        ensures given { (key : List ℕ) → newest_at self.new key
+            ≡ (if within begin.now end.now key then version else newest_at self.old key) }
+        ensures kept { KeepsRoom version self.old self.new }
+        ensures newest { self.new.newest ≡ self.old.newest }
+    {
+        *self.keys.get_mut(begin).unwrap() = version;
+    }
+
+    // Gives the keys between two edges this version. It takes no memory.
+    fn give_range(&mut self, begin: &Key, end: &Key, version: u64)
+        requires bounded { version ≤ self.old.newest }
+        requires edges { (is_edge begin.now self.old.ranges ≡ true) × (is_edge end.now self.old.ranges ≡ true) }
+        ensures given { (key : List ℕ) → newest_at self.new key
+            ≡ (if within begin.now end.now key then version else newest_at self.old key) }
+        ensures kept { KeepsRoom version self.old self.new }
+        ensures newest { self.new.newest ≡ self.old.newest }
+    {
+        self.ranges.shows_rising();
+        self.ranges.change(begin, end, &Written(version));
+        if version < self.newest {
+            self.keys.clear_range(begin, end);
         }
     }
 }

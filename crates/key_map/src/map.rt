@@ -1,6 +1,6 @@
 //! An ordered map from keys to values.
 
-ghost use Rattle.std.specs.Prelude.{◌≡◌, ℕ, List, [], not, None, IfOk, OnOk, OnErr};
+ghost use Rattle.std.specs.Prelude.{◌≡◌, ℕ, List, [], not, None, IsTrue, IfOk, OnOk, OnErr};
 ghost use Rattle.std.specs.Bool.{OnFalse};
 ghost use Rattle.std.specs.Borrow.{sem};
 ghost use Rattle.std.specs.List.{filter};
@@ -119,6 +119,16 @@ impl<V> KeyMap<V> {
             ≡ last (filter (λ e. key_lt e.0 key.now) (finite.entries self.now)) }
     {
         self.tree.range(..key).next_back()
+    }
+
+    /// The pairs with keys from `begin` up to `end`, `end` left out, in the order of their keys, for a loop over them: one search
+    /// for all of them. It takes no memory.
+    pub fn between(&self, begin: &Key, end: &Key) -> Range<'_, Bytes, V>
+        requires { IsTrue (key_lt begin.now end.now) }
+        ensures between { result ≡ filter (λ e. within begin.now end.now e.0) (finite.entries self.now) }
+        ensures rising { IsStrictlySortedBy key_cmp (keys_of (finite.entries self.now)) }
+    {
+        self.tree.range(begin..end)
     }
 
     /// The pairs themselves, in the order of their keys, for a loop that takes them. It takes no memory.

@@ -121,8 +121,14 @@ fn loads_pairs_in_any_order(rt: HostRuntime) -> Result<(), Fail> {
     Ok(())
 }
 
-// Which keys of a, b and c are left where those from a to b are cleared, and whether b has one below it.
-fn neighbours(alloc: Global) -> Result<[bool; 4], AllocError> {
+// Whether there is a key from one to another.
+fn is_any_between(map: &KeyMap<Bytes>, begin: &Key, end: &Key) -> bool {
+    begin.cmp(end).is_lt() && map.between(begin, end).next().is_some()
+}
+
+// Which keys of a, b and c are left where those from a to b are cleared, whether b has one below it, and whether one is left from a
+// to c.
+fn neighbours(alloc: Global) -> Result<[bool; 5], AllocError> {
     let pairs = pairs_of(alloc, &[(b"a", b"1"), (b"b", b"2"), (b"c", b"3")])?;
     let mut map = KeyMap::from_pairs(alloc, pairs)?;
     let (a, b) = (key_of(alloc, b"a")?, key_of(alloc, b"b")?);
@@ -132,12 +138,13 @@ fn neighbours(alloc: Global) -> Result<[bool; 4], AllocError> {
         map.contains_key(&b),
         map.next(&a).is_some(),
         map.prev(&b).is_some(),
+        is_any_between(&map, &a, &key_of(alloc, b"c")?),
     ])
 }
 
 #[test]
 fn finds_neighbours(rt: HostRuntime) -> Result<(), Fail> {
-    assert_eq!(rt; neighbours(rt.alloc())?, [false, true, true, false]);
+    assert_eq!(rt; neighbours(rt.alloc())?, [false, true, true, false, true]);
     Ok(())
 }
 

@@ -10,7 +10,7 @@ use Rattle.database_rules.specs.declared.Phase.{Phase}
 use Rattle.database_rules.specs.declared.Phase.TheVariants as phase
 use Rattle.database_rules.specs.declared.Tried.TheVariants as tried
 use Rattle.database_rules.specs.Transactions.{Transaction, first_failing, phase_code, read_code, late_checks, is_read_only, version_in, version_made, with_version, with_phase}
-use Rattle.edge_map.specs.Edges.{Edges}
+use Rattle.conflict_ranges.specs.Writes.{Index}
 use Rattle.fdb_calls.specs.declared.fault.TrFault.{TrFault}
 use Rattle.fdb_calls.specs.declared.fault.TrFault.TheVariants as fault
 use Rattle.fdb_calls.specs.declared.Reply.{Reply}
@@ -66,14 +66,14 @@ does_in_place (Some code) t after reply = record { commits = refl; lives = refl 
 does_in_place None t after reply = record { commits = refl; lives = refl }
 
 -- a call in place leaves the history as it was
-keeps_in_place : (store : Versions) (index : Edges ℕ) (setting : Setting) (called : Called) → IsInPlace called → Keeps store index setting
+keeps_in_place : (store : Versions) (index : Index) (setting : Setting) (called : Called) → IsInPlace called → Keeps store index setting
     → Keeps store index (grown_by setting called.commits)
 keeps_in_place store index setting called place keeps =
     subst (λ (h : History). Keeps store index (record setting { history = h }))
     (sym (ap (λ commits. setting.history ++ commits) place.commits ∙ append-nil setting.history)) keeps
 
 -- an answer that tells of a result answers the call
-pub told_in_place : {A : Type 0} (replied : A → Reply) (result : Result A TrFault) (answer : Answer) (kept : Kept) (store : Versions) (index : Edges ℕ)
+pub told_in_place : {A : Type 0} (replied : A → Reply) (result : Result A TrFault) (answer : Answer) (kept : Kept) (store : Versions) (index : Index)
     (setting : Setting) (t : Transaction) (called : Called)
     → IsInPlace called → Keeps store index setting → Answered replied result (StandsFor kept) t called → Tells replied result answer
     → Answers answer kept store index setting called
@@ -92,7 +92,7 @@ told_in_place replied (Err (fault.Code code)) answer kept store index setting t 
 told_in_place replied (Err fault.NoMemory) answer kept store index setting t called place keeps answered tells = absurd tells
 
 -- a read or a write in which memory ran out left the transaction and the store as they were
-pub left_standing : {A : Type 0} (replied : A → Reply) (result : Result A TrFault) (kept : Kept) (store : Versions) (index : Edges ℕ) (setting : Setting)
+pub left_standing : {A : Type 0} (replied : A → Reply) (result : Result A TrFault) (kept : Kept) (store : Versions) (index : Index) (setting : Setting)
     (t : Transaction) (called : Called)
     → result ≡ Err fault.NoMemory → Answered replied result (StandsFor kept) t called → Keeps store index setting
     → StandsStill (StandsFor kept) setting t × Keeps store index setting
@@ -115,7 +115,7 @@ left_lacking (Err (fault.Code code)) kept setting t lacks answered = absurd lack
 left_lacking (Err fault.NoMemory) kept setting t lacks answered = inl answered
 
 -- a promise is answered as is said
-pub promise_answered : (result : Result ℕ Code) (answer : Answer) (kept : Kept) (store : Versions) (index : Edges ℕ)
+pub promise_answered : (result : Result ℕ Code) (answer : Answer) (kept : Kept) (store : Versions) (index : Index)
     (setting : Setting) (t : Transaction)
     → StandsFor kept t → Keeps store index setting → Promises result kept → TellsOf result answer
     → Answers answer kept store index setting (versionstamp_called t)
@@ -137,7 +137,7 @@ promise_answered (Err code) answer kept store index setting t stands keeps promi
     })
 
 -- the version that a commit made is answered as is said
-pub version_answered : (answer : Answer) (kept : Kept) (store : Versions) (index : Edges ℕ) (setting : Setting) (t : Transaction)
+pub version_answered : (answer : Answer) (kept : Kept) (store : Versions) (index : Index) (setting : Setting) (t : Transaction)
     → StandsFor kept t → Keeps store index setting → answer.reply ≡ reply.Version (version_made kept.phase) → answer.drew_life ≡ false
     → Answers answer kept store index setting (committed_version_called t)
 version_answered answer kept store index setting t stands keeps replied drew = record {
@@ -148,7 +148,7 @@ version_answered answer kept store index setting t stands keeps replied drew = r
 }
 
 -- the same answer, over a store that keeps its history
-pub answered_on : {A : Type 0} (replied : A → Reply) (result : Result A TrFault) (kept : Kept) (store : Versions) (index : Edges ℕ) (setting : Setting)
+pub answered_on : {A : Type 0} (replied : A → Reply) (result : Result A TrFault) (kept : Kept) (store : Versions) (index : Index) (setting : Setting)
     (t : Transaction) (called : Called)
     → Keeps store index setting → Answered replied result (StandsFor kept) t called
     → Answered replied result (λ t. StandsFor kept t × Keeps store index setting) t called
@@ -194,7 +194,7 @@ named_answered result old new t code made (Some op) key operand same stands writ
 -- ---- commits
 
 -- one that is allowed, and has nothing to write
-pub committed_read_only : (answer : Answer) (kept : Kept) (store : Versions) (index : Edges ℕ) (setting : Setting) (t : Transaction)
+pub committed_read_only : (answer : Answer) (kept : Kept) (store : Versions) (index : Index) (setting : Setting) (t : Transaction)
     → commit_refusal t ≡ None → is_read_only t ≡ true → answer.reply ≡ reply.Done → answer.drew_life ≡ false
     → StandsFor kept (with_phase t (phase.Tried tried.ReadOnly)) → Keeps store index setting
     → Answers answer kept store index setting (commit_called setting t)
@@ -216,7 +216,7 @@ takes_version setting t code takes is =
     ∙ ap (λ (code : Option ℕ). commit_at_version code setting (with_version setting t)) is
 
 -- one that is allowed, and makes a version
-pub committed_version : (answer : Answer) (kept : Kept) (store : Versions) (index : Edges ℕ) (setting : Setting) (t : Transaction)
+pub committed_version : (answer : Answer) (kept : Kept) (store : Versions) (index : Index) (setting : Setting) (t : Transaction)
     → TakesVersion t → conflict_refusal setting t ≡ None → answer.reply ≡ reply.Done → answer.drew_life ≡ false
     → StandsFor kept (with_phase (with_version setting t) (phase.Tried (tried.Version (next_version setting))))
     → Keeps store index (grown_by setting (commit_of (stamp_of (next_version setting)) setting (with_version setting t) ∷ []))
@@ -230,7 +230,7 @@ committed_version answer kept store index setting t takes none replied drew stan
     })
 
 -- one that is refused, before its version is taken or after
-refused_by_phase : (answer : Answer) (kept : Kept) (store : Versions) (index : Edges ℕ) (setting : Setting) (t : Transaction) (code : Code) (now : Phase)
+refused_by_phase : (answer : Answer) (kept : Kept) (store : Versions) (index : Index) (setting : Setting) (t : Transaction) (code : Code) (now : Phase)
     → answer.reply ≡ reply.Fault code → answer.drew_life ≡ false → Keeps store index setting
     → StandsFor kept (commit_refused now code.0 t).transaction → Answers answer kept store index setting (commit_refused now code.0 t)
 refused_by_phase answer kept store index setting t code phase.Active replied drew keeps stands = record {
@@ -252,7 +252,7 @@ refused_by_phase answer kept store index setting t code (phase.Tried outcome) re
   keeps = keeps_in_place store index setting (refuses t code.0) (record { commits = refl; lives = refl }) keeps;
 }
 
-pub commit_refused_early : (answer : Answer) (kept : Kept) (store : Versions) (index : Edges ℕ) (setting : Setting) (t : Transaction) (code : Code)
+pub commit_refused_early : (answer : Answer) (kept : Kept) (store : Versions) (index : Index) (setting : Setting) (t : Transaction) (code : Code)
     → commit_refusal t ≡ Some code.0 → answer.reply ≡ reply.Fault code → answer.drew_life ≡ false
     → StandsFor kept (commit_refused t.phase code.0 t).transaction → Keeps store index setting
     → Answers answer kept store index setting (commit_called setting t)
@@ -260,7 +260,7 @@ commit_refused_early answer kept store index setting t code refused replied drew
     subst (λ (made : Called). Answers answer kept store index setting made) (sym (ap (λ (code : Option ℕ). commit_by code setting t) refused))
     (refused_by_phase answer kept store index setting t code t.phase replied drew keeps stands)
 
-pub commit_refused_late : (answer : Answer) (kept : Kept) (store : Versions) (index : Edges ℕ) (setting : Setting) (t : Transaction) (code : Code)
+pub commit_refused_late : (answer : Answer) (kept : Kept) (store : Versions) (index : Index) (setting : Setting) (t : Transaction) (code : Code)
     → TakesVersion t → conflict_refusal setting t ≡ Some code.0 → answer.reply ≡ reply.Fault code → answer.drew_life ≡ false
     → StandsFor kept (commit_refused t.phase code.0 (with_version setting t)).transaction → Keeps store index setting
     → Answers answer kept store index setting (commit_called setting t)

@@ -8,8 +8,7 @@ use Rattle.database_rules.specs.States.{range_from}
 use Rattle.database_rules.specs.Histories.{History, conflicts}
 use Rattle.database_rules.specs.Newest.{newest_of, IsNewestIn}
 use Rattle.database_rules.proofs.Conflicts.{conflicts-append, conflicts_by_keys, judged_by_newest}
-use Rattle.edge_map.specs.Edges.{Edges}
-use Rattle.conflict_ranges.specs.Writes.{newest_at}
+use Rattle.conflict_ranges.specs.Writes.{newest_at, Index}
 use Rattle.database_rules.specs.declared.Phase.{Phase}
 use Rattle.database_rules.specs.declared.Phase.TheVariants as phase
 use Rattle.database_rules.specs.Transactions.{Transaction, first_failing, commit_code, version_in}
@@ -35,7 +34,7 @@ active_of (phase.Tried outcome) read_only size accepted = absurd cc
 -- ---- conflicts
 
 -- what an index answers of a range is the newest commit that declared a key of it, where the index is that of the history
-pub newest_in : (index : Edges ℕ) (history : History) (begin end : List ℕ) (newest : ℕ)
+pub newest_in : (index : Index) (history : History) (begin end : List ℕ) (newest : ℕ)
     → ((key : List ℕ) → newest_at index key ≡ newest_of history key)
     → ((key : List ℕ) → within begin end key ≡ true → newest_at index key ≤ newest)
     → ((newest ≡ 0) ⊎ ((key : List ℕ) × (within begin end key ≡ true) × (newest_at index key ≡ newest)))
@@ -57,7 +56,7 @@ judged_first history version range left newest is =
     conflicts-append history version (range ∷ []) left ∙ ap (λ b. b || conflicts history version left) (judged_by_newest history version range newest is)
 
 -- the checks of a commit at its version come to the same for what is kept and for each transaction that it stands for
-pub conflict_same : (kept : Kept) (store : Versions) (index : Edges ℕ) (setting : Setting) (t : Transaction) → StandsFor kept t
+pub conflict_same : (kept : Kept) (store : Versions) (index : Index) (setting : Setting) (t : Transaction) → StandsFor kept t
     → Keeps store index setting
     → first_failing ((is_ahead_of kept store, FUTURE_VERSION)
     ∷ (conflicts setting.history (version_of kept store) kept.read_ranges, NOT_COMMITTED) ∷ [])

@@ -10,8 +10,7 @@ use Rattle.version_store.specs.Versions.{Versions, last_of}
 use Rattle.version_store.specs.Versions as versions
 use Rattle.database_rules.specs.States.{covers}
 use Rattle.database_rules.proofs.Newest.{newest_push}
-use Rattle.edge_map.specs.Edges.{Edges}
-use Rattle.conflict_ranges.specs.Writes.{newest_at}
+use Rattle.conflict_ranges.specs.Writes.{newest_at, Index}
 use Rattle.txn_core.specs.Stands.{Keeps}
 
 -- a version above the last has the last map
@@ -19,14 +18,14 @@ at_min : (history : History) (version : ℕ) → at history (min version (last h
 at_min history version = ap (λ h. after_commits h finite.empty) (take_min version history)
 
 -- what the store has at a version, or at the last one, is what the history has at that version
-pub keeps_at : (store : Versions) (index : Edges ℕ) (setting : Setting) (version : ℕ) → Keeps store index setting
+pub keeps_at : (store : Versions) (index : Index) (setting : Setting) (version : ℕ) → Keeps store index setting
     → versions.at store (min version (last_of store)) ≡ at setting.history version
 keeps_at store index setting version keeps =
     keeps.at_is (min version (last_of store)) (omega (arith, keeps.last_is))
     ∙ ap (λ n. at setting.history (min version n)) keeps.last_is ∙ at_min setting.history version
 
 -- a store that reads as before, and an index that judges as before, keep what they kept
-pub keeps_same : (old new : Versions) (index after : Edges ℕ) (setting : Setting) → Keeps old index setting → last_of new ≡ last_of old
+pub keeps_same : (old new : Versions) (index after : Index) (setting : Setting) → Keeps old index setting → last_of new ≡ last_of old
     → ((version : ℕ) → versions.at new version ≡ versions.at old version)
     → ((key : List ℕ) → newest_at after key ≡ newest_at index key) → Keeps new after setting
 keeps_same old new index after setting keeps last_same reads judges = record {
@@ -55,7 +54,7 @@ at_next history commit =
 
 -- a store with one version more, which the mutations of a commit make, and an index where the keys that it declares have this
 -- version, keep the history with that commit
-pub keeps_next : (old new : Versions) (index later : Edges ℕ) (setting : Setting) (commit : Commit) → Keeps old index setting
+pub keeps_next : (old new : Versions) (index later : Index) (setting : Setting) (commit : Commit) → Keeps old index setting
     → last_of new ≡ last_of old + 1
     → ((version : ℕ) → version ≤ last_of old → versions.at new version ≡ versions.at old version)
     → versions.at new (last_of old + 1) ≡ do_all commit.mutations (versions.at old (last_of old))

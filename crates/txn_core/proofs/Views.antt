@@ -13,7 +13,7 @@ use Rattle.database_rules.specs.Histories.{Setting, at}
 use Rattle.database_rules.specs.Transactions.{Transaction, writes_of, version_in, map_below, view, is_ahead, is_hidden, is_read_outside, first_failing, with_version, read_code}
 use Rattle.database_rules.proofs.Ranges.{covers_without, meet_by_keys}
 use Rattle.database_rules.proofs.Deciding.{is_decided, decided_is}
-use Rattle.edge_map.specs.Edges.{Edges}
+use Rattle.conflict_ranges.specs.Writes.{Index}
 use Rattle.fdb_calls.specs.declared.fault.TrFault.{TrFault}
 use Rattle.fdb_calls.specs.declared.fault.TrFault.TheVariants as fault
 use Rattle.fdb_calls.specs.declared.Reply.{Reply}
@@ -34,19 +34,19 @@ unfolding seen
 seen_same kept mutations database same =
     λ i. finite.retain_keys (same_maps kept mutations same database i) (λ key. not (same.unreadable_same key i))
 
-pub version_same : (kept : Kept) (store : Versions) (index : Edges ℕ) (setting : Setting) (t : Transaction) → StandsFor kept t
+pub version_same : (kept : Kept) (store : Versions) (index : Index) (setting : Setting) (t : Transaction) → StandsFor kept t
     → Keeps store index setting → version_of kept store ≡ version_in setting t
 version_same kept store index setting t stands keeps = λ i. unwrap_or (stands.version i) (keeps.last_is i)
 
 -- the code sees what each transaction sees that it stands for
-pub view_same : (kept : Kept) (store : Versions) (index : Edges ℕ) (setting : Setting) (t : Transaction) → StandsFor kept t
+pub view_same : (kept : Kept) (store : Versions) (index : Index) (setting : Setting) (t : Transaction) → StandsFor kept t
     → Keeps store index setting → seen_by kept store ≡ view setting t
 view_same kept store index setting t stands keeps =
     ap (seen kept.mutations)
     (keeps_at store index setting (version_of kept store) keeps ∙ ap (at setting.history) (version_same kept store index setting t stands keeps))
     ∙ seen_same kept.mutations (writes_of t) (at setting.history (version_in setting t)) stands.mutations
 
-pub ahead_same : (kept : Kept) (store : Versions) (index : Edges ℕ) (setting : Setting) (t : Transaction) → StandsFor kept t
+pub ahead_same : (kept : Kept) (store : Versions) (index : Index) (setting : Setting) (t : Transaction) → StandsFor kept t
     → Keeps store index setting → is_ahead_of kept store ≡ is_ahead setting t
 ahead_same kept store index setting t stands keeps =
     λ i. nat_lt (keeps.last_is i) (version_same kept store index setting t stands keeps i)
@@ -113,7 +113,7 @@ refusal_answers shown code number stands t after called is called_is holds =
 
 -- ---- a read that is refused before it is answered
 
-pub admit_answered : {A : Type 0} (B : Type 0) (shown : A → Reply) (why : TrFault) (old new : Kept) (store : Versions) (index : Edges ℕ)
+pub admit_answered : {A : Type 0} (B : Type 0) (shown : A → Reply) (why : TrFault) (old new : Kept) (store : Versions) (index : Index)
     (setting : Setting) (t : Transaction) (lacks snapshot : Bool) (read : Read) (outside : Bool)
     → outside ≡ is_read_outside read → StandsFor old t → Keeps store index setting
     → Admits {A = B} (Err why) old new store outside lacks
@@ -139,7 +139,7 @@ pub record IsAdmitted (old mid : Kept) (store : Versions) (outside lacks : Bool)
   pub same : mid ≡ old
   pub interval_is : ranges ≡ interval read (seen_by old store)
 
-module _ {A : Type 0} (shown : A → Reply) (old mid new : Kept) (store : Versions) (index : Edges ℕ) (setting : Setting) (t : Transaction)
+module _ {A : Type 0} (shown : A → Reply) (old mid new : Kept) (store : Versions) (index : Index) (setting : Setting) (t : Transaction)
     (lacks snapshot : Bool) (read : Read) (outside : Bool) (ranges : List KeyRange) (stands : StandsFor old t) (keeps : Keeps store index setting)
     (admitted : IsAdmitted old mid store outside lacks ranges read) where
   none : read_code t.phase lacks read ≡ None

@@ -7,8 +7,7 @@ use Rattle.database_rules.specs.Histories.{Setting, grown_by, at, last, write_ra
 use Rattle.database_rules.specs.Newest.{newest_of}
 use Rattle.database_rules.specs.States.{covers, state_under, all_filled, unreadable}
 use Rattle.database_rules.specs.Transactions.{Transaction, writes_of, declared_of, is_read_only, with_version}
-use Rattle.edge_map.specs.Edges.{Edges}
-use Rattle.conflict_ranges.specs.Writes.{newest_at}
+use Rattle.conflict_ranges.specs.Writes.{newest_at, Index}
 use Rattle.fdb_calls.specs.Calling.{Called}
 use Rattle.version_store.specs.Versions.{Versions, last_of}
 use Rattle.version_store.specs.Versions as versions
@@ -65,7 +64,7 @@ pub record StandsFor (kept : Kept) (transaction : Transaction) : Type 0 where
   pub phase : kept.phase ≡ transaction.phase
 
 -- a store has the map of a history at each of its versions, and an index has for each key the newest commit that declared it
-pub record Keeps (store : Versions) (index : Edges ℕ) (setting : Setting) : Type 0 where
+pub record Keeps (store : Versions) (index : Index) (setting : Setting) : Type 0 where
   pub last_is : last_of store ≡ last setting.history
   pub at_is : (version : ℕ) → version ≤ last setting.history → versions.at store version ≡ at setting.history version
   pub newest_is : (key : List ℕ) → newest_at index key ≡ newest_of setting.history key
@@ -75,7 +74,7 @@ abbrev pub StandsStill : (Transaction → Type 0) → Setting → Transaction �
 StandsStill stands setting transaction = stands transaction ⊎ stands (with_version setting transaction)
 
 -- a call was answered as is said, and the transaction, the store and the index stand for what it left
-pub record Answers (answer : Answer) (kept : Kept) (store : Versions) (index : Edges ℕ) (setting : Setting) (called : Called) : Type 0 where
+pub record Answers (answer : Answer) (kept : Kept) (store : Versions) (index : Index) (setting : Setting) (called : Called) : Type 0 where
   pub reply : answer.reply ≡ called.reply
   pub lives : (if answer.drew_life then 1 else 0) ≡ called.lives
   pub stands : StandsFor kept called.transaction

@@ -3,7 +3,7 @@
 ghost use Rattle.std.specs.Prelude.{◌≡◌, ◌+◌, ◌^◌, ◌<◌, ℕ, true, IfOk, OnErr};
 ghost use Rattle.database_rules.specs.Histories.{Setting};
 ghost use Rattle.database_rules.specs.Transactions as rules;
-ghost use Rattle.edge_map.specs.Edges.{Edges};
+ghost use Rattle.conflict_ranges.specs.Writes.{Index};
 ghost use Rattle.fdb_calls.specs.Calling.{called, on_error_called, cancel_called, reset, committed_version_called, read_version_called, versionstamp_called};
 ghost use Rattle.version_store.specs.Versions.{Versions, last_of};
 ghost use Rattle.txn_core.specs.Answering.{is_read};
@@ -70,9 +70,9 @@ impl Txn {
     // A call that is a read.
     fn answer_read(&mut self, store: &Store, call: &TxnCall) -> Result<Answer, AllocError>
         requires { is_read call.now ≡ true }
-        ensures ok { IfOk result (λ answer. (t : rules.Transaction) (index : Edges ℕ) (setting : Setting) (life : ℕ) → StandsFor self.old t
+        ensures ok { IfOk result (λ answer. (t : rules.Transaction) (index : Index) (setting : Setting) (life : ℕ) → StandsFor self.old t
             → Keeps store.now index setting → Answers answer self.new store.now index setting (called setting life t call.now)) }
-        ensures err { OnErr result ((t : rules.Transaction) (index : Edges ℕ) (setting : Setting) → StandsFor self.old t
+        ensures err { OnErr result ((t : rules.Transaction) (index : Index) (setting : Setting) → StandsFor self.old t
             → Keeps store.now index setting → StandsStill (StandsFor self.new) setting t) }
     {
         match call {
@@ -107,30 +107,30 @@ impl Txn {
 
     // A version of 64 bits, which no memory can reach, is answered as want of memory.
     fn answer_read_version(&mut self, store: &Store) -> Result<Answer, AllocError>
-        ensures ok { IfOk result (λ answer. (t : rules.Transaction) (index : Edges ℕ) (setting : Setting) → StandsFor self.old t
+        ensures ok { IfOk result (λ answer. (t : rules.Transaction) (index : Index) (setting : Setting) → StandsFor self.old t
             → Keeps store.now index setting → Answers answer self.new store.now index setting (read_version_called setting t)) }
-        ensures err { OnErr result ((t : rules.Transaction) (index : Edges ℕ) (setting : Setting) → StandsFor self.old t
+        ensures err { OnErr result ((t : rules.Transaction) (index : Index) (setting : Setting) → StandsFor self.old t
             → Keeps store.now index setting → StandsStill (StandsFor self.new) setting t) }
     {
         Answer::of_version(self.read_version(store))
     }
 
     fn answer_committed_version(&self) -> Answer
-        ensures { (t : rules.Transaction) (store : Versions) (index : Edges ℕ) (setting : Setting) → StandsFor self.now t
+        ensures { (t : rules.Transaction) (store : Versions) (index : Index) (setting : Setting) → StandsFor self.now t
             → Keeps store index setting → Answers result self.now store index setting (committed_version_called t) }
     {
         Answer::version(self.committed_version())
     }
 
     fn answer_promise(&self) -> Answer
-        ensures { (t : rules.Transaction) (store : Versions) (index : Edges ℕ) (setting : Setting) → StandsFor self.now t
+        ensures { (t : rules.Transaction) (store : Versions) (index : Index) (setting : Setting) → StandsFor self.now t
             → Keeps store index setting → Answers result self.now store index setting (versionstamp_called t) }
     {
         Answer::of_promise(self.promise())
     }
 
     fn answer_error(&mut self, code: Code, life: u64) -> Answer
-        ensures { (t : rules.Transaction) (store : Versions) (index : Edges ℕ) (setting : Setting) → StandsFor self.old t
+        ensures { (t : rules.Transaction) (store : Versions) (index : Index) (setting : Setting) → StandsFor self.old t
             → Keeps store index setting → Answers result self.new store index setting (on_error_called life t code) }
     {
         match self.on_error(code, life) {
@@ -140,7 +140,7 @@ impl Txn {
     }
 
     fn answer_reset(&mut self, life: u64) -> Answer
-        ensures { (store : Versions) (index : Edges ℕ) (setting : Setting) → Keeps store index setting
+        ensures { (store : Versions) (index : Index) (setting : Setting) → Keeps store index setting
             → Answers result self.new store index setting (reset life) }
     {
         self.reset(life);
@@ -148,7 +148,7 @@ impl Txn {
     }
 
     fn answer_cancel(&mut self) -> Answer
-        ensures { (t : rules.Transaction) (store : Versions) (index : Edges ℕ) (setting : Setting) → StandsFor self.old t
+        ensures { (t : rules.Transaction) (store : Versions) (index : Index) (setting : Setting) → StandsFor self.old t
             → Keeps store index setting → Answers result self.new store index setting (cancel_called t) }
     {
         self.cancel();

@@ -5,7 +5,7 @@ ghost use Rattle.database_rules.specs.declared.Phase.TheVariants as phase;
 ghost use Rattle.database_rules.specs.declared.Tried.TheVariants as tried;
 ghost use Rattle.database_rules.specs.Histories.{Setting, conflicts, grown_by, stamp_of};
 ghost use Rattle.database_rules.specs.Transactions as rules;
-ghost use Rattle.edge_map.specs.Edges.{Edges};
+ghost use Rattle.conflict_ranges.specs.Writes.{Index};
 ghost use Rattle.fdb_calls.specs.declared.fault.TrFault.TheVariants as fault;
 ghost use Rattle.fdb_calls.specs.Calling.{commit_of, commit_refused, commit_called, next_version};
 ghost use Rattle.version_store.specs.Versions.{Versions, last_of};
@@ -106,14 +106,15 @@ impl Txn {
         ensures err { OnErr result ((setting : Setting) (t : rules.Transaction) → StandsFor self.old t → Keeps store.old index.old setting
             → StandsFor self.new t × Keeps store.new index.new setting) }
     {
-        let stamp = stamp_of(store.last() + 1);
+        let version = store.last() + 1;
+        let stamp = stamp_of(version);
         let changes = self.changes(store, &stamp)?;
         let declared = self.declared_by(&stamp)?;
         store.reserve(&changes)?;
-        index.reserve(&declared)?;
+        index.reserve(&declared, version)?;
         store.install(changes);
-        index.install(declared, store.last());
-        self.tried(Tried::Version(store.last()));
+        index.install(declared, version);
+        self.tried(Tried::Version(version));
         Ok(())
     }
 
@@ -144,7 +145,7 @@ impl Txn {
 
     // A commit that a check refuses. It takes no memory.
     fn answer_refusal(&mut self, code: Code) -> Answer
-        ensures { (t : rules.Transaction) (store : Versions) (index : Edges ℕ) (setting : Setting)
+        ensures { (t : rules.Transaction) (store : Versions) (index : Index) (setting : Setting)
             → Judged (Err (fault.Code code)) (StandsFor self.old) setting t
             → Keeps store index setting → Answers result self.new store index setting (commit_called setting t) }
     {

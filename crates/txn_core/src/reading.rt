@@ -10,7 +10,7 @@ ghost use Rattle.database_rules.specs.Selecting.{select};
 ghost use Rattle.database_rules.specs.Slices.{slice};
 ghost use Rattle.version_store.specs.Versions.{at, last_of};
 ghost use Rattle.txn_core.specs.Accesses.{Admits, Reads, seen_by, version_of};
-ghost use Rattle.edge_map.specs.Edges.{Edges};
+ghost use Rattle.conflict_ranges.specs.Writes.{Index};
 ghost use Rattle.txn_core.specs.Stands.{Keeps};
 
 use crate::codes::{is_end_outside, read_code};
@@ -125,7 +125,7 @@ impl Txn {
         key: &Key,
         snapshot: bool,
     ) -> Result<Option<Bytes>, TrFault>
-        ensures { (index : Edges ℕ) (setting : Setting) → Keeps store.now index setting
+        ensures { (index : Index) (setting : Setting) → Keeps store.now index setting
             → Reads read.ValueIs result self.old self.new setting false snapshot (read.Get key.now) }
     {
         self.admit(store, !is_below(key.as_slice(), &[0xff]), false)?;
@@ -142,7 +142,7 @@ impl Txn {
         selector: &Selector,
         snapshot: bool,
     ) -> Result<Key, TrFault>
-        ensures { (index : Edges ℕ) (setting : Setting) → Keeps store.now index setting
+        ensures { (index : Index) (setting : Setting) → Keeps store.now index setting
             → Reads read.KeyIs result self.old self.new setting false snapshot (read.GetKey selector.now) }
     {
         self.admit(store, is_end_outside(selector.key.as_slice()), false)?;
@@ -160,7 +160,7 @@ impl Txn {
         manner: Manner,
         snapshot: bool,
     ) -> Result<Pairs, TrFault>
-        ensures { (index : Edges ℕ) (setting : Setting) → Keeps store.now index setting
+        ensures { (index : Index) (setting : Setting) → Keeps store.now index setting
             → Reads read.PairsAre result self.old self.new setting (lacks_limit manner.mode manner.limit) snapshot
             (read.GetKeyRange range.now.begin range.now.end manner.limit manner.reverse) }
     {
@@ -182,7 +182,7 @@ impl Txn {
         manner: Manner,
         snapshot: bool,
     ) -> Result<Pairs, TrFault>
-        ensures { (index : Edges ℕ) (setting : Setting) → Keeps store.now index setting
+        ensures { (index : Index) (setting : Setting) → Keeps store.now index setting
             → Reads read.PairsAre result self.old self.new setting (lacks_limit manner.mode manner.limit) snapshot
             (read.GetRange begin.now end.now manner.limit manner.reverse) }
     {

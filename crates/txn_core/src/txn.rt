@@ -3,7 +3,7 @@
 ghost use Rattle.std.specs.Prelude.{◌≡◌, ℕ};
 ghost use Rattle.database_rules.specs.Histories.{Setting};
 ghost use Rattle.database_rules.specs.Transactions as rules;
-ghost use Rattle.edge_map.specs.Edges.{Edges};
+ghost use Rattle.conflict_ranges.specs.Writes.{Index};
 
 use conflict_ranges::RangeSet;
 use database_rules::Phase;
@@ -71,7 +71,7 @@ impl Txn {
 
     /// A transaction of a new life at the last version of a store, for a call of its own. It takes no memory.
     pub fn at_last(alloc: Global, life: u64, store: &Store) -> Txn
-        ensures { (index : Edges ℕ) (setting : Setting) → Keeps store.now index setting
+        ensures { (index : Index) (setting : Setting) → Keeps store.now index setting
             → StandsFor result (rules.with_version setting (rules.fresh life)) }
     {
         let version = Some(store.last());

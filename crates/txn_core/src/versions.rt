@@ -3,7 +3,7 @@
 ghost use Rattle.std.specs.Prelude.{◌≡◌, ℕ, pos};
 ghost use Rattle.database_rules.specs.Histories.{Setting};
 ghost use Rattle.database_rules.specs.Transactions as rules;
-ghost use Rattle.edge_map.specs.Edges.{Edges};
+ghost use Rattle.conflict_ranges.specs.Writes.{Index};
 ghost use Rattle.fdb_calls.specs.declared.Reply.TheVariants as reply;
 ghost use Rattle.fdb_calls.specs.Outcomes.{outcome_of};
 ghost use Rattle.fdb_calls.specs.Calling.{read_version_called, set_read_version_called};
@@ -22,7 +22,7 @@ impl Txn {
     // Takes the read version, and answers it, also where it is above the last one. It takes no memory.
     #[tactic(auto, unfolding(database_rules::specs::Transactions::phase_code))]
     pub(crate) fn read_version(&mut self, store: &Store) -> Result<u64, TrFault>
-        ensures { (index : Edges ℕ) (setting : Setting) → Keeps store.now index setting
+        ensures { (index : Index) (setting : Setting) → Keeps store.now index setting
             → Calls (λ version. reply.Version (pos version)) result self.old self.new (read_version_called setting) }
     {
         if let Some(code) = phase_code(self.phase) {

@@ -1,21 +1,38 @@
-use Rattle.std.proofs.Common.{cond, sym, ap, subst, ◌∙◌}
+use Rattle.std.proofs.Common.{◌≤◌, arith, cond, sym, ap, subst, ◌∙◌}
 use Rattle.database_rules.specs.States.{covers}
-use Rattle.edge_map.specs.Edges.{held}
-use Rattle.conflict_ranges.specs.Ends.{HasRoom}
 use Rattle.conflict_ranges.specs.Segments.{range_between}
-use Rattle.conflict_ranges.proofs.Splits.{put_first, room_given}
+use Rattle.conflict_ranges.specs.Writes.{newest_at, Index, IsReadyFor}
+use Rattle.conflict_ranges.proofs.Rooms.{given_first, ready_kept, ready_raised}
 use Rattle.conflict_ranges.proofs.write_index.WriteIndex.install.Goals as goal
+
+pub loop-begin-init : goal.loop-begin-init
+loop-begin-init c =
+    let version = c.args.version in let ranges = c.args.ranges in let inside = c.self.inside in
+    let newest = c.max-self-inside.result in
+    let items = c.into_iter-begin-iterator.ensures.into_iter_gives ∙ c.ranges-begin-items.ensures in
+    let asked = subst (λ (old : Index). IsReadyFor old version ranges) (sym c.self.view_is) c.requires in
+    let now : Index = record { keys = inside.keys; ranges = inside.ranges; newest = newest } in
+    record {
+      newest = let is = c.max-self-inside.ensures in omega (arith, is);
+      ready = subst (IsReadyFor now version) (sym items)
+          (subst (λ newest. IsReadyFor (record { keys = inside.keys; ranges = inside.ranges; newest = newest }) version ranges)
+          (sym c.max-self-inside.ensures) (ready_raised version ranges _ asked));
+      given = λ key.
+          ap (λ items. cond (covers items key) version (newest_at now key)) items
+          ∙ ap (λ (old : Index). cond (covers ranges key) version (newest_at old key)) c.self.view_is;
+    }
 
 pub loop-begin-preserved : goal.loop-begin-preserved
 loop-begin-preserved c =
     let range = range_between (c.in-Some.begin, c.in-Some.end) in let left = c.next.new.self in let version = c.args.version in
-    let now = c.loop-begin.self-inside.versions in let new = c.change.new.self in
+    let now = c.loop-begin.self in let new = c.give.new.self in
     let steps = (c.in-Some.ensures {u = tt}).steps in
-    let room = subst (HasRoom now) steps c.loop-begin.invariant.room in
+    let ready = subst (IsReadyFor now version) steps c.loop-begin.invariant.ready in
     record {
-      room = room_given _ version now new left c.change.ensures room.2;
-      put = λ key.
-          put_first range left version now new c.shows_rising.ensures room c.change.ensures key
-          ∙ ap (λ left. cond (covers left key) version (held now key)) (sym steps)
-          ∙ c.loop-begin.invariant.put key;
+      newest = subst (λ newest. version ≤ newest) (sym c.give.ensures.newest) c.loop-begin.invariant.newest;
+      ready = ready_kept version left now new c.give.ensures.kept ready.1;
+      given = λ key.
+          given_first range left version now new c.give.ensures.given key
+          ∙ ap (λ left. cond (covers left key) version (newest_at now key)) (sym steps)
+          ∙ c.loop-begin.invariant.given key;
     }

@@ -1,14 +1,8 @@
-use Rattle.std.proofs.Common.{◌≡◌, ◌≤◌, ℕ, inr, true, is_lt, sym, ap, subst, ◌∙◌, true≢false}
-use Rattle.std.specs.List.{filter}
-use Rattle.key_bytes.specs.Keys.{key_lt, within}
-use Rattle.database_rules.specs.States.{range_from}
-use Rattle.edge_map.specs.Edges.{Edges, held}
+use Rattle.std.proofs.Common.{is_lt, true≢false, sym, ap, subst, ◌∙◌}
 use Rattle.edge_map.proofs.Edged.{within_backward}
-use Rattle.edge_map.proofs.Held.{IsRising}
-use Rattle.conflict_ranges.proofs.Greatest.{greatest, newest_above, newest_reached}
-use Rattle.conflict_ranges.proofs.Walks.{IsReached}
+use Rattle.conflict_ranges.specs.Writes.{Index}
+use Rattle.conflict_ranges.proofs.Versions.{above_one, reached_one, above_both, reached_both, IsAboveAll, IsReached}
 use Rattle.conflict_ranges.proofs.write_index.WriteIndex.newest_between.Goals as goal
-use Rattle.conflict_ranges.proofs.write_index.WriteIndex.newest_between.Goals.{In-None}
 
 pub returns-then-not-is_lt-clause-above : goal.returns-then-not-is_lt-clause-above
 returns-then-not-is_lt-clause-above c key is_in =
@@ -16,21 +10,24 @@ returns-then-not-is_lt-clause-above c key is_in =
     ∙ within_backward c.args.begin.now c.args.end.now key
     (sym (ap is_lt c.cmp.ensures) ∙ sym c.is_lt.ensures ∙ c.if-not-is_lt.true)))
 
--- once no edge is left, the newest version is the greatest
-newest_is : (c : In-None) → c.loop-version.newest
-    ≡ greatest (held c.args.self.now c.args.begin.now) (filter (λ e. within c.args.begin.now c.args.end.now e.0) c.args.self.now.entries)
-newest_is c = sym (ap (greatest c.loop-version.newest) (c.in-None.ensures {u = tt}).steps.0) ∙ c.loop-version.invariant
+pub returns-then-is_after-clause-above : goal.returns-then-is_after-clause-above
+returns-then-is_after-clause-above c =
+    above_one c.args.begin.now c.args.end.now c.args.self.now c.newest_of.result (c.if-is_after.ensures {u = tt}) c.newest_of.ensures
 
-rising : (c : In-None) → IsRising c.args.self.now.entries
-rising c = subst (λ (edges : Edges ℕ). IsRising edges.entries) c.self.view_is c.shows_rising.ensures
+pub returns-then-is_after-clause-reached : goal.returns-then-is_after-clause-reached
+returns-then-is_after-clause-reached c =
+    reached_one c.args.begin.now c.args.end.now c.args.self.now c.newest_of.result (c.if-is_after.ensures {u = tt}) c.newest_of.ensures
 
 pub returns-clause-above : goal.returns-clause-above
-returns-clause-above c key is_in =
-    subst (λ newest. held c.args.self.now key ≤ newest) (sym (newest_is c))
-    (newest_above c.args.begin.now c.args.end.now c.args.self.now (rising c) key is_in)
+returns-clause-above c =
+    subst (λ (index : Index). IsAboveAll c.args.begin.now c.args.end.now index c.max.result) c.self.view_is
+    (above_both c.args.begin.now c.args.end.now (record { keys = c.self.inside.keys; ranges = c.self.inside.ranges; newest = c.self.inside.newest })
+    c.max.result c.newest_of_ranges.result c.newest_of_keys.result c.max.ensures
+    c.newest_of_ranges.ensures.above c.newest_of_keys.ensures.above)
 
 pub returns-clause-reached : goal.returns-clause-reached
 returns-clause-reached c =
-    let some : key_lt c.args.begin.now c.args.end.now ≡ true = sym (ap is_lt c.cmp.ensures) ∙ sym c.is_lt.ensures ∙ c.if-not-is_lt.false in
-    inr (subst (IsReached (range_from c.args.begin.now c.args.end.now) c.args.self.now) (sym (newest_is c))
-    (newest_reached c.args.begin.now c.args.end.now c.args.self.now (rising c) some))
+    subst (λ (index : Index). IsReached c.args.begin.now c.args.end.now index c.max.result) c.self.view_is
+    (reached_both c.args.begin.now c.args.end.now (record { keys = c.self.inside.keys; ranges = c.self.inside.ranges; newest = c.self.inside.newest })
+    c.max.result c.newest_of_ranges.result c.newest_of_keys.result c.max.ensures
+    c.newest_of_ranges.ensures.above c.newest_of_keys.ensures.above c.newest_of_ranges.ensures.reached c.newest_of_keys.ensures.reached)

@@ -22,10 +22,10 @@ returns-clause-ok c setting t stands keeps =
     let reserved = c.in_ok-reserve.ensures {u = tt} in
     let same = keeps_same store c.reserve.new.self index c.reserve-2.new.self setting keeps reserved.last reserved.reads
     (c.in_ok-reserve-2.ensures {u = tt}).same in
-    let stamp = c.stamp_of-stamp.ensures ∙ ap (λ n. stamp_of (n + 1)) (c.last.ensures ∙ keeps.last_is) in
+    let stamp = c.stamp_of-stamp.ensures ∙ ap (λ n. stamp_of (n + 1)) (c.last-version.ensures ∙ keeps.last_is) in
     let ten : length (stamp_of (next_version setting)) ≡ 10 = stamp_length (next_version setting) in
-    let version = c.last-3.ensures ∙ c.install.ensures.last ∙ ap (λ n. n + 1) same.last_is in
-    let made = c.last-2.ensures ∙ c.install.ensures.last in
+    let version = ap (λ n. n + 1) (c.last-version.ensures ∙ keeps.last_is) in
+    let made = ap (λ n. n + 1) (c.last-version.ensures ∙ sym reserved.last) in
     let base = reserved.reads (last_of c.reserve.new.self) ∙ ap (at store) reserved.last in (
       subst (λ v. StandsFor c.tried.new.self (with_phase t (phase.Tried (tried.Version v)))) version (c.tried.ensures t stands),
       keeps_next c.reserve.new.self c.install.new.self c.reserve-2.new.self c.install-2.new.self setting

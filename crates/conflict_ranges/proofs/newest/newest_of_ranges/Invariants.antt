@@ -3,10 +3,10 @@ use Rattle.std.specs.List.{filter}
 use Rattle.key_bytes.specs.Keys.{within}
 use Rattle.edge_map.specs.Edges.{held}
 use Rattle.conflict_ranges.proofs.Greatest.{greatest}
-use Rattle.conflict_ranges.proofs.write_index.WriteIndex.newest_between.Given as goal
+use Rattle.conflict_ranges.proofs.newest.newest_of_ranges.Given as goal
 
 -- what the edges that are left have, with the newest version so far, is what the begin and all edges have
 abbrev pub invariant-loop-version : goal.invariant-loop-version
 invariant-loop-version l =
     greatest l.newest l.version-iterator
-    ≡ greatest (held l.self l.begin) (filter (λ e. within l.begin l.end e.0) l.self.entries)
+    ≡ greatest (held l.ranges l.begin) (filter (λ e. within l.begin l.end e.0) l.ranges.entries)

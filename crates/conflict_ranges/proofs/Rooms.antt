@@ -1,0 +1,63 @@
+-- Room for the ranges of a commit: what keeps it, and ranges that are given their version one by one.
+use Rattle.std.proofs.Common.{◌≡◌, ◌≤◌, ◌<◌, ◌⊎◌, inl, inr, ℕ, max, arith, Bool, true, false, cond, ◌||◌, List, [], ◌∷◌, refl, sym, ap, ◌∙◌}
+use Rattle.key_bytes.specs.declared.range.KeyRange.{KeyRange}
+use Rattle.key_bytes.specs.Keys.{within}
+use Rattle.key_bytes.specs.Ranges.{has}
+use Rattle.database_rules.specs.States.{covers}
+use Rattle.conflict_ranges.specs.Writes.{newest_at, Index, Keeps, KeepsRoom, GoesAlone, GoesAsRange, HasRoomFor, IsReadyFor}
+
+pub room_kept : (version : ℕ) (range : KeyRange) (old new : Index) → Keeps old new → HasRoomFor old version range → HasRoomFor new version range
+room_kept version range old new kept room = record {
+  alone = λ goes. let newest = kept.newest in let below = goes.1 in kept.keys range.begin (room.alone (goes.0, omega (arith, newest, below)));
+  as_range = λ goes. let edges = room.as_range (still goes) in (kept.edges range.begin edges.0, kept.edges range.end edges.1);
+}
+  where
+    still : GoesAsRange new version range.begin range.end → GoesAsRange old version range.begin range.end
+    still (inl longer) = inl longer
+    still (inr above) = let newest = kept.newest in inr (omega (arith, newest, above))
+
+pub ready_kept : (version : ℕ) (ranges : List KeyRange) (old new : Index) → KeepsRoom version old new → IsReadyFor old version ranges
+    → IsReadyFor new version ranges
+ready_kept version [] old new kept ready = tt
+ready_kept version (range ∷ ranges) old new kept ready = (kept range ready.0, ready_kept version ranges old new kept ready.1)
+
+-- with room for the ranges that are left, whatever keeps the room that this index has has room for all
+abbrev pub GivesRoom : Index → ℕ → (left all : List KeyRange) → Type 0
+GivesRoom index version left all = (more : Index) → KeepsRoom version index more → IsReadyFor more version left → IsReadyFor more version all
+
+pub gives_room : (version : ℕ) (range : KeyRange) (left all : List KeyRange) (old new : Index) → KeepsRoom version old new → HasRoomFor new version range
+    → GivesRoom old version (range ∷ left) all → GivesRoom new version left all
+gives_room version range left all old new kept room gives more later ready =
+    gives more (λ range had. later range (kept range had)) (later range room, ready)
+
+-- the newest version, once this one is among them
+abbrev pub with_version : ℕ → Index → Index
+with_version version index = record index { newest = max index.newest version }
+
+room_raised : (version : ℕ) (range : KeyRange) (index : Index) → HasRoomFor index version range → HasRoomFor (with_version version index) version range
+room_raised version range index room = record {
+  alone = λ goes. let below = goes.1 in room.alone (goes.0, omega (arith, below));
+  as_range = λ goes. room.as_range (still goes);
+}
+  where
+    still : GoesAsRange (with_version version index) version range.begin range.end → GoesAsRange index version range.begin range.end
+    still (inl longer) = inl longer
+    still (inr above) = inr (omega (arith, above))
+
+pub ready_raised : (version : ℕ) (ranges : List KeyRange) (index : Index) → IsReadyFor index version ranges
+    → IsReadyFor (with_version version index) version ranges
+ready_raised version [] index ready = tt
+ready_raised version (range ∷ ranges) index ready = (room_raised version range index ready.0, ready_raised version ranges index ready.1)
+
+-- the first range of those that are left is given its version
+pub given_first : (range : KeyRange) (left : List KeyRange) (version : ℕ) (old new : Index)
+    → ((key : List ℕ) → newest_at new key ≡ cond (within range.begin range.end key) version (newest_at old key))
+    → (key : List ℕ) → cond (covers left key) version (newest_at new key) ≡ cond (covers (range ∷ left) key) version (newest_at old key)
+given_first range left version old new given key =
+    ap (cond (covers left key) version) (given key) ∙ either (covers left key) (has range key)
+  where
+    either : (s t : Bool) → cond s version (cond t version (newest_at old key)) ≡ cond (t || s) version (newest_at old key)
+    either true true = refl
+    either true false = refl
+    either false true = refl
+    either false false = refl
