@@ -1,7 +1,10 @@
 pub mod Around
 pub mod Edged
+pub mod Filled
 pub mod FirstTwo
 pub mod Held
+pub mod Lined
 pub mod Neighbours
 pub mod Placed
+pub mod Searched
 pub mod Spans

@@ -37,16 +37,16 @@ last_cons : {X Y : Type 0} (f : X → Y) (x : X) (xs : List X) (d : Y)
 last_cons f x [] d = refl
 last_cons f x (y ∷ xs) d = last_default f y xs d (f x)
 
-first-keys_of : {X : Type 0} (es : List (List ℕ × X)) → option_map (λ e. e.0) (first es) ≡ first (keys_of es)
+pub first-keys_of : {X : Type 0} (es : List (List ℕ × X)) → option_map (λ e. e.0) (first es) ≡ first (keys_of es)
 first-keys_of [] = refl
 first-keys_of (e ∷ es) = refl
 
-last-keys_of : {X : Type 0} (es : List (List ℕ × X)) → option_map (λ e. e.0) (last es) ≡ last (keys_of es)
+pub last-keys_of : {X : Type 0} (es : List (List ℕ × X)) → option_map (λ e. e.0) (last es) ≡ last (keys_of es)
 last-keys_of [] = refl
 last-keys_of (e ∷ []) = refl
 last-keys_of (e ∷ d ∷ es) = last-keys_of (d ∷ es)
 
-keys_of-filter : {X : Type 0} (p : List ℕ → Bool) (es : List (List ℕ × X)) → keys_of (filter (λ e. p e.0) es) ≡ filter p (keys_of es)
+pub keys_of-filter : {X : Type 0} (p : List ℕ → Bool) (es : List (List ℕ × X)) → keys_of (filter (λ e. p e.0) es) ≡ filter p (keys_of es)
 keys_of-filter p [] = refl
 keys_of-filter p (e ∷ es) = elim (p e.0) as (λ t. keys_of (cond t (e ∷ filter (λ e. p e.0) es) (filter (λ e. p e.0) es))
     ≡ cond t (e.0 ∷ filter p (keys_of es)) (filter p (keys_of es))) [
@@ -209,13 +209,13 @@ found_inside p len es span rest e between ends inside =
     inside_append len rest e (subst (AreInside len) (sym between ∙ ends) (inside_filter p len es inside))
 
 -- the edges of a part rise
-pub rising_filter : (p : List ℕ → Bool) (es : Places) → IsRising es → IsRising (filter (λ e. p e.0) es)
+pub rising_filter : {X : Type 0} (p : List ℕ → Bool) (es : List (List ℕ × X)) → IsRising es → IsRising (filter (λ e. p e.0) es)
 rising_filter p es rising =
     subst (IsStrictlySortedBy key_cmp) (sym (keys_of-filter p es)) (IsStrictlySortedBy-filter key_cmp p (keys_of es) rising)
 
 -- ---- the places from a key on, up to an end
 
-filter_both : (p q : List ℕ × ℕ → Bool) (es : Places) → filter p (filter q es) ≡ filter (λ e. q e && p e) es
+pub filter_both : {X : Type 0} (p q : X → Bool) (es : List X) → filter p (filter q es) ≡ filter (λ e. q e && p e) es
 filter_both p q [] = refl
 filter_both p q (e ∷ es) = elim (q e)
     as (λ t. filter p (cond t (e ∷ filter q es) (filter q es)) ≡ cond (t && p e) (e ∷ filter (λ e. q e && p e) es) (filter (λ e. q e && p e) es)) [

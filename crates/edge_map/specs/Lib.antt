@@ -1,3 +1,5 @@
 pub mod Edges
 pub mod FirstTwo
+pub mod Halves
+pub mod Left
 pub mod Places

@@ -1,6 +1,6 @@
 //! A map of edges.
 
-ghost use Rattle.std.specs.Prelude.{◌≡◌, true, false, not, [], IsTrue, MatchOption, IfOk, OnOk, OnErr};
+ghost use Rattle.std.specs.Prelude.{◌≡◌, not, [], IsTrue, IfOk, OnOk, OnErr};
 ghost use Rattle.std.specs.BTreeMap.{is_at};
 ghost use Rattle.std.specs.List.{filter};
 ghost use Rattle.std.specs.List.Sorted.{IsStrictlySortedBy};
@@ -10,48 +10,40 @@ ghost use Rattle.key_map.specs.Ends.{first, last};
 
 use crate::change::Change;
 use crate::edges_left::EdgesLeft;
-use crate::levels::{change_between, pop_last};
+use crate::row::Row;
 use crate::spread::Spread;
-use key_bytes::{Bytes, Key};
+use crate::tree::Tree;
+use key_bytes::Key;
 use std::alloc::{AllocError, Global};
-use std::collections::BTreeMap;
 use std::marker::Model;
-use std::mem;
-use std::ops::Bound;
+
+// So many edges lie in a row at most.
+const FEW: usize = 16;
 
 /// Edges over the keys: each has what all keys from it up to the next edge have. Contracts see the edges in the order of
 /// keys, each with what it has, and what the keys below the first edge have.
+// A few edges lie in a row, and more, or those that are left of more, in the tree: while one has edges the other has none. The
+// tree has too what the keys below the first edge have.
 #[derive(Drop)]
 pub struct EdgeMap<T> {
-    base: T,
-    places: BTreeMap<Bytes, usize>,
-    levels: Vec<T>,
+    row: Row<T>,
+    tree: Tree<T>,
 }
 
 impl<T> Model for EdgeMap<T> {
-    ghost use Rattle.std.specs.Prelude.{length, refl, ℕ, List};
+    ghost use Rattle.std.specs.Prelude.{refl, ℕ, List};
     ghost use Rattle.std.specs.Coded.{coded×, coded_list, coded_ℕ, code_by};
     ghost use Rattle.edge_map.specs.Edges.{Edges};
-    ghost use Rattle.edge_map.specs.Places.{laid_out, HasPlaces};
+    ghost use Rattle.edge_map.specs.Halves.{either, IsOneOf};
 
     ghost Value = { Edges T };
 
     ghost coded = { code_by (T × List (List ℕ × T)) (coded× T.code (coded_list (coded× (coded_list coded_ℕ) T.code)))
         (λ edges. (edges.base, edges.entries)) (λ pair. record { base = pair.0; entries = pair.1 }) (λ _. refl) };
 
-    ghost view = { λ map. record { base = map.base; entries = laid_out map.base map.levels.items map.places.entries } };
+    ghost view = { λ map. record { base = map.tree.base; entries = either map.row map.tree.entries } };
 
-    ghost invariant = { λ map. HasPlaces (length map.levels.items) map.places.entries };
-}
-
-// The edge of a place.
-fn edge_of<'a>(found: Option<(&'a Bytes, &'a usize)>) -> Option<&'a Key>
-    ensures { option_map (λ edge. edge.now) result ≡ option_map (λ pair. pair.0.now) found.entry }
-{
-    match found {
-        Some((edge, _)) => Some(edge),
-        None => None,
-    }
+    ghost invariant = { λ map. IsOneOf map.row map.tree.entries };
 }
 
 impl<T> EdgeMap<T> {
@@ -63,9 +55,8 @@ impl<T> EdgeMap<T> {
         ensures { result ≡ record { base = base; entries = [] } }
     {
         EdgeMap {
-            base,
-            places: BTreeMap::new(alloc),
-            levels: Vec::new(alloc),
+            row: Row::new(alloc),
+            tree: Tree::new(alloc, base),
         }
     }
 
@@ -73,17 +64,20 @@ impl<T> EdgeMap<T> {
     pub fn at(&self, key: &Key) -> &T
         ensures { result.now ≡ held self.now key.now }
     {
-        match self.places.range(..=key).next_back() {
-            Some((_, place)) => &self.levels[*place],
-            None => &self.base,
+        if self.row.is_empty() {
+            return self.tree.at(key);
         }
+        self.row.at(self.tree.base(), key)
     }
 
     /// Whether a key is an edge. It takes no memory.
     pub fn has_edge(&self, key: &Key) -> bool
         ensures { result ≡ is_edge key.now self.now }
     {
-        self.places.contains_key(key)
+        if self.row.is_empty() {
+            return self.tree.has_edge(key);
+        }
+        self.row.has_edge(key)
     }
 
     /// Whether `begin` is an edge and `end` is the next one: that the first two edges from `begin` on are these two. One search
@@ -91,17 +85,10 @@ impl<T> EdgeMap<T> {
     pub fn has_neighbours(&self, begin: &Key, end: &Key) -> bool
         ensures { result ≡ are_first_two begin.now end.now (filter (λ e. key_le begin.now e.0) self.now.entries) }
     {
-        let mut span = self.places.range(begin..);
-        let Some((edge, _)) = span.next() else {
-            return false;
-        };
-        if edge != begin {
-            return false;
+        if self.row.is_empty() {
+            return self.tree.has_neighbours(begin, end);
         }
-        match span.next() {
-            Some((next, _)) => next == end,
-            None => false,
-        }
+        self.row.has_neighbours(begin, end)
     }
 
     /// The first edge above a key, if there is one. It takes no memory.
@@ -109,11 +96,10 @@ impl<T> EdgeMap<T> {
         ensures { option_map (λ edge. edge.now) result
             ≡ first (filter (key_lt key.now) (edges_of self.now)) }
     {
-        let above = (Bound::Excluded(key), Bound::Unbounded);
-        match self.places.range(above).next() {
-            Some((edge, _)) => Some(edge),
-            None => None,
+        if self.row.is_empty() {
+            return self.tree.next(key);
         }
+        self.row.next(key)
     }
 
     /// The last edge below a key, if there is one. It takes no memory.
@@ -121,10 +107,10 @@ impl<T> EdgeMap<T> {
         ensures { option_map (λ edge. edge.now) result
             ≡ last (filter (λ edge. key_lt edge key.now) (edges_of self.now)) }
     {
-        match self.places.range(..key).next_back() {
-            Some((edge, _)) => Some(edge),
-            None => None,
+        if self.row.is_empty() {
+            return self.tree.prev(key);
         }
+        self.row.prev(key)
     }
 
     /// What a key has, and the first edge above it, if there is one: one search of the edges where the key is an edge itself,
@@ -134,15 +120,10 @@ impl<T> EdgeMap<T> {
         ensures next { option_map (λ edge. edge.now) result.1
             ≡ first (filter (key_lt key.now) (edges_of self.now)) }
     {
-        let mut span = self.places.range(key..);
-        let Some((edge, place)) = span.next() else {
-            return (self.at(key), None);
-        };
-        if edge == key {
-            (&self.levels[*place], edge_of(span.next()))
-        } else {
-            (self.at(key), Some(edge))
+        if self.row.is_empty() {
+            return self.tree.around(key);
         }
+        self.row.around(self.tree.base(), key)
     }
 
     /// The edges from `begin` on that are less than `end`, each with what it has, in the order of keys, for a loop over them:
@@ -151,7 +132,10 @@ impl<T> EdgeMap<T> {
         requires { IsTrue (key_lt begin.now end.now) }
         ensures { result ≡ filter (λ e. within begin.now end.now e.0) self.now.entries }
     {
-        EdgesLeft::new(&self.base, &self.levels, self.places.range(begin..end))
+        if self.row.is_empty() {
+            return EdgesLeft::in_tree(self.tree.edges_between(begin, end));
+        }
+        EdgesLeft::in_row(self.row.between(begin, end))
     }
 
     /// The edges above a key, each with what it has, in the order of keys, for a loop over them: one search for all of them. It
@@ -159,23 +143,10 @@ impl<T> EdgeMap<T> {
     pub fn edges_above(&self, key: &Key) -> EdgesLeft<'_, T>
         ensures { result ≡ filter (λ e. key_lt key.now e.0) self.now.entries }
     {
-        let above = (Bound::Excluded(key), Bound::Unbounded);
-        EdgesLeft::new(&self.base, &self.levels, self.places.range(above))
-    }
-
-    // What a new edge at a key gets; None where the key is an edge.
-    fn new_level(&self, key: &Key) -> Option<T>
-    where
-        T: Spread,
-        ensures { MatchOption result
-            (is_edge key.now self.now ≡ true)
-            (λ level. (is_edge key.now self.now ≡ false) × (level ≡ T.spread (held self.now key.now))) }
-    {
-        match self.places.range(..=key).next_back() {
-            Some((edge, _)) if edge == key => None,
-            Some((_, place)) => Some(self.levels[*place].spread()),
-            None => Some(self.base.spread()),
+        if self.row.is_empty() {
+            return EdgesLeft::in_tree(self.tree.edges_above(key));
         }
+        EdgesLeft::in_row(self.row.above(key))
     }
 
     /// Makes a key an edge, which gets what is spread of what the key had, and answers whether it was none before; where it
@@ -187,13 +158,14 @@ impl<T> EdgeMap<T> {
         ensures err { OnErr result (self.new ≡ self.old) }
         ensures new { IfOk result (λ is_new. is_new ≡ not (is_edge key.now self.old)) }
     {
-        let Some(level) = self.new_level(key) else {
-            return Ok(false);
-        };
-        self.levels.reserve(1)?;
-        self.places.insert(key.copy()?, self.levels.len())?;
-        self.levels.push(level).unwrap();
-        Ok(true)
+        if self.row.is_empty() && !self.tree.is_empty() {
+            return self.tree.split(key);
+        }
+        if self.row.len() < FEW {
+            return self.row.split(self.tree.base(), key);
+        }
+        self.tree.fill(&mut self.row)?;
+        self.tree.split(key)
     }
 
     /// Takes an edge away: keys from it on have what those before it have. It takes no memory.
@@ -202,8 +174,10 @@ impl<T> EdgeMap<T> {
         T: Drop,
         ensures { self.new ≡ without_edge key.now self.old }
     {
-        if let Some(place) = self.places.remove(key) {
-            pop_last(&mut self.levels, place);
+        if self.row.is_empty() {
+            self.tree.remove_edge(key);
+        } else {
+            self.row.remove_edge(key);
         }
     }
 
@@ -213,8 +187,10 @@ impl<T> EdgeMap<T> {
         ensures before { result ≡ held self.old key.now }
         ensures after { self.new ≡ changed (is_at (key_cmp key.now)) (λ _. level) self.old }
     {
-        let place = *self.places.get(key).unwrap();
-        mem::replace(&mut self.levels[place], level)
+        if self.row.is_empty() {
+            return self.tree.replace(key, level);
+        }
+        self.row.replace(key, level)
     }
 
     /// Changes what each edge from `begin` on has that is less than `end`. It takes no memory, one search, and one write for each
@@ -223,13 +199,18 @@ impl<T> EdgeMap<T> {
         ensures { self.new
             ≡ changed (within begin.now end.now) (C.changed change.now) self.old }
     {
-        change_between(&self.places, &mut self.levels, begin, end, change);
+        if self.row.is_empty() {
+            self.tree.change(begin, end, change);
+        } else {
+            self.row.change(begin, end, change);
+        }
     }
 
     /// For proofs: that the edges rise. It does nothing when it runs.
     pub fn shows_rising(&self)
         ensures { IsStrictlySortedBy key_cmp (edges_of self.now) }
     {
-        let _count = self.places.len();
+        self.tree.shows_rising();
+        let _edges = self.row.as_slice();
     }
 }

@@ -3,44 +3,53 @@
 ghost use Rattle.std.specs.Prelude.{◌≡◌, length};
 ghost use Rattle.std.specs.Iterator.{at_most};
 ghost use Rattle.std.specs.Map.Iter.{TakesFirst, deref_pair};
-ghost use Rattle.edge_map.specs.Places.{laid_out, AreInside};
 
+use crate::tree_left::TreeLeft;
 use key_bytes::{Bytes, Key};
-use std::collections::btree_map::Range;
 use std::iter::FusedIterator;
 use std::marker::Model;
+use std::slice::Iter;
 
 /// The edges that are left, in the order of keys, each with what it has, for a loop over them: none takes a search of its own.
 /// Contracts see the list of them.
 #[derive(Drop)]
 pub struct EdgesLeft<'a, T> {
-    base: &'a T,
-    levels: &'a Vec<T>,
-    span: Range<'a, Bytes, usize>,
+    form: Form<'a, T>,
+}
+
+// Where the edges lie.
+#[derive(Drop)]
+pub(crate) enum Form<'a, T> {
+    Row(Iter<'a, (Bytes, T)>),
+    Tree(TreeLeft<'a, T>),
 }
 
 impl<'a, T> Model for EdgesLeft<'a, T> {
-    ghost use Rattle.std.specs.Prelude.{length, ℕ, List};
-    ghost use Rattle.edge_map.specs.Places.{laid_out, AreInside};
+    ghost use Rattle.std.specs.Prelude.{ℕ, List};
+    ghost use Rattle.edge_map.specs.Left.{left_of};
 
     ghost Value = { List (List ℕ × T) };
 
-    ghost view = { λ left. laid_out left.base.now left.levels.now.items left.span };
-
-    ghost invariant = { λ left. AreInside (length left.levels.now.items) left.span };
+    ghost view = { λ left. left_of left.form };
 }
 
 impl<'a, T> EdgesLeft<'a, T> {
-    // The edges of a span of places, with what lies at these.
-    pub(crate) fn new(
-        base: &'a T,
-        levels: &'a Vec<T>,
-        span: Range<'a, Bytes, usize>,
-    ) -> EdgesLeft<'a, T>
-        requires { AreInside (length levels.now.items) span }
-        ensures { result ≡ laid_out base.now levels.now.items span.entry }
+    // Edges of a row.
+    pub(crate) fn in_row(edges: &'a [(Bytes, T)]) -> EdgesLeft<'a, T>
+        ensures { result ≡ edges.now }
     {
-        EdgesLeft { base, levels, span }
+        EdgesLeft {
+            form: Form::Row(edges.iter()),
+        }
+    }
+
+    // Edges of a tree.
+    pub(crate) fn in_tree(edges: TreeLeft<'a, T>) -> EdgesLeft<'a, T>
+        ensures { result ≡ edges.entry }
+    {
+        EdgesLeft {
+            form: Form::Tree(edges),
+        }
     }
 }
 
@@ -53,9 +62,12 @@ impl<'a, T> Iterator for EdgesLeft<'a, T> {
 
     /// The first edge that is left, which it takes, and what it has. It takes no memory.
     fn next(&mut self) -> Option<(&'a Key, &'a T)> {
-        match self.span.next() {
-            Some((edge, place)) => Some((edge, &self.levels[*place])),
-            None => None,
+        match &mut self.form {
+            Form::Row(left) => match left.next() {
+                Some((edge, level)) => Some((edge, level)),
+                None => None,
+            },
+            Form::Tree(left) => left.next(),
         }
     }
 }

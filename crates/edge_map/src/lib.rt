@@ -10,7 +10,10 @@ mod change;
 mod edge_map;
 mod edges_left;
 mod levels;
+mod row;
 mod spread;
+mod tree;
+mod tree_left;
 
 pub use change::Change;
 pub use edge_map::EdgeMap;

@@ -168,3 +168,42 @@ fn replaces_and_removes(rt: HostRuntime) -> Result<(), Fail> {
     assert_eq!(rt; replaced(rt.alloc())?, Some([5, 7, 2]));
     Ok(())
 }
+
+// How many keys of two bytes a large map is made of.
+const MANY: u8 = 20;
+
+fn many_key(alloc: Global, number: u8) -> Result<Key, AllocError> {
+    Bytes::from_slice(alloc, &[number / 4, number])
+}
+
+// A map whose edges were made one by one, each with its number, from the first one or from the last one on.
+fn grown(alloc: Global, is_rising: bool) -> Result<EdgeMap<u64>, AllocError> {
+    let mut map = EdgeMap::new(alloc, 0);
+    for step in 0..MANY {
+        let number = if is_rising { step } else { MANY - 1 - step };
+        let key = many_key(alloc, number)?;
+        map.split(&key)?;
+        if map.has_edge(&key) {
+            map.replace(&key, u64::from(number));
+        }
+    }
+    Ok(map)
+}
+
+// The first number whose key has something else.
+fn first_lost(alloc: Global, is_rising: bool) -> Result<Option<u8>, AllocError> {
+    let map = grown(alloc, is_rising)?;
+    for number in 0..MANY {
+        if *map.at(&many_key(alloc, number)?) != u64::from(number) {
+            return Ok(Some(number));
+        }
+    }
+    Ok(None)
+}
+
+#[test]
+fn keeps_edges_as_they_grow_many(rt: HostRuntime) -> Result<(), Fail> {
+    assert_eq!(rt; first_lost(rt.alloc(), true)?, None);
+    assert_eq!(rt; first_lost(rt.alloc(), false)?, None);
+    Ok(())
+}
