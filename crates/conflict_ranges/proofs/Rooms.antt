@@ -1,10 +1,10 @@
 -- Room for the ranges of a commit: what keeps it, and ranges that are given their version one by one.
-use Rattle.std.proofs.Common.{◌≡◌, ◌≤◌, ◌<◌, ◌⊎◌, inl, inr, ℕ, max, arith, Bool, true, false, cond, ◌||◌, List, [], ◌∷◌, refl, sym, ap, ◌∙◌}
+use Rattle.std.proofs.Common.{◌≡◌, inl, inr, ℕ, max, arith, Bool, true, false, cond, ◌||◌, List, [], ◌∷◌, refl, ap, ◌∙◌}
 use Rattle.key_bytes.specs.declared.range.KeyRange.{KeyRange}
 use Rattle.key_bytes.specs.Keys.{within}
 use Rattle.key_bytes.specs.Ranges.{has}
 use Rattle.database_rules.specs.States.{covers}
-use Rattle.conflict_ranges.specs.Writes.{newest_at, Index, Keeps, KeepsRoom, GoesAlone, GoesAsRange, HasRoomFor, IsReadyFor}
+use Rattle.conflict_ranges.specs.Writes.{newest_at, Index, Keeps, KeepsRoom, GoesAsRange, HasRoomFor, IsReadyFor}
 
 pub room_kept : (version : ℕ) (range : KeyRange) (old new : Index) → Keeps old new → HasRoomFor old version range → HasRoomFor new version range
 room_kept version range old new kept room = record {

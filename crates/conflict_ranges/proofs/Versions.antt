@@ -1,13 +1,12 @@
 -- The versions of keys in an index, by themselves and in ranges, before and after a change.
 use Rattle.std.proofs.Common.{◌≡◌, ◌≤◌, ◌<◌, ◌⊎◌, inl, inr, ℕ, max, arith, Bool, true, false, cond, not, List, Option, None, Some, is_some, refl, sym, ap, subst, ◌∙◌, true≢false}
-use Rattle.std.proofs.lemmas.Bool.{cases_lt, false≢true}
+use Rattle.std.proofs.lemmas.Bool.{cases_lt}
 use Rattle.std.proofs.lemmas.Cmp.{tied_itself}
 use Rattle.std.proofs.lemmas.Map.Lookups.{exact_bytes}
 use Rattle.std.proofs.lemmas.Map.Views.{tells_apart}
-use Rattle.std.specs.FinMap.{FinMap, contains_key, empty, get, get-empty, get-insert, get-retain_keys, insert, retain_keys}
+use Rattle.std.specs.FinMap.{FinMap, contains_key, get, get-insert, get-retain_keys, insert, retain_keys}
 use Rattle.std.specs.Cmp.Lexicographic.{nat_list_cmp_total, texts_ties}
 use Rattle.std.specs.Ordering.{eq_by_cmp, is_eq}
-use Rattle.std.specs.declared.cmp.Ordering.TheVariants.{Equal}
 use Rattle.key_bytes.specs.Keys.{key_cmp, after, within}
 use Rattle.database_rules.proofs.Ranges.{has_one}
 use Rattle.edge_map.specs.Edges.{Edges, held, is_edge, changed}

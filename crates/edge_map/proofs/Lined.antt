@@ -1,5 +1,5 @@
 -- Edges in a row, where one comes in, goes, or has something else: what is done at its place.
-use Rattle.std.proofs.Common.{◌≡◌, ℕ, zero, suc, ◌+◌, ◌-◌, ◌<◌, ◌≤◌, Bool, true, false, cond, not, ◌&&◌, List, [], ◌∷◌, ◌++◌, length, get_or, take, drop, Some, None, is_some, refl, sym, ap, subst, ◌∙◌, arith, true≢false}
+use Rattle.std.proofs.Common.{◌≡◌, ℕ, zero, suc, ◌+◌, ◌-◌, ◌<◌, ◌≤◌, Bool, true, false, cond, not, ◌&&◌, List, [], ◌∷◌, ◌++◌, length, get_or, take, drop, Some, is_some, refl, sym, ap, subst, ◌∙◌, arith, true≢false}
 use Rattle.std.proofs.Math.ListN.{set}
 use Rattle.std.proofs.lemmas.Bool.{false≢true}
 use Rattle.std.proofs.lemmas.Map.Lookups.{exact_bytes}
@@ -13,7 +13,7 @@ use Rattle.std.specs.Ordering.{is_eq, is_lt, match_ordering, ordering_reverse}
 use Rattle.std.specs.declared.cmp.Ordering.{Ordering}
 use Rattle.std.specs.declared.cmp.Ordering.TheVariants.{Less, Equal, Greater}
 use Rattle.key_bytes.specs.Keys.{key_cmp, key_le, key_lt, within}
-use Rattle.edge_map.specs.Edges.{held_from, changed_entries}
+use Rattle.edge_map.specs.Edges.{changed_entries}
 use Rattle.edge_map.specs.Halves.{count_while}
 use Rattle.edge_map.proofs.Edged.{changed_none, none_at}
 use Rattle.edge_map.proofs.Held.{IsBelow, IsRising, is_among, rising_below, rising_rest, below_lower, not_above}

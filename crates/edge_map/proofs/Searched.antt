@@ -7,16 +7,16 @@ use Rattle.std.proofs.lemmas.Map.Text.{is_eq-slice_cmp}
 use Rattle.std.proofs.lemmas.Map.Views.{tells_apart}
 use Rattle.std.specs.Cmp.{eq_by_cmp_equiv}
 use Rattle.edge_map.specs.FirstTwo.{are_first_two}
-use Rattle.std.specs.BTreeMap.{insert_entry, is_at}
+use Rattle.std.specs.BTreeMap.{is_at}
 use Rattle.std.specs.Cmp.Lexicographic.{nat_list_cmp_total}
 use Rattle.std.specs.List.{filter}
 use Rattle.std.specs.Map.{keys_of, lookup}
-use Rattle.std.specs.Ordering.{is_eq, is_lt, is_gt, match_ordering, ordering_reverse}
+use Rattle.std.specs.Ordering.{is_eq, is_lt, is_gt, ordering_reverse}
 use Rattle.std.specs.declared.cmp.Ordering.{Ordering}
 use Rattle.std.specs.declared.cmp.Ordering.TheVariants.{Less, Equal, Greater}
-use Rattle.key_bytes.specs.Keys.{key_cmp, key_le, key_lt, within}
-use Rattle.key_bytes.proofs.Orders.{irreflexive, above_not_below, lt_trans}
-use Rattle.edge_map.specs.Edges.{held_from, changed_entries}
+use Rattle.key_bytes.specs.Keys.{key_cmp, key_le, key_lt}
+use Rattle.key_bytes.proofs.Orders.{lt_trans}
+use Rattle.edge_map.specs.Edges.{held_from}
 use Rattle.edge_map.specs.Halves.{count_while}
 use Rattle.key_map.specs.Ends.{first, last}
 use Rattle.edge_map.proofs.Edged.{none_at}

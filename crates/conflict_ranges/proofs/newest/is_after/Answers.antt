@@ -1,4 +1,4 @@
-use Rattle.std.proofs.Common.{◌≡◌, ◌≢◌, Bool, true, false, ◌++◌, [], ◌∷◌, MatchBool, refl, sym, ap, ◌∙◌, true≢false}
+use Rattle.std.proofs.Common.{◌≡◌, ◌≢◌, true, false, ◌++◌, [], ◌∷◌, MatchBool, refl, sym, ap, ◌∙◌, true≢false}
 use Rattle.std.proofs.lemmas.List.{same_from_push}
 use Rattle.std.specs.Cmp.Lexicographic.{bytes_decides}
 use Rattle.key_bytes.specs.Keys.{after}

@@ -1,4 +1,4 @@
-use Rattle.std.proofs.Common.{length, ◌-◌, ◌≡◌, ◌≤◌, ◌++◌, take, drop}
+use Rattle.std.proofs.Common.{length, ◌-◌, ◌≡◌, ◌++◌, take, drop}
 use Rattle.key_bytes.specs.Keys.{key_lt, within}
 use Rattle.edge_map.specs.Edges.{changed_entries}
 use Rattle.edge_map.proofs.Held.{IsRising}

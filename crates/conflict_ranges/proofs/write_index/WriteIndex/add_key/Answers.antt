@@ -1,6 +1,5 @@
 use Rattle.std.proofs.Common.{◌≡◌, ◌≤◌, ℕ, max, false, List, refl, sym, ap, subst, ◌∙◌}
-use Rattle.std.specs.FinMap.{FinMap, contains_key, get, insert}
-use Rattle.key_bytes.specs.Keys.{key_cmp}
+use Rattle.std.specs.FinMap.{contains_key, get, insert}
 use Rattle.edge_map.specs.Edges.{held}
 use Rattle.conflict_ranges.specs.Writes.{version_in, newest_at, Index, Keeps}
 use Rattle.conflict_ranges.proofs.Versions.{known, known_at_0, known_now}

@@ -1,4 +1,4 @@
-use Rattle.std.proofs.Common.{◌≤◌, ℕ, cond, sym, ap, subst, ◌∙◌}
+use Rattle.std.proofs.Common.{◌≤◌, cond, sym, ap, subst, ◌∙◌}
 use Rattle.std.specs.FinMap.{insert}
 use Rattle.key_bytes.specs.Keys.{within}
 use Rattle.conflict_ranges.specs.Writes.{newest_at, Index, GoesAlone, KeepsRoom}

@@ -1,4 +1,4 @@
-use Rattle.std.proofs.Common.{sym, ap, ◌∙◌, length, ◌-◌, take, drop}
+use Rattle.std.proofs.Common.{ap, ◌∙◌, length, ◌-◌, take, drop}
 use Rattle.edge_map.proofs.Searched.{part_above}
 use Rattle.edge_map.proofs.row.Row.above.Goals as goal
 

@@ -1,4 +1,4 @@
-use Rattle.std.proofs.Common.{◌≡◌, ap, sym, ◌∙◌}
+use Rattle.std.proofs.Common.{ap, ◌∙◌}
 use Rattle.edge_map.specs.FirstTwo.{are_first_two}
 use Rattle.edge_map.proofs.Searched.{first_differs, first_same}
 use Rattle.edge_map.proofs.row.Row.has_neighbours.Goals as goal

@@ -1,4 +1,4 @@
-use Rattle.std.proofs.Common.{◌≡◌, ◌-◌, suc, refl, sym, ap, ◌∙◌, arith}
+use Rattle.std.proofs.Common.{◌≡◌, ◌-◌, suc, sym, ap, ◌∙◌, arith}
 use Rattle.edge_map.specs.Edges.{held_from}
 use Rattle.edge_map.specs.Halves.{count_while}
 use Rattle.key_bytes.specs.Keys.{key_le}

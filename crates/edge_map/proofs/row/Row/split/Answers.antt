@@ -1,5 +1,5 @@
-use Rattle.std.proofs.Common.{◌≡◌, if◌then◌else◌, is_some, false, sym, ap, subst, ◌∙◌}
-use Rattle.std.specs.BTreeMap.{insert_entry, is_at}
+use Rattle.std.proofs.Common.{if◌then◌else◌, sym, ap, subst, ◌∙◌}
+use Rattle.std.specs.BTreeMap.{insert_entry}
 use Rattle.key_bytes.specs.Keys.{key_cmp}
 use Rattle.edge_map.specs.Edges.{held_from}
 use Rattle.edge_map.proofs.Held.{IsRising}

@@ -1,6 +1,6 @@
-use Rattle.std.proofs.Common.{◌≡◌, ◌+◌, ◌<◌, length, drop, is_gt, is_eq, true, false, suc, refl, sym, ap, subst, ◌∙◌, arith}
+use Rattle.std.proofs.Common.{◌+◌, ◌<◌, length, drop, is_gt, is_eq, refl, sym, ap, subst, ◌∙◌, arith}
 use Rattle.key_bytes.specs.Keys.{key_cmp}
-use Rattle.edge_map.proofs.Held.{IsRising, is_among, rising_rest}
+use Rattle.edge_map.proofs.Held.{IsRising, rising_rest}
 use Rattle.edge_map.proofs.Searched.{left_from, spot_here, spot_past, spot_before}
 use Rattle.edge_map.proofs.row.Row.spot.Goals as goal
 

@@ -1,10 +1,5 @@
-use Rattle.std.proofs.Common.{◌≡◌, List, ℕ, length, bytes_eq, ap, sym, ◌∙◌, arith}
+use Rattle.std.proofs.Common.{List, ℕ, length, ap, sym, ◌∙◌, arith}
 use Rattle.std.proofs.lemmas.List.{get_or_default}
-use Rattle.std.proofs.lemmas.Map.Text.{is_eq-slice_cmp}
-use Rattle.std.specs.BTreeMap.{is_at}
-use Rattle.std.specs.Cmp.{eq_by_cmp_equiv}
-use Rattle.std.specs.Cmp.Lexicographic.{nat_list_cmp_total}
-use Rattle.key_bytes.specs.Keys.{key_cmp}
 use Rattle.edge_map.specs.Edges.{held, is_edge}
 use Rattle.edge_map.proofs.Spans.{held-found, held-not_found, is_among-found, is_among-not_found, found_inside}
 use Rattle.edge_map.proofs.Searched.{same_text}
