@@ -296,3 +296,14 @@ fn first_wrong_in<A: Asked + AskedByName + Drop>(
 fn first_wrong(alloc: Global, rows: &[Row]) -> Result<Option<usize>, AllocError> {
     first_wrong_in(new_session(alloc), rows)
 }
+
+const END_DECLARED: &[Row] = &[Row::Named(Named::DeclaresKey(
+    b"\xff",
+    Err(TrFault::Code(Code(2004))),
+))];
+
+#[test]
+fn a_declared_key_lies_below_the_end(rt: HostRuntime) -> Result<(), Fail> {
+    assert_eq!(rt; first_wrong(rt.alloc(), END_DECLARED)?, None);
+    Ok(())
+}

@@ -213,17 +213,6 @@ fn a_transaction_declares_what_it_wrote_and_was_told(rt: HostRuntime) -> Result<
     Ok(())
 }
 
-const END_DECLARED: &[Row] = &[Row::Named(Named::DeclaresKey(
-    b"\xff",
-    Err(TrFault::Code(Code(2004))),
-))];
-
-#[test]
-fn a_declared_key_lies_below_the_end(rt: HostRuntime) -> Result<(), Fail> {
-    assert_eq!(rt; first_wrong(rt.alloc(), END_DECLARED)?, None);
-    Ok(())
-}
-
 // The keys that a transaction rests on which was told to.
 fn rests_when_told(
     on: &mut TxnOn<'_>,
@@ -295,33 +284,6 @@ const BESIDE: &[Row] = &[
 fn a_commit_is_judged_by_the_index(rt: HostRuntime) -> Result<(), Fail> {
     assert_eq!(rt; first_wrong(rt.alloc(), INSIDE)?, None);
     assert_eq!(rt; first_wrong(rt.alloc(), BESIDE)?, None);
-    Ok(())
-}
-
-const TRIED: &[Row] = &[
-    Row::Named(Named::Life(Living::Tries(None))),
-    Row::Named(Named::Sets(b"k", b"v", Err(TrFault::Code(Code(2017))))),
-];
-
-#[test]
-fn what_was_tried_takes_no_call(rt: HostRuntime) -> Result<(), Fail> {
-    assert_eq!(rt; first_wrong(rt.alloc(), TRIED)?, None);
-    Ok(())
-}
-
-// The last is judged after a cancel.
-const ENDED: &[Row] = &[
-    Row::Named(Named::Life(Living::Handles(2004, Err(Code(2004))))),
-    Row::Named(Named::Life(Living::Handles(1020, Err(Code(1025))))),
-    Row::Named(Named::Life(Living::Resets(1))),
-    Row::Named(Named::Life(Living::Handles(1020, Ok(())))),
-    Row::Named(Named::Life(Living::Cancels)),
-    Row::Named(Named::Judges(Err(TrFault::Code(Code(1025))))),
-];
-
-#[test]
-fn a_life_ends_by_reset_cancel_and_errors(rt: HostRuntime) -> Result<(), Fail> {
-    assert_eq!(rt; first_wrong(rt.alloc(), ENDED)?, None);
     Ok(())
 }
 

@@ -131,3 +131,30 @@ impl AskedOfLife for Session {
         self.txn.life() == wanted
     }
 }
+
+const TRIED: &[Row] = &[
+    Row::Named(Named::Life(Living::Tries(None))),
+    Row::Named(Named::Sets(b"k", b"v", Err(TrFault::Code(Code(2017))))),
+];
+
+#[test]
+fn what_was_tried_takes_no_call(rt: HostRuntime) -> Result<(), Fail> {
+    assert_eq!(rt; first_wrong(rt.alloc(), TRIED)?, None);
+    Ok(())
+}
+
+// The last is judged after a cancel.
+const ENDED: &[Row] = &[
+    Row::Named(Named::Life(Living::Handles(2004, Err(Code(2004))))),
+    Row::Named(Named::Life(Living::Handles(1020, Err(Code(1025))))),
+    Row::Named(Named::Life(Living::Resets(1))),
+    Row::Named(Named::Life(Living::Handles(1020, Ok(())))),
+    Row::Named(Named::Life(Living::Cancels)),
+    Row::Named(Named::Judges(Err(TrFault::Code(Code(1025))))),
+];
+
+#[test]
+fn a_life_ends_by_reset_cancel_and_errors(rt: HostRuntime) -> Result<(), Fail> {
+    assert_eq!(rt; first_wrong(rt.alloc(), ENDED)?, None);
+    Ok(())
+}
