@@ -3,8 +3,11 @@
 ghost use Rattle.std.specs.Prelude.{◌≡◌, ◌+◌, ◌≤◌, ◌++◌, length, drop, map, OnOk, OnErr};
 ghost use Rattle.std.specs.List.{prefix_len, take_while};
 ghost use Rattle.std.specs.Simd.Lanes.{mask_l};
-ghost use Rattle.line_rules.specs.Printing.{is_plain};
+ghost use Rattle.std.specs.Vec.{vec_len, vec_capacity};
+ghost use Rattle.line_rules.specs.Printing.{is_plain, printable};
+ghost use Rattle.line_rules.specs.Reading.{text_of};
 ghost use Rattle.dump_text.specs.Stops.{is_stop};
+ghost use Rattle.dump_text.specs.Texts.{with_front};
 
 use std::alloc::AllocError;
 use std::simd::prelude::*;
@@ -90,11 +93,27 @@ pub fn split_plain(bytes: &[u8]) -> (&[u8], &[u8])
     bytes.split_at(plain_len(bytes))
 }
 
+/// The bytes at the front that stand for themselves, where there are so many that they are worth a call, else none of
+/// them; and those behind. A backslash at the front, of an escape behind another one, is seen first. It takes no memory.
+#[inline(always)]
+pub fn split_many(bytes: &[u8]) -> (&[u8], &[u8])
+    ensures read { text_of bytes.now ≡ with_front result.0.now (text_of result.1.now) }
+    ensures printed { printable bytes.now ≡ result.0.now ++ printable result.1.now }
+    ensures whole { length result.0.now + length result.1.now ≡ length bytes.now }
+{
+    if bytes.len() < 8 || bytes[0] == b'\\' || stops_8(u8x8::from_slice(bytes)) != 0 {
+        return bytes.split_at(0);
+    }
+    split_plain(bytes)
+}
+
 /// Adds bytes at the end, often none. After a refusal `to` is unchanged.
 #[inline(always)]
 pub fn add_run(to: &mut Vec<u8>, run: &[u8]) -> Result<(), AllocError>
     ensures ok { OnOk result (to.new.items ≡ to.old.items ++ run.now) }
     ensures err { OnErr result (to.new.items ≡ to.old.items) }
+    ensures len { OnOk result (vec_len to.new ≡ vec_len to.old + length run.now) }
+    ensures capacity { vec_capacity to.old ≤ vec_capacity to.new }
 {
     if run.is_empty() {
         return Ok(());
