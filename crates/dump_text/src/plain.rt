@@ -12,6 +12,9 @@ ghost use Rattle.dump_text.specs.Texts.{with_front};
 use std::alloc::AllocError;
 use std::simd::prelude::*;
 
+// As many bytes as are better added by one call than one by one.
+const MANY: usize = 8;
+
 /// Whether `byte` stands for itself. It takes no memory.
 #[inline(always)]
 pub fn is_plain(byte: u8) -> bool
@@ -93,18 +96,22 @@ pub fn split_plain(bytes: &[u8]) -> (&[u8], &[u8])
     bytes.split_at(plain_len(bytes))
 }
 
-/// The bytes at the front that stand for themselves, where there are so many that they are worth a call, else none of
-/// them; and those behind. A backslash at the front, of an escape behind another one, is seen first. It takes no memory.
+/// The bytes at the front that stand for themselves, where there are many, else none of them; and those behind. No run is
+/// looked for where a backslash stands at the front, as it does where an escape follows another. It takes no memory.
 #[inline(always)]
 pub fn split_many(bytes: &[u8]) -> (&[u8], &[u8])
     ensures read { text_of bytes.now ≡ with_front result.0.now (text_of result.1.now) }
     ensures printed { printable bytes.now ≡ result.0.now ++ printable result.1.now }
     ensures whole { length result.0.now + length result.1.now ≡ length bytes.now }
 {
-    if bytes.len() < 8 || bytes[0] == b'\\' || stops_8(u8x8::from_slice(bytes)) != 0 {
+    if bytes.len() < MANY || bytes[0] == b'\\' {
         return bytes.split_at(0);
     }
-    split_plain(bytes)
+    let (run, left) = split_plain(bytes);
+    if run.len() < MANY {
+        return bytes.split_at(0);
+    }
+    (run, left)
 }
 
 /// Adds bytes at the end, often none. After a refusal `to` is unchanged.
