@@ -1,9 +1,9 @@
 -- The printable form, a run or a piece at a time.
-use Rattle.std.proofs.Common.{◌≡◌, ℕ, zero, suc, ◌+◌, ◌<◌, Bool, true, false, cond, not, ◌&&◌, ◌==◌, ltb, ◌*◌, List, [], ◌∷◌, ◌++◌, length, refl, sym, ap, subst, ◌∙◌, append_assoc, arith}
+use Rattle.std.proofs.Common.{◌≡◌, ℕ, zero, suc, ◌+◌, ◌<◌, Bool, true, false, cond, not, ◌&&◌, ◌==◌, ltb, ◌*◌, List, [], ◌∷◌, ◌++◌, length, take, drop, slice_index_or, ◌-◌, ◌≤◌, refl, sym, ap, subst, ◌∙◌, append_assoc, arith}
 use Rattle.std.specs.List.{take_while}
-use Rattle.std.proofs.lemmas.List.{append-nil}
+use Rattle.std.proofs.lemmas.List.{append-nil, take_all}
 use Rattle.dump_text.specs.Texts.{with_front}
-use Rattle.dump_text.proofs.Runs.{after, run_goes_on, run_stops, length-run}
+use Rattle.dump_text.proofs.Runs.{after, run_goes_on, run_stops}
 use Rattle.line_rules.specs.Printing.{is_plain, backslash, separator}
 use Rattle.line_rules.specs.Reading.{Piece, Nothing, Spelled, Separator, Unfit, piece_at, hexadecimal_piece, escaped_piece, digit_of, behind, read_on, ReadText, pieces, text_of, Stop, AtEnd, AtSeparator, AtFault}
 
@@ -113,20 +113,6 @@ pub text_parts : (bytes run left : List ℕ) → run ≡ take_while is_plain byt
     → with_front run (text_of left) ≡ text_of bytes
 text_parts bytes run left f g = rw (f, g) (sym (text_run bytes))
 
--- a spelled byte and the run behind it
-pub text_step : (bytes rest run left : List ℕ) (byte : ℕ) → Spelled byte rest ≡ piece_at bytes → run ≡ take_while is_plain rest
-    → left ≡ after is_plain rest
-    → text_of bytes ≡ with_front (byte ∷ run) (text_of left)
-text_step bytes rest run left byte e f g = text_spelled bytes rest byte (sym e) ∙ ap (with_front (byte ∷ [])) (text_run rest)
-    ∙ rw (f, g) refl
-
-pub step_within : (bytes rest run left : List ℕ) (byte : ℕ) → Spelled byte rest ≡ piece_at bytes → run ≡ take_while is_plain rest
-    → left ≡ after is_plain rest
-    → length run + length left < length bytes
-step_within bytes rest run left byte e f g =
-    let less : length rest < length bytes = rw (← e) at (piece_shorter bytes) in
-    rw (f, g, length-run is_plain rest) less
-
 -- ---- where reading stops
 
 -- nothing is left only where no byte is
@@ -189,15 +175,43 @@ pub done_unfit : (front bytes : List ℕ) (total : ReadText) → Unfit ≡ piece
     → record { bytes = front; stop = AtFault; left = bytes } ≡ total
 done_unfit front bytes total e so_far = text_done front bytes AtFault bytes total (text_unfit bytes (sym e)) so_far
 
+-- where no byte is left
+pub nothing_at : (bytes : List ℕ) → length bytes < 1 → Nothing ≡ piece_at bytes
+unfolding piece_at
+nothing_at [] h = refl
+nothing_at (byte ∷ rest) h = absurd (omega arith)
+
+-- where the separator stands, as a pattern takes the bytes apart
+pub separator_at : (bytes : List ℕ) → 2 ≤ length bytes → slice_index_or bytes 0 0 ≡ 92 → slice_index_or bytes 1 0 ≡ 61
+    → Separator (take (length bytes - 2) (drop 2 bytes)) ≡ piece_at bytes
+unfolding piece_at
+separator_at [] h first second = absurd (omega arith)
+separator_at (byte ∷ []) h first second = absurd (omega arith)
+separator_at (byte ∷ next ∷ rest) h first second =
+    let all : length (byte ∷ next ∷ rest) - 2 ≡ length rest = omega arith in
+    rw (first, second, all, take_all (length rest) rest (omega arith)) refl
+
+-- one more byte
+pub read_one : (front bytes rest : List ℕ) (byte : ℕ) (total : ReadText) → Spelled byte rest ≡ piece_at bytes
+    → with_front front (text_of bytes) ≡ total → with_front (front ++ byte ∷ []) (text_of rest) ≡ total
+read_one front bytes rest byte total e so_far =
+    let joined : (front ++ byte ∷ []) ++ (text_of rest).bytes ≡ front ++ (byte ∷ (text_of rest).bytes) =
+    append_assoc front (byte ∷ []) (text_of rest).bytes in
+    ap (λ (x : List ℕ). record (text_of rest) { bytes = x }) joined
+    ∙ ap (with_front front) (sym (text_spelled bytes rest byte (sym e))) ∙ so_far
+
 -- one more byte and the run behind it
 pub read_more : (front bytes rest run left : List ℕ) (byte : ℕ) (total : ReadText) → Spelled byte rest ≡ piece_at bytes
-    → run ≡ take_while is_plain rest → left ≡ after is_plain rest
+    → text_of rest ≡ with_front run (text_of left)
     → with_front front (text_of bytes) ≡ total → with_front ((front ++ byte ∷ []) ++ run) (text_of left) ≡ total
-read_more front bytes rest run left byte total e f g so_far =
-    let one = text_step bytes rest run left byte e f g in
-    let joined : ((front ++ byte ∷ []) ++ run) ++ (text_of left).bytes ≡ front ++ ((byte ∷ run) ++ (text_of left).bytes) =
-    simp append_assoc in
-    ap (λ (x : List ℕ). record (text_of left) { bytes = x }) joined ∙ ap (with_front front) (sym one) ∙ so_far
+read_more front bytes rest run left byte total e parts so_far =
+    let joined : ((front ++ byte ∷ []) ++ run) ++ (text_of left).bytes ≡ (front ++ byte ∷ []) ++ (run ++ (text_of left).bytes) =
+    append_assoc (front ++ byte ∷ []) run (text_of left).bytes in
+    ap (λ (x : List ℕ). record (text_of left) { bytes = x }) joined
+    ∙ ap (with_front (front ++ byte ∷ [])) (sym parts) ∙ read_one front bytes rest byte total e so_far
+
+pub spelled_within : (bytes rest : List ℕ) (byte : ℕ) → Spelled byte rest ≡ piece_at bytes → length rest < length bytes
+spelled_within bytes rest byte e = rw (← e) at (piece_shorter bytes)
 
 pub separator_within : (bytes rest : List ℕ) → Separator rest ≡ piece_at bytes → length rest + 1 < length bytes
 separator_within bytes rest e = rw (← e) at (piece_shorter bytes)

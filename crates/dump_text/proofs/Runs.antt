@@ -1,7 +1,7 @@
 -- Runs of bytes that pass a test, and how they are printed.
 use Rattle.std.proofs.Common.{◌≡◌, ℕ, suc, ◌+◌, ◌-◌, ◌<◌, ◌≤◌, Bool, true, false, List, [], ◌∷◌, ◌++◌, length, take, drop, slice_index_or, refl, sym, ap, ◌∙◌, append_assoc, arith}
 use Rattle.std.specs.List.{prefix_len, take_while}
-use Rattle.std.proofs.lemmas.List.{length-append, take-append-drop, append-nil}
+use Rattle.std.proofs.lemmas.List.{append-nil}
 use Rattle.std.proofs.lemmas.Slice.{first_rest}
 use Rattle.line_rules.specs.Printing.{is_plain, printed, printable}
 
@@ -19,32 +19,6 @@ pub run_stops : (p : ℕ → Bool) (byte : ℕ) (rest : List ℕ) → p byte ≡
     → (take_while p (byte ∷ rest) ≡ []) × (after p (byte ∷ rest) ≡ byte ∷ rest)
 run_stops p byte rest e = (rw e refl, rw e refl)
 
-pub length-run : (p : ℕ → Bool) (bytes : List ℕ) → length (take_while p bytes) + length (after p bytes) ≡ length bytes
-length-run p bytes =
-    let n = prefix_len p bytes in
-    sym (length-append (take n bytes) (drop n bytes)) ∙ ap length (take-append-drop n bytes)
-
-pub parts_within : (bytes run left : List ℕ) → run ≡ take_while is_plain bytes → left ≡ after is_plain bytes
-    → length run + length left ≡ length bytes
-parts_within bytes run left f g = rw (f, g) (length-run is_plain bytes)
-
--- behind the run no byte passes at the front
-pub after_stops : (p : ℕ → Bool) (bytes : List ℕ) → prefix_len p (after p bytes) ≡ 0
-after_stops p [] = refl
-after_stops p (byte ∷ rest) =
-    elim (p byte) as (λ b. p byte ≡ b → prefix_len p (after p (byte ∷ rest)) ≡ 0) [
-      | true ↦ λ e. let parts = run_goes_on p byte rest e in ap (prefix_len p) parts.1 ∙ after_stops p rest
-      | false ↦ λ e. let parts = run_stops p byte rest e in ap (prefix_len p) parts.1 ∙ rw e refl
-    ] refl
-
-pub first_fails : (p : ℕ → Bool) (bytes : List ℕ) → 1 ≤ length bytes → prefix_len p bytes ≡ 0 → p (slice_index_or bytes 0 0) ≡ false
-first_fails p [] h e = absurd (omega arith)
-first_fails p (byte ∷ rest) h e =
-    elim (p byte) as (λ b. p byte ≡ b → p byte ≡ false) [
-      | true ↦ λ t. absurd (let one : 1 + prefix_len p rest ≡ 0 = rw t at e in omega arith)
-      | false ↦ λ t. t
-    ] refl
-
 -- ---- printing
 
 -- where what passes is printed as itself
@@ -61,6 +35,10 @@ printed_run p h (byte ∷ rest) =
 pub printable_run : (bytes : List ℕ) → printable bytes ≡ take_while is_plain bytes ++ printable (after is_plain bytes)
 printable_run bytes = printed_run is_plain (λ byte e. rw e refl) bytes
 
+pub parts_are_printed : (bytes run left : List ℕ) → run ≡ take_while is_plain bytes → left ≡ after is_plain bytes
+    → printable bytes ≡ run ++ printable left
+parts_are_printed bytes run left f g = rw (f, g) (printable_run bytes)
+
 pub parts_printed : (to bytes run left : List ℕ) → run ≡ take_while is_plain bytes → left ≡ after is_plain bytes
     → (to ++ run) ++ printable left ≡ to ++ printable bytes
 parts_printed to bytes run left f g = rw (f, g, append_assoc, ← printable_run bytes) refl
@@ -73,17 +51,22 @@ printable-cons : (byte : ℕ) (rest : List ℕ) → printable (byte ∷ rest) �
 unfolding printable
 printable-cons byte rest = refl
 
-pub print_more : (to left total : List ℕ) → 1 ≤ length left → to ++ printable left ≡ total
-    → ((to ++ printed (slice_index_or left 0 0)) ++ take_while is_plain (take (length left - 1) (drop 1 left))) ++ printable
-    (after is_plain (take (length left - 1) (drop 1 left))) ≡ total
-print_more to left total h so_far =
+-- the first byte is printed before the others
+pub print_first : (to left total : List ℕ) (byte : ℕ) → 1 ≤ length left → slice_index_or left 0 0 ≡ byte → to ++ printable left ≡ total
+    → to ++ (printed byte ++ printable (take (length left - 1) (drop 1 left))) ≡ total
+print_first to left total byte h e so_far =
     let rest = take (length left - 1) (drop 1 left) in
-    let byte = slice_index_or left 0 0 in
-    let whole : printable left ≡ printed byte ++ (take_while is_plain rest ++ printable (after is_plain rest)) =
-    ap printable (taken_apart left h) ∙ printable-cons byte rest ∙ ap (λ (x : List ℕ). printed byte ++ x) (printable_run rest) in
-    append_assoc (to ++ printed byte) (take_while is_plain rest) (printable (after is_plain rest))
-    ∙ append_assoc to (printed byte) (take_while is_plain rest ++ printable (after is_plain rest))
-    ∙ ap (λ (x : List ℕ). to ++ x) (sym whole) ∙ so_far
+    let whole : printable left ≡ printed byte ++ printable rest =
+    ap printable (taken_apart left h) ∙ printable-cons (slice_index_or left 0 0) rest ∙ ap (λ (x : ℕ). printed x ++ printable rest) e in
+    ap (λ (x : List ℕ). to ++ x) (sym whole) ∙ so_far
+
+pub print_plain : (to left total : List ℕ) (byte : ℕ) → 1 ≤ length left → slice_index_or left 0 0 ≡ byte → is_plain byte ≡ true
+    → to ++ printable left ≡ total
+    → (to ++ byte ∷ []) ++ printable (take (length left - 1) (drop 1 left)) ≡ total
+print_plain to left total byte h e plain so_far =
+    let rest = take (length left - 1) (drop 1 left) in
+    let itself : printed byte ≡ byte ∷ [] = rw plain refl in
+    append_assoc to (byte ∷ []) (printable rest) ∙ rw itself at (print_first to left total byte h e so_far)
 
 -- nothing is left to print
 pub print_done : (to left total : List ℕ) → length left < 1 → to ++ printable left ≡ total → to ≡ total

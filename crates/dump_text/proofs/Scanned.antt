@@ -29,11 +29,15 @@ abbrev pub holds_below : (ℕ → Bool) → ℕ → Bool
 holds_below p zero = true
 holds_below p (suc n) = p n && holds_below p n
 
+pub true_is : (b : Bool) → T b → b ≡ true
+true_is true h = refl
+true_is false h = absurd h
+
 both : (a b : Bool) → T (a && b) → T a × T b
 both true b h = (tt, h)
 both false b h = absurd h
 
-holds_at : (p : ℕ → Bool) (n : ℕ) → T (holds_below p n) → (i : ℕ) → i < n → T (p i)
+pub holds_at : (p : ℕ → Bool) (n : ℕ) → T (holds_below p n) → (i : ℕ) → i < n → T (p i)
 holds_at p zero h i lt = absurd (not-suc-le-zero lt)
 holds_at p (suc n) h i lt = go (holds_at p n (both (p n) (holds_below p n) h).1 i) (cases_order i n)
   where

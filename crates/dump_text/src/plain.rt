@@ -3,11 +3,17 @@
 ghost use Rattle.std.specs.Prelude.{◌≡◌, ◌+◌, ◌≤◌, ◌++◌, length, drop, map, OnOk, OnErr};
 ghost use Rattle.std.specs.List.{prefix_len, take_while};
 ghost use Rattle.std.specs.Simd.Lanes.{mask_l};
-ghost use Rattle.line_rules.specs.Printing.{is_plain};
+ghost use Rattle.std.specs.Vec.{vec_len, vec_capacity};
+ghost use Rattle.line_rules.specs.Printing.{is_plain, printable};
+ghost use Rattle.line_rules.specs.Reading.{text_of};
 ghost use Rattle.dump_text.specs.Stops.{is_stop};
+ghost use Rattle.dump_text.specs.Texts.{with_front};
 
 use std::alloc::AllocError;
 use std::simd::prelude::*;
+
+// As many bytes as are better added by one call than one by one.
+const MANY: usize = 8;
 
 /// Whether `byte` stands for itself. It takes no memory.
 #[inline(always)]
@@ -90,11 +96,31 @@ pub fn split_plain(bytes: &[u8]) -> (&[u8], &[u8])
     bytes.split_at(plain_len(bytes))
 }
 
+/// The bytes at the front that stand for themselves, where there are many, else none of them; and those behind. No run is
+/// looked for where a backslash stands at the front, as it does where an escape follows another. It takes no memory.
+#[inline(always)]
+pub fn split_many(bytes: &[u8]) -> (&[u8], &[u8])
+    ensures read { text_of bytes.now ≡ with_front result.0.now (text_of result.1.now) }
+    ensures printed { printable bytes.now ≡ result.0.now ++ printable result.1.now }
+    ensures whole { length result.0.now + length result.1.now ≡ length bytes.now }
+{
+    if bytes.len() < MANY || bytes[0] == b'\\' {
+        return bytes.split_at(0);
+    }
+    let (run, left) = split_plain(bytes);
+    if run.len() < MANY {
+        return bytes.split_at(0);
+    }
+    (run, left)
+}
+
 /// Adds bytes at the end, often none. After a refusal `to` is unchanged.
 #[inline(always)]
 pub fn add_run(to: &mut Vec<u8>, run: &[u8]) -> Result<(), AllocError>
     ensures ok { OnOk result (to.new.items ≡ to.old.items ++ run.now) }
     ensures err { OnErr result (to.new.items ≡ to.old.items) }
+    ensures len { OnOk result (vec_len to.new ≡ vec_len to.old + length run.now) }
+    ensures capacity { vec_capacity to.old ≤ vec_capacity to.new }
 {
     if run.is_empty() {
         return Ok(());

@@ -1,14 +1,17 @@
 //! The printable form of bytes.
 
-ghost use Rattle.std.specs.Prelude.{◌≡◌, ◌<◌, ◌++◌, false, Some, take, length, OnOk, OnErr};
-ghost use Rattle.std.specs.List.{prefix_len};
+ghost use Rattle.std.specs.Prelude.{◌≡◌, ◌+◌, ◌*◌, ◌<◌, ◌≤◌, ◌++◌, false, Some, take, length, IfOk, OnOk, OnErr};
+ghost use Rattle.std.specs.Vec.{vec_len, vec_capacity};
 ghost use Rattle.line_rules.specs.Printing.{is_plain, in_digits, printed, printable, printable_but, hexadecimal_digit};
 ghost use Rattle.dump_text.specs.Growing.{Grew};
 
-use crate::plain::{add_run, split_plain};
+use crate::plain::{add_run, is_plain, split_many, split_plain};
 use key_bytes::Bytes;
 use memchr::memchr;
 use std::alloc::AllocError;
+
+// The digits.
+const DIGITS: &[u8; 16] = b"0123456789abcdef";
 
 // The digit of a number below 16. It takes no memory.
 #[inline(always)]
@@ -16,7 +19,23 @@ fn hexadecimal_digit(n: u8) -> u8
     requires { n < 16 }
     ensures { result ≡ hexadecimal_digit n }
 {
-    if n < 10 { b'0' + n } else { b'a' - 10 + n }
+    DIGITS[usize::from(n)]
+}
+
+// Adds a byte's spelling by its two digits, for which there is room.
+#[inline(always)]
+fn put_digits(to: &mut Vec<u8>, byte: u8)
+    requires { vec_len to.old + 4 ≤ vec_capacity to.old }
+    ensures items { to.new.items ≡ to.old.items ++ in_digits byte }
+    ensures len { vec_len to.new ≡ vec_len to.old + 4 }
+    ensures capacity { vec_capacity to.new ≡ vec_capacity to.old }
+{
+    let high = hexadecimal_digit(byte / 16);
+    let low = hexadecimal_digit(byte % 16);
+    to.push_reserved(b'\\');
+    to.push_reserved(b'x');
+    to.push_reserved(high);
+    to.push_reserved(low);
 }
 
 // Adds a byte's spelling by its two digits. After a refusal `to` is unchanged.
@@ -25,37 +44,66 @@ fn add_digits(to: &mut Vec<u8>, byte: u8) -> Result<(), AllocError>
     ensures ok { OnOk result (to.new.items ≡ to.old.items ++ in_digits byte) }
     ensures err { OnErr result (to.new.items ≡ to.old.items) }
 {
-    let high = hexadecimal_digit(byte / 16);
-    let low = hexadecimal_digit(byte % 16);
-    to.extend_from_slice(&[b'\\', b'x', high, low])
+    to.reserve(4)?;
+    put_digits(to, byte);
+    Ok(())
 }
 
-// Adds the spelling of a byte that isn't plain. After a refusal `to` is unchanged.
-fn add_escape(to: &mut Vec<u8>, byte: u8) -> Result<(), AllocError>
-    requires { is_plain byte ≡ false }
-    ensures ok { OnOk result (to.new.items ≡ to.old.items ++ printed byte) }
-    ensures err { OnErr result (to.new.items ≡ to.old.items) }
+// Adds the spelling of a byte that isn't plain, for which there is room.
+#[inline(always)]
+fn put_escape(to: &mut Vec<u8>, byte: u8)
+    requires escaped { is_plain byte ≡ false }
+    requires room { vec_len to.old + 4 ≤ vec_capacity to.old }
+    ensures items { to.new.items ≡ to.old.items ++ printed byte }
+    ensures len { vec_len to.new ≤ vec_len to.old + 4 }
+    ensures capacity { vec_capacity to.new ≡ vec_capacity to.old }
 {
     if byte == b'\\' {
-        return to.extend_from_slice(b"\\\\");
+        to.push_reserved(b'\\');
+        to.push_reserved(b'\\');
+    } else {
+        put_digits(to, byte);
     }
-    add_digits(to, byte)
 }
 
-// Adds the printable form of bytes whose first one, where there is one, isn't plain. After a refusal a part of it stands
-// behind what `to` held.
+// Adds the spelling of a byte that isn't plain, for which there is room, and the run behind it where that is long; what
+// is left. After a refusal a part of it stands behind what `to` held.
+#[inline(always)]
+fn add_escape<'a>(to: &mut Vec<u8>, byte: u8, rest: &'a [u8]) -> Result<&'a [u8], AllocError>
+    requires escaped { is_plain byte ≡ false }
+    requires room { vec_len to.old + 4 * (1 + length rest.now) ≤ vec_capacity to.old }
+    ensures ok { IfOk result (λ left. to.new.items ++ printable left.now ≡ to.old.items ++ (printed byte ++ printable rest.now)) }
+    ensures room { IfOk result (λ left. vec_len to.new + 4 * length left.now ≤ vec_capacity to.new) }
+    ensures less { IfOk result (λ left. length left.now ≤ length rest.now) }
+    ensures grew { Grew to.old.items to.new.items }
+{
+    let (run, left) = split_many(rest);
+    put_escape(to, byte);
+    add_run(to, run)?;
+    Ok(left)
+}
+
+// Adds the printable form of bytes with escapes among them, byte by byte but for long runs: there is room for four times
+// as many, so that only the room may be refused. After a refusal a part of it stands behind what `to` held.
 #[inline(never)]
 fn add_escaped(to: &mut Vec<u8>, bytes: &[u8]) -> Result<(), AllocError>
-    requires { prefix_len is_plain bytes.now ≡ 0 }
     ensures ok { OnOk result (to.new.items ≡ to.old.items ++ printable bytes.now) }
     ensures err { OnErr result (Grew to.old.items to.new.items) }
 {
+    let Some(room) = bytes.len().checked_mul(4) else {
+        return Err(AllocError);
+    };
+    to.reserve(room)?;
     let mut left = bytes;
     while let [byte, rest @ ..] = left {
-        let (run, after) = split_plain(rest);
-        add_escape(to, *byte)?;
-        add_run(to, run)?;
-        left = after;
+        left = match *byte {
+            b'\\' => add_escape(to, b'\\', rest)?,
+            byte if is_plain(byte) => {
+                to.push_reserved(byte);
+                rest
+            }
+            byte => add_escape(to, byte, rest)?,
+        };
     }
     Ok(())
 }

@@ -4,7 +4,7 @@ ghost use Rattle.std.specs.Prelude.{◌≡◌, ◌+◌, ◌≤◌, ◌∷◌, le
 ghost use Rattle.line_rules.specs.Reading.{piece_at, escaped_piece, hexadecimal_piece, digit_of, text_of};
 ghost use Rattle.dump_text.specs.Texts.{piece_is, stop_is, text_is, with_front, passed};
 
-use crate::plain::{add_run, is_plain, split_plain};
+use crate::plain::{add_run, is_plain, split_many, split_plain};
 use key_bytes::Bytes;
 use std::alloc::{AllocError, Global};
 
@@ -13,7 +13,9 @@ use std::alloc::{AllocError, Global};
 pub enum Piece<'a> {
     /// No byte is left.
     Nothing,
-    /// A byte is spelled.
+    /// A byte stands for itself.
+    Plain(u8, &'a [u8]),
+    /// A byte is spelled otherwise.
     Spelled(u8, &'a [u8]),
     /// The separator stands.
     Separator(&'a [u8]),
@@ -40,17 +42,28 @@ pub struct ReadText<'a> {
     pub left: &'a [u8],
 }
 
+/// The value of each byte as a hexadecimal digit, 16 where it is none.
+pub(crate) const DIGITS: [u8; 256] = [
+    16, 16, 16, 16, 16, 16, 16, 16, 16, 16, 16, 16, 16, 16, 16, 16, 16, 16, 16, 16, 16, 16, 16, 16,
+    16, 16, 16, 16, 16, 16, 16, 16, 16, 16, 16, 16, 16, 16, 16, 16, 16, 16, 16, 16, 16, 16, 16, 16,
+    0, 1, 2, 3, 4, 5, 6, 7, 8, 9, 16, 16, 16, 16, 16, 16, 16, 16, 16, 16, 16, 16, 16, 16, 16, 16,
+    16, 16, 16, 16, 16, 16, 16, 16, 16, 16, 16, 16, 16, 16, 16, 16, 16, 16, 16, 16, 16, 16, 16, 10,
+    11, 12, 13, 14, 15, 16, 16, 16, 16, 16, 16, 16, 16, 16, 16, 16, 16, 16, 16, 16, 16, 16, 16, 16,
+    16, 16, 16, 16, 16, 16, 16, 16, 16, 16, 16, 16, 16, 16, 16, 16, 16, 16, 16, 16, 16, 16, 16, 16,
+    16, 16, 16, 16, 16, 16, 16, 16, 16, 16, 16, 16, 16, 16, 16, 16, 16, 16, 16, 16, 16, 16, 16, 16,
+    16, 16, 16, 16, 16, 16, 16, 16, 16, 16, 16, 16, 16, 16, 16, 16, 16, 16, 16, 16, 16, 16, 16, 16,
+    16, 16, 16, 16, 16, 16, 16, 16, 16, 16, 16, 16, 16, 16, 16, 16, 16, 16, 16, 16, 16, 16, 16, 16,
+    16, 16, 16, 16, 16, 16, 16, 16, 16, 16, 16, 16, 16, 16, 16, 16, 16, 16, 16, 16, 16, 16, 16, 16,
+    16, 16, 16, 16, 16, 16, 16, 16, 16, 16, 16, 16, 16, 16,
+];
+
 // The value of a hexadecimal digit, 16 for any other byte. It takes no memory.
 #[inline(always)]
 fn digit_of(byte: u8) -> u8
     ensures value { result ≡ digit_of byte }
     ensures small { result ≤ 16 }
 {
-    match byte {
-        b'0'..=b'9' => byte - b'0',
-        b'a'..=b'f' => byte - b'a' + 10,
-        _ => 16,
-    }
+    DIGITS[usize::from(byte)]
 }
 
 // A byte that has no shorter spelling, by its two digits. It takes no memory.
@@ -92,7 +105,7 @@ fn piece_of(bytes: &[u8]) -> Piece<'_>
     match bytes {
         [] => Piece::Nothing,
         [b'\\', rest @ ..] => escaped_piece(rest),
-        [byte, rest @ ..] if is_plain(*byte) => Piece::Spelled(*byte, rest),
+        [byte, rest @ ..] if is_plain(*byte) => Piece::Plain(*byte, rest),
         _ => Piece::Unfit,
     }
 }
@@ -112,7 +125,8 @@ fn copy_up_to<'a>(
     Ok(ReadText { bytes, stop, left })
 }
 
-// What a run and the bytes behind it spell. It is built in the scratch buffer, whatever that held.
+// What a run and the bytes behind it spell. It is built in the scratch buffer, whatever that held, byte by byte but for
+// long runs: no more bytes are spelled than are left.
 #[inline(never)]
 fn read_on<'a>(
     alloc: Global,
@@ -125,12 +139,17 @@ fn read_on<'a>(
 {
     scratch.clear();
     add_run(scratch, run)?;
+    scratch.reserve(bytes.len())?;
     let mut left = bytes;
     loop {
         match piece_of(left) {
+            Piece::Plain(byte, rest) => {
+                scratch.push_reserved(byte);
+                left = rest;
+            }
             Piece::Spelled(byte, rest) => {
-                let (plain, after) = split_plain(rest);
-                scratch.push(byte)?;
+                let (plain, after) = split_many(rest);
+                scratch.push_reserved(byte);
                 add_run(scratch, plain)?;
                 left = after;
             }
@@ -153,10 +172,9 @@ pub fn read_text<'a>(
     ensures within { IfOk result (λ text. length text.left.now + passed text.stop ≤ length bytes.now) }
 {
     let (run, left) = split_plain(bytes);
-    match piece_of(left) {
-        Piece::Spelled(..) => read_on(alloc, scratch, run, left),
-        Piece::Nothing => copy_up_to(alloc, run, Stop::AtEnd, left),
-        Piece::Separator(rest) => copy_up_to(alloc, run, Stop::AtSeparator, rest),
-        Piece::Unfit => copy_up_to(alloc, run, Stop::AtFault, left),
+    match left {
+        [] => copy_up_to(alloc, run, Stop::AtEnd, left),
+        [b'\\', b'=', rest @ ..] => copy_up_to(alloc, run, Stop::AtSeparator, rest),
+        _ => read_on(alloc, scratch, run, left),
     }
 }

@@ -1,14 +1,14 @@
-use Rattle.std.proofs.Common.{◌≡◌, ◌++◌, length}
-use Rattle.std.specs.List.{prefix_len}
-use Rattle.line_rules.specs.Printing.{is_plain, printable}
+use Rattle.std.proofs.Common.{◌≡◌, ◌+◌, ◌*◌, ◌≤◌, ◌++◌, length}
+use Rattle.std.specs.Vec.{vec_len, vec_capacity}
+use Rattle.line_rules.specs.Printing.{printable}
 use Rattle.dump_text.specs.Growing.{Grew}
 use Rattle.dump_text.proofs.printing.add_escaped.Given as goal
 
--- what was added, before what is still to add, is all, and what is left doesn't begin with a plain byte
+-- what was added, before what is still to add, is all, and there is room for what is still to add
 abbrev pub invariant-loop-left : goal.invariant-loop-left
 invariant-loop-left l = record {
   all : l.to.items ++ printable l.left ≡ l.fn.to.items ++ printable l.bytes;
-  stopped : prefix_len is_plain l.left ≡ 0;
+  room : vec_len l.to + 4 * length l.left ≤ vec_capacity l.to;
   grew : Grew l.fn.to.items l.to.items;
 }
 

@@ -1,12 +1,9 @@
 use Rattle.std.proofs.Common.{◌≡◌, ℕ, List, ◌++◌, sym, ◌∙◌, arith}
 use Rattle.std.proofs.lemmas.Bool.{eqb-true}
 use Rattle.std.proofs.lemmas.Result.{on_ok_weaker}
-use Rattle.line_rules.specs.Printing.{is_plain, printable}
-use Rattle.dump_text.proofs.Runs.{after_stops, parts_printed, print_done}
+use Rattle.line_rules.specs.Printing.{printable}
+use Rattle.dump_text.proofs.Runs.{parts_printed, print_done}
 use Rattle.dump_text.proofs.printing.add_printable.Goals as goal
-
-pub add_escaped-requires : goal.add_escaped-requires
-add_escaped-requires c = rw c.split_plain.ensures.rest (after_stops is_plain c.args.bytes.now)
 
 pub returns-then-is_empty-clause-ok : goal.returns-then-is_empty-clause-ok
 returns-then-is_empty-clause-ok c =

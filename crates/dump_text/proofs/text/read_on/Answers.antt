@@ -3,30 +3,57 @@ use Rattle.std.specs.Prelude.{IfOk}
 use Rattle.std.proofs.lemmas.Result.{IfOk-weaker}
 use Rattle.line_rules.specs.Reading.{text_of}
 use Rattle.dump_text.specs.Texts.{with_front, text_is}
-use Rattle.dump_text.proofs.Pieces.{step_within, separator_within, read_more, done_nothing, done_separator, done_unfit}
+use Rattle.dump_text.proofs.Pieces.{read_one, read_more, spelled_within, separator_within, done_nothing, done_separator, done_unfit}
 use Rattle.dump_text.proofs.text.read_on.Goals as goal
+
+pub push_reserved-requires : goal.push_reserved-requires
+push_reserved-requires c =
+    let p = c.in-Plain in
+    omega (arith, spelled_within c.loop-byte.left.now p.rest.now p.byte p.ensures, c.loop-byte.invariant.room)
+
+pub loop-byte-smaller-in-Plain : goal.loop-byte-smaller-in-Plain
+loop-byte-smaller-in-Plain c =
+    let p = c.in-Plain in
+    omega (arith, spelled_within c.loop-byte.left.now p.rest.now p.byte p.ensures)
+
+pub loop-byte-preserved-in-Plain : goal.loop-byte-preserved-in-Plain
+loop-byte-preserved-in-Plain c =
+    let p = c.in-Plain in
+    let put = c.push_reserved.ensures in
+    let left = c.loop-byte.left.now in
+    let total = with_front c.args.run.now (text_of c.args.bytes.now) in
+    let less = spelled_within left p.rest.now p.byte p.ensures in
+    record {
+      all = rw put.items (read_one c.loop-byte.scratch.items left p.rest.now p.byte total p.ensures c.loop-byte.invariant.all);
+      within = omega (arith, less, c.loop-byte.invariant.within);
+      room = omega (arith, less, put.len, put.capacity, c.loop-byte.invariant.room);
+    }
+
+pub push_reserved-requires-in-Spelled : goal.push_reserved-requires-in-Spelled
+push_reserved-requires-in-Spelled c =
+    let p = c.in-Spelled in
+    omega (arith, spelled_within c.loop-byte.left.now p.rest.now p.byte p.ensures, c.loop-byte.invariant.room)
 
 pub loop-byte-smaller : goal.loop-byte-smaller
 loop-byte-smaller c =
-    let s = c.split_plain in
     let p = c.in-Spelled in
-    let left = c.loop-byte.left.now in
-    omega (arith, step_within left p.rest.now s.result.0.now s.result.1.now p.byte p.ensures s.ensures.front s.ensures.rest)
+    omega (arith, spelled_within c.loop-byte.left.now p.rest.now p.byte p.ensures, c.split_many.ensures.whole)
 
 pub loop-byte-preserved : goal.loop-byte-preserved
 loop-byte-preserved c =
-    let s = c.split_plain in
+    let s = c.split_many in
     let p = c.in-Spelled in
+    let put = c.push_reserved-in-Spelled.ensures in
+    let run = c.in_ok-add_run-in-Spelled.ensures in
     let front = c.loop-byte.scratch.items in
     let left = c.loop-byte.left.now in
-    let items : c.add_run-in-Spelled.new.to.items ≡ (front ++ p.byte ∷ []) ++ s.result.0.now =
-    rw (c.in_ok-add_run-in-Spelled.ensures.ok, c.in_ok-push-in-Spelled.ensures.items) refl in
+    let items : c.add_run-in-Spelled.new.to.items ≡ (front ++ p.byte ∷ []) ++ s.result.0.now = rw (run.ok, put.items) refl in
     let total = with_front c.args.run.now (text_of c.args.bytes.now) in
-    let all = read_more front left p.rest.now s.result.0.now s.result.1.now p.byte total
-    p.ensures s.ensures.front s.ensures.rest c.loop-byte.invariant.all in
+    let less = spelled_within left p.rest.now p.byte p.ensures in
     record {
-      all = rw items all;
-      within = omega (arith, step_within left p.rest.now s.result.0.now s.result.1.now p.byte p.ensures s.ensures.front s.ensures.rest);
+      all = rw items (read_more front left p.rest.now s.result.0.now s.result.1.now p.byte total p.ensures s.ensures.read c.loop-byte.invariant.all);
+      within = omega (arith, less, s.ensures.whole, c.loop-byte.invariant.within);
+      room = omega (arith, less, s.ensures.whole, run.len, run.capacity, put.len, put.capacity, c.loop-byte.invariant.room);
     }
 
 pub returns-in-Nothing-clause-value : goal.returns-in-Nothing-clause-value
