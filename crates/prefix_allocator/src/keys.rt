@@ -86,9 +86,7 @@ fn key_behind(alloc: Global, prefix: &Key, number: u64) -> Result<Key, AllocErro
     ensures { IfOk result (λ key. key ≡ prefix.now ++ packed number) }
 {
     let packed = pack_element(alloc, &Elem::Int(i128::from(number)))?;
-    let len = prefix.len().saturating_add(packed.len());
-    let mut key = Vec::with_capacity(alloc, len)?;
-    key.extend_from_slice(prefix.as_slice())?;
-    key.extend_from_slice(packed.as_slice())?;
-    Bytes::from_vec(key)
+    let mut key = prefix.copy()?;
+    key.extend(packed.as_slice())?;
+    Ok(key)
 }
