@@ -14,10 +14,6 @@ mod replaying;
 mod running;
 mod summing;
 mod telling;
-#[cfg(test)]
-mod tests;
-#[cfg(test)]
-mod tests_waits;
 mod threading;
 mod top;
 

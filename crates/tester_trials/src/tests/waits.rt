@@ -1,13 +1,10 @@
 //! Waits of a machine with three polls over the core.
 
-use crate::threading::run_threaded;
-use command_words::RunArgs;
-use key_bytes::{Bytes, Key, Pair, Pairs};
-use outside::OpenGate;
-use std::alloc::{AllocError, Global};
-use std::sync::Wait;
-use std::test::Fail;
-use std::thread::Threads;
+use super::*;
+use dump_text::write_pair_line;
+use key_bytes::{Bytes, Key};
+
+const THREE_POLLS: [&str; 5] = ["run", "p", "630", "--polls", "3"];
 
 // How the lines of instructions begin.
 const INSTRUCTION: &[u8] = b"K \\x01p\\x00";
@@ -23,15 +20,14 @@ fn key_of(alloc: Global, number: usize) -> Result<Key, AllocError> {
     Ok(key)
 }
 
-// The pairs of these instructions.
-fn pairs_of(alloc: Global, values: &[&[u8]]) -> Result<Pairs, AllocError> {
-    let mut pairs = Pairs::new(alloc);
+// The lines of these instructions.
+fn lines_of(alloc: Global, values: &[&[u8]]) -> Result<Vec<u8>, AllocError> {
+    let mut lines = Vec::new(alloc);
     for (number, value) in values.iter().enumerate() {
         let key = key_of(alloc, number)?;
-        let value = Bytes::from_slice(alloc, value)?;
-        pairs.push(Pair { key, value })?;
+        write_pair_line(&mut lines, key.as_slice(), value)?;
     }
-    Ok(pairs)
+    Ok(lines)
 }
 
 // A text without the lines of instructions.
@@ -56,19 +52,8 @@ fn dumped<R: Threads + Wait + Sync + Clone + Drop + Send + 'static>(
     alloc: Global,
     instructions: &[&[u8]],
 ) -> Result<Vec<u8>, AllocError> {
-    let arguments = RunArgs {
-        prefix: Bytes::from_slice(alloc, b"p")?,
-        seed: 0,
-        polls: 3,
-    };
-    let rendered = run_threaded(
-        rt,
-        alloc,
-        &OpenGate,
-        &arguments,
-        pairs_of(alloc, instructions)?,
-    )?;
-    without_instructions(alloc, &rendered.output)
+    let report = ran(rt, alloc, &THREE_POLLS, &lines_of(alloc, instructions)?)?;
+    without_instructions(alloc, &report.written)
 }
 
 // Instructions, and the dump of their run.

@@ -1,14 +1,15 @@
-use super::*;
 use outside::{MemSink, MemSource, OpenGate, Source, Taken};
 use std::alloc::{AllocError, Global};
 use std::sync::Wait;
 use std::test::Fail;
 use std::thread::Threads;
+use tester_run::{ArgWords, status_over_bytes, tester};
 
 mod directories;
 mod machines;
 mod replays;
 mod threads;
+mod waits;
 
 const WORDS: [&str; 3] = ["run", "p", "630"];
 
