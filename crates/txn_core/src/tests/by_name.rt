@@ -260,7 +260,7 @@ fn written_index(alloc: Global) -> Result<WriteIndex, AllocError> {
     let mut ranges = RangeSet::new(alloc);
     ranges.add(&range_of(alloc, b"a", b"c")?)?;
     let mut index = WriteIndex::new(alloc);
-    index.reserve(&ranges)?;
+    index.reserve(&ranges, 1)?;
     index.install(ranges, 1);
     Ok(index)
 }
