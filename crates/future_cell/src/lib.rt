@@ -31,6 +31,7 @@
 //! - `on_ready` answers `Parked` exactly where its one look found `EMPTY`, and `RanHere` exactly where it found `SET`.
 //! - `settle` gives the value that was set, which is the value that was shown. The receipt's `ran` is true exactly where
 //!   `on_ready` answered `Parked`. The settled `ran` is 1 where a callback was registered, and 0 where none was.
+//!   `settle_in_place` says the same, and keeps the cell's memory taken.
 //! - After `wait` the value is shown, and a callback is registered. After `wait_in` the value is shown, or memory was wanting and
 //!   none is registered.
 //! - Only `pair`, `wakes` and `wait_in` take memory, and nothing else can fail.
@@ -38,7 +39,7 @@
 //! None of `set`, `on_ready`, `peek` and `settle` takes a handle to wait by, so none of them takes a lock.
 //!
 //! A callback is handed over by value and `Call::run` uses it up, so it runs at most once. Neither the value nor the
-//! callback has to be `Drop`, and no code here can throw away one that is not. No clause can say that `run` was called:
+//! callback has to be `Drop` but for `settle_in_place`, and no code here can throw away one that is not. No clause can say that `run` was called:
 //! that a parked callback runs inside `set`, and any other one inside `on_ready`, is tested, and so is that a wake wakes
 //! the sleeper it was made with. Which word a look found is told by the step of that look alone, so it is also tested that
 //! `peek` shows a value which was set. Nothing is said of progress, or of when a sleeping thread wakes.
@@ -61,7 +62,7 @@ mod word;
 
 pub use callback::{Call, Ready, Registered};
 pub use setter::{Receipt, Setter};
-pub use settling::{Settled, pair, settle};
+pub use settling::{Settled, pair, settle, settle_in_place};
 pub use waiter::Waiter;
 pub use wake::{Sleeper, Wake, wakes};
 pub use word::{EMPTY, PARKED, SET};

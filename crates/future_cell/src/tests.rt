@@ -189,18 +189,27 @@ fn a_parked_callback_runs_inside_set(rt: HostRuntime) -> Result<(), Fail> {
     Ok(())
 }
 
-// What a waiter shows before the value is set, and then the value, and how many callbacks ran.
-fn told_without_a_callback(alloc: Global) -> Result<(Option<u64>, u64, u8), AllocError> {
+// What a waiter shows before the value is set, and then the value, and how many callbacks ran, of a cell that is settled in place or
+// not.
+fn told_without_a_callback(
+    alloc: Global,
+    in_place: bool,
+) -> Result<(Option<u64>, u64, u8), AllocError> {
     let (setter, mut waiter) = pair::<u64, Raise>(alloc)?;
     let shown = waiter.peek().copied();
     let receipt = setter.set(7);
-    let settled = settle(receipt, waiter);
+    let settled = if in_place {
+        settle_in_place(receipt, waiter)
+    } else {
+        settle(receipt, waiter)
+    };
     Ok((shown, *settled.value(), settled.ran()))
 }
 
 #[test]
 fn a_cell_settles_without_a_callback(rt: HostRuntime) -> Result<(), Fail> {
-    assert_eq!(rt; told_without_a_callback(rt.alloc())?, (None, 7, 0));
+    assert_eq!(rt; told_without_a_callback(rt.alloc(), false)?, (None, 7, 0));
+    assert_eq!(rt; told_without_a_callback(rt.alloc(), true)?, (None, 7, 0));
     Ok(())
 }
 

@@ -15,7 +15,7 @@ ghost use Rattle.machine_threads.specs.Closing.{AreNumbered, AreSettled};
 
 use crate::threaded::ThreadedMachine;
 use fdb_calls::Reply;
-use future_cell::{Receipt, Waiter, Wake, settle};
+use future_cell::{Receipt, Waiter, Wake, settle_in_place};
 use input_rules::Order;
 use machine_seat::Seat;
 use network::{Post, Receipts};
@@ -154,12 +154,12 @@ fn settle_each(
     Ok(seats)
 }
 
-// Settles each waiter of a machine against its receipt. It takes no memory.
+// Settles each waiter of a machine against its receipt, in place: the run is about to end. It takes no memory.
 fn settle_all(receipts: Vec<Receipt<Reply, Wake>>, waiters: Vec<Waiter<Reply, Wake>>)
     requires { cells_of receipts.items ≡ map waiter_cell waiters.items }
     ensures { (replies : List Reply) → shown_by waiters.items ≡ map Some replies → replies_of receipts.items ≡ map Some replies }
 {
     for (receipt, waiter) in receipts.into_iter().zip(waiters) {
-        drop(settle(receipt, waiter));
+        drop(settle_in_place(receipt, waiter));
     }
 }

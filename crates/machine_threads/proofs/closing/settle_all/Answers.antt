@@ -7,8 +7,8 @@ use Rattle.std.proofs.lemmas.Iterator.Consumers.{YieldsList-at, YieldsList-turn,
 use Rattle.machine_threads.proofs.Settling.{are_answered, as_many_waiters, cells_at, is_answered, IsAnswered}
 use Rattle.machine_threads.proofs.closing.settle_all.Goals as goal
 
-pub settle-requires : goal.settle-requires
-settle-requires c =
+pub settle_in_place-requires : goal.settle_in_place-requires
+settle_in_place-requires c =
     let receipts = c.args.receipts in
     let waiters = c.args.waiters in
     let road = YieldsList-at c.into_iter-receipt-iterator.ensures.into_iter_gives (YieldsList-from_zip
@@ -19,7 +19,7 @@ settle-requires c =
 
 pub loop-receipt-preserved : goal.loop-receipt-preserved
 loop-receipt-preserved c = All-push IsAnswered c.loop-receipt.yielded (c.in-Some.receipt, c.in-Some.waiter) c.loop-receipt.invariant
-    (is_answered c.in-Some.receipt c.in-Some.waiter c.settle.result.value c.settle.ensures.value c.settle.ensures.shown)
+    (is_answered c.in-Some.receipt c.in-Some.waiter c.settle_in_place.result.value c.settle_in_place.ensures.value c.settle_in_place.ensures.shown)
 
 pub returns : goal.returns
 returns c =
