@@ -28,10 +28,3 @@ pub use packing::{pack, pack_element, pack_element_into, pack_into, pack_with_st
 pub use text::Text;
 pub use tuple::{Elem, Tuple, Versionstamp};
 pub use unpacking::unpack;
-
-#[cfg(test)]
-mod tests;
-#[cfg(test)]
-mod tests_order;
-#[cfg(test)]
-mod tests_unpack;

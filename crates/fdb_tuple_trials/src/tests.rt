@@ -1,7 +1,13 @@
-use super::*;
+use fdb_tuple::{
+    Elem, PushFault, StampPackFault, Text, Tuple, Versionstamp, pack, pack_element,
+    pack_element_into, pack_into, pack_with_stamp, packed_len, range,
+};
 use key_bytes::{Bytes, KeyRange};
 use std::alloc::{AllocError, Global};
 use std::test::Fail;
+
+mod order;
+mod unpacking;
 
 // Integers as they are packed.
 const INTEGERS: &[(i128, &[u8])] = &[
@@ -39,16 +45,16 @@ const NESTED: &[u8] = b"\x05\x01foo\x00\xFFbar\x00\x00\xFF\x05\x00\x00";
 
 const UUID: [u8; 16] = *b"\x00\x11\x22\x33\x44\x55\x66\x77\x88\x99\xAA\xBB\xCC\xDD\xEE\xFF";
 
-pub(super) fn bytes(alloc: Global, bytes: &[u8]) -> Option<Elem> {
+fn bytes(alloc: Global, bytes: &[u8]) -> Option<Elem> {
     Some(Elem::Bytes(Bytes::from_slice(alloc, bytes).ok()?))
 }
 
-pub(super) fn text(alloc: Global, text: &str) -> Option<Elem> {
+fn text(alloc: Global, text: &str) -> Option<Elem> {
     Some(Elem::Text(Text::from_str(alloc, text).ok()?))
 }
 
 // The element that is a tuple.
-pub(super) fn inside(tuple: Option<Tuple>) -> Option<Elem> {
+fn inside(tuple: Option<Tuple>) -> Option<Elem> {
     match tuple {
         Some(tuple) => Some(Elem::Nested(tuple)),
         None => None,
@@ -56,7 +62,7 @@ pub(super) fn inside(tuple: Option<Tuple>) -> Option<Elem> {
 }
 
 // A tuple with one element more; none where one of the two is none, or after a refusal.
-pub(super) fn longer(tuple: Option<Tuple>, element: Option<Elem>) -> Option<Tuple> {
+fn longer(tuple: Option<Tuple>, element: Option<Elem>) -> Option<Tuple> {
     match (tuple, element) {
         (Some(mut tuple), Some(element)) => match tuple.push(element) {
             Ok(()) => Some(tuple),
@@ -66,7 +72,7 @@ pub(super) fn longer(tuple: Option<Tuple>, element: Option<Elem>) -> Option<Tupl
     }
 }
 
-pub(super) fn tuple_of(alloc: Global, element: Option<Elem>) -> Option<Tuple> {
+fn tuple_of(alloc: Global, element: Option<Elem>) -> Option<Tuple> {
     longer(Some(Tuple::new(alloc)), element)
 }
 

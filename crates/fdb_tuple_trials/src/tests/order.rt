@@ -2,8 +2,8 @@
 
 ghost use Rattle.std.specs.Prelude.{◌<◌};
 
-use super::tests::{bytes, inside, longer, text, tuple_of};
-use super::*;
+use super::{bytes, inside, longer, text, tuple_of};
+use fdb_tuple::{Elem, Tuple, Versionstamp, cmp, pack};
 use key_bytes::Bytes;
 use std::alloc::Global;
 use std::cmp::Ordering;

@@ -1,9 +1,9 @@
 //! `unpack` over bytes that it takes and bytes that it refuses. What it is to answer was worked out by hand from the
 //! table of the tuple layer (tuple.md).
 
-use super::UnpackFault::{BadCode, BadUtf8, NoMemory, NotMinimal, TooBig, TooDeep, Truncated};
-use super::tests::{bytes, inside, longer, text, tuple_of};
-use super::*;
+use super::{bytes, inside, longer, text, tuple_of};
+use UnpackFault::{BadCode, BadUtf8, NoMemory, NotMinimal, TooBig, TooDeep, Truncated};
+use fdb_tuple::{Elem, Tuple, UnpackFault, Versionstamp, cmp, pack, unpack};
 use std::alloc::Global;
 
 // Bytes with a fault in their first faulty element, and the fault.
