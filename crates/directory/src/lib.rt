@@ -27,8 +27,6 @@ mod moving;
 mod nodes;
 mod prefixes;
 mod removing;
-#[cfg(test)]
-mod tests;
 
 use crate::creating::{CREATE_OR_OPEN, make_or_open};
 use crate::listing::{is_there, names_below};

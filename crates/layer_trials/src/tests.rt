@@ -1,11 +1,13 @@
-use super::*;
-use directory_types::{DirKind, Path};
+use directory::{
+    create, create_or_open, exists, list, log, move_to, open, remove, remove_if_exists,
+};
+use directory_types::{DirArgs, DirFault, DirKind, DirReply, Layer, Path};
 use fdb_tuple::Text;
 use key_bytes::{Bytes, Pair, Pairs};
 use lists::List;
 use outside::ListWords;
 use shelf::Shelf;
-use std::alloc::AllocError;
+use std::alloc::{AllocError, Global};
 use std::fmt::Write;
 
 mod refusals;
