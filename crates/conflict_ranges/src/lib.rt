@@ -25,6 +25,3 @@ mod write_index;
 pub use range_set::RangeSet;
 pub use ranges_left::RangesLeft;
 pub use write_index::WriteIndex;
-
-#[cfg(test)]
-mod tests;

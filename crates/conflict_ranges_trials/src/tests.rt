@@ -1,6 +1,6 @@
 ghost use Rattle.std.specs.Prelude.{◌<◌};
 
-use super::*;
+use conflict_ranges::{RangeSet, WriteIndex};
 use key_bytes::{Bytes, Key, KeyRange};
 use std::alloc::{AllocError, Global};
 use std::test::Fail;
