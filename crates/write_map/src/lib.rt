@@ -21,6 +21,3 @@ pub use edits::{AtomicEdit, AtomicEdits};
 pub use mutation::Mutation;
 pub use state::KeyState;
 pub use write_map::WriteMap;
-
-#[cfg(test)]
-mod tests;

@@ -1,9 +1,9 @@
-use super::*;
 use atomic_ops::has_room;
 use database_rules::AtomicOp;
 use key_bytes::{Bytes, Key, KeyRange};
 use std::alloc::{AllocError, Global};
 use std::test::Fail;
+use write_map::{AtomicEdits, KeyState, Mutation, WriteMap};
 
 fn range_of(alloc: Global, begin: &[u8], end: &[u8]) -> Result<KeyRange, AllocError> {
     let begin = Bytes::from_slice(alloc, begin)?;
