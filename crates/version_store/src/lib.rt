@@ -18,6 +18,3 @@ pub use changes::{Change, Changes};
 pub use fault::VersionFault;
 pub use pairs_left::PairsLeft;
 pub use store::Store;
-
-#[cfg(test)]
-mod tests;

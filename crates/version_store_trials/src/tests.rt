@@ -4,10 +4,10 @@ ghost use Rattle.std.specs.List.{flat_map};
 ghost use Rattle.version_store.specs.Changed.{changed};
 ghost use Rattle.version_store.specs.Versions.{at, last_of};
 
-use super::*;
 use key_bytes::{Bytes, Key, Pair, Pairs};
 use std::alloc::{AllocError, Global};
 use std::test::Fail;
+use version_store::{Change, Changes, PairsLeft, Store, VersionFault};
 
 mod large;
 

@@ -3,10 +3,10 @@
 ghost use Rattle.std.specs.Prelude.{◌<◌};
 
 use super::{add, commit_next, key_of, pair_of};
-use crate::{Changes, Store};
 use key_bytes::Pairs;
 use std::alloc::{AllocError, Global};
 use std::test::Fail;
+use version_store::{Changes, Store};
 
 const MANY: u32 = 20_000;
 
