@@ -26,6 +26,3 @@ pub use fault::ViewFault;
 pub use near::NearView;
 pub use undecided::{add_undecided, hides};
 pub use view::View;
-
-#[cfg(test)]
-mod tests;

@@ -1,7 +1,7 @@
-use super::*;
 use database_rules::{AtomicOp, Mode, Selector};
 use key_bytes::{Bytes, Key, KeyRange, Pair, Pairs};
 use range_read::{OrderedView, RangeFault, all};
+use ryw_view::{NearView, View, ViewFault, add_undecided, hides};
 use std::alloc::{AllocError, Global};
 use std::test::Fail;
 use version_store::Store;
