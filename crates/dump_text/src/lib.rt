@@ -25,6 +25,3 @@ pub use writing::{
     write_error_line, write_item_line, write_line, write_machine_line, write_order_line,
     write_pair_line,
 };
-
-#[cfg(test)]
-mod tests;

@@ -1,4 +1,7 @@
-use super::*;
+use dump_text::{
+    EndWord, Form, Line, LineFault, Order, read_lines, write_error_line, write_item_line,
+    write_line, write_machine_line, write_order_line, write_pair_line, write_printable,
+};
 use key_bytes::Bytes;
 use std::alloc::{AllocError, Global};
 use std::test::Fail;
