@@ -22,8 +22,3 @@ pub use kinds::bytes_of;
 pub use machine_rules::{Item, ItemValue, StackOperation};
 pub use operands::Operands;
 pub use stack::Stack;
-
-#[cfg(test)]
-mod tests;
-#[cfg(test)]
-mod tests_by_name;

@@ -1,6 +1,6 @@
-use super::*;
 use fdb_tuple::Elem;
 use key_bytes::Bytes;
+use stack_items::{Stack, StackFault};
 use std::alloc::{AllocError, Global};
 use std::test::Fail;
 

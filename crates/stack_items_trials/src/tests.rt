@@ -1,4 +1,3 @@
-use super::*;
 use StackOperation::{
     Concat, Dup, EmptyStack, GetApproximateSize, GetEstimatedRangeSize, Pop, Sub, Swap, TuplePack,
     TuplePackWithVersionstamp, TupleRange, TupleSort, TupleUnpack, UnitTests, WaitFuture,
@@ -6,8 +5,11 @@ use StackOperation::{
 use database_rules::Mode;
 use fdb_tuple::{Elem, Text, Versionstamp};
 use key_bytes::{Bytes, Pairs};
+use stack_items::{Item, ItemValue, Operands, Stack, StackFault, StackOperation, bytes_of};
 use std::alloc::Global;
 use std::test::Fail;
+
+mod by_name;
 
 // The number of the instruction that runs an operation.
 const RUN: u64 = 90;
