@@ -20,6 +20,3 @@ pub use fault_names::{digits_of, fault_name};
 pub use objects::directory_of;
 pub use operate::directed;
 pub use outcomes::{Directed, ListFault};
-
-#[cfg(test)]
-mod tests;

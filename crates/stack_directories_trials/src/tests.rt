@@ -1,9 +1,9 @@
-use super::*;
 use directory_types::{DirFault, DirKind, Layer, Path};
 use fdb_calls::{Code, Request};
 use fdb_tuple::{Elem, Text};
 use key_bytes::Bytes;
 use machine_rules::{DirectoryOperation, Object, Scope};
+use stack_directories::{Directed, Directories, digits_of, directed, directory_of, fault_name};
 use stack_items::Stack;
 use std::alloc::Global;
 use std::fmt::Write;
