@@ -21,10 +21,3 @@ mod requests;
 pub use errors::Errors;
 pub use machine::{Machine, Step};
 pub use machine_rules::{End, ErrorNote, State};
-
-#[cfg(test)]
-mod tests;
-#[cfg(test)]
-mod tests_registers;
-#[cfg(test)]
-mod tests_waits;

@@ -1,40 +1,22 @@
-ghost use Rattle.std.specs.Prelude.{◌≤◌, IfOk};
-ghost use Rattle.fdb_tuple.specs.Listed.{IsElement};
+//! Instructions over items, each run by a machine of its own.
 
-use crate::act::Act;
-use crate::registers::Registers;
-use crate::tests::Course;
-use Course::{Asks, Bad, Under};
-use DatabaseOperation::{Get, GetKey, GetRange, GetRangeSelector, GetRangeStartsWith};
+ghost use Rattle.std.specs.Prelude.{◌≤◌};
+
+use super::*;
 use Lying::{Bool, Int, Str};
-use TransactionOperation::{
-    DisableWriteConflict, GetCommittedVersion, GetReadVersion, ReadConflictKey, ReadConflictRange,
-    SetReadVersion, WriteConflictKey, WriteConflictRange,
-};
-use fdb_calls::{Code, Reply, Request, TxnCall};
-use fdb_tuple::Elem;
-use key_bytes::{Bytes, KeyRange, Pair, Pairs};
-use machine_rules::{
-    Awaits, DatabaseOperation, End, Instruction, ItemValue, Scope, TransactionOperation,
-};
-use stack_items::bytes_of;
-use std::alloc::{AllocError, Global};
-use std::test::Fail;
-
-// The number of the instruction that is run.
-const RUN: u64 = 90;
+use fdb_calls::{Code, Reply};
+use key_bytes::KeyRange;
+use machine_rules::{Awaits, ItemValue};
 
 // An item that lies on the stack before an instruction.
 #[derive(Clone, Copy)]
-enum Lying {
+pub(super) enum Lying {
     Str(&'static [u8]),
     Int(i128),
     Bool(bool),
 }
 
-fn element(alloc: Global, item: Lying) -> Result<Elem, AllocError>
-    ensures { IfOk result IsElement }
-{
+fn element(alloc: Global, item: Lying) -> Result<Elem, AllocError> {
     match item {
         Lying::Str(bytes) => Ok(Elem::Bytes(Bytes::from_slice(alloc, bytes)?)),
         Lying::Int(value) => Ok(Elem::Int(value)),
@@ -42,21 +24,47 @@ fn element(alloc: Global, item: Lying) -> Result<Elem, AllocError>
     }
 }
 
-// What the tests do with registers. What does it by the trait knows no more of them, so that its proof sees nothing of what
-// they hold.
-trait Worked {
-    // Lays an item on the stack, by the instruction of this number.
-    fn lay(&mut self, alloc: Global, item: Lying, number: u64) -> Result<(), AllocError>;
+// The value of an instruction that pushes an item.
+fn pushing(alloc: Global, item: Lying) -> Result<Bytes, AllocError> {
+    let packed = pack_element(alloc, &element(alloc, item)?)?;
+    let mut value = Bytes::from_slice(alloc, b"\x02PUSH\x00")?;
+    value.extend(packed.as_slice())?;
+    Ok(value)
+}
 
-    // What an instruction comes to: a call on the database, one on the transaction, and LOG_STACK.
-    fn call(&mut self, operation: DatabaseOperation, scope: Scope) -> Result<Act, AllocError>;
+fn add(alloc: Global, instructions: &mut Pairs, value: Bytes) -> Result<(), AllocError> {
+    let key = Bytes::new(alloc);
+    instructions.push(Pair { key, value })
+}
 
-    fn work(&mut self, operation: TransactionOperation) -> Result<Act, AllocError>;
+// Instructions that push these items, the first the oldest, and then those of these names.
+fn instructions_of(alloc: Global, items: &[Lying], names: &[&[u8]]) -> Result<Pairs, AllocError> {
+    let mut instructions = Pairs::new(alloc);
+    for item in items {
+        add(alloc, &mut instructions, pushing(alloc, *item)?)?;
+    }
+    for name in names {
+        add(alloc, &mut instructions, value_of_text(alloc, name)?)?;
+    }
+    Ok(instructions)
+}
 
-    fn log(&mut self) -> Result<Act, AllocError>;
+// A machine under the prefix `p` with these instructions.
+pub(super) fn machine_over(
+    alloc: Global,
+    items: &[Lying],
+    names: &[&[u8]],
+) -> Result<Machine, AllocError> {
+    let instructions = instructions_of(alloc, items, names)?;
+    let prefix = Bytes::from_slice(alloc, b"p")?;
+    Machine::new(alloc, 0, prefix, instructions, POLLS)
+}
 
-    // What a reply comes to.
-    fn reply(&mut self, awaits: &Awaits, reply: &Reply) -> Result<Act, AllocError>;
+// What the tests do with a machine. What does it by the trait knows no more of it, so that its proof sees nothing of what
+// it holds.
+pub(super) trait Worked {
+    // Takes a step: by this reply where it awaits one, which is not that memory ran out.
+    fn go(&mut self, reply: &Reply) -> Result<Step, AllocError>;
 
     // How many items there are.
     fn count(&self) -> usize;
@@ -64,31 +72,29 @@ trait Worked {
     // Whether the items left are this text alone, or none.
     fn is_left(&self, text: Option<&[u8]>) -> bool;
 
-    // Whether one error was noted, and the item that tells of it is on top.
-    fn is_refused(&self) -> bool;
+    // Whether one error was noted, and the item that tells of it is on top, of the instruction of this number.
+    fn is_refused(&self, number: u64) -> bool;
+
+    // Whether it awaits the reply to the first poll for this life.
+    fn is_polling(&self, life: u64) -> bool;
 }
 
-impl Worked for Registers {
-    fn lay(&mut self, alloc: Global, item: Lying, number: u64) -> Result<(), AllocError> {
-        let element = element(alloc, item)?;
-        let _act = self.push(number, element)?;
-        Ok(())
+// The next step of a machine that awaits a reply.
+fn go_on(machine: &mut Machine, reply: &Reply) -> Result<Step, AllocError> {
+    let awaits = matches!(machine.state(), State::Awaiting(_));
+    let is_no_memory = matches!(reply, Reply::NoMemory);
+    if !awaits {
+        machine.step(None)
+    } else if is_no_memory {
+        Err(AllocError)
+    } else {
+        machine.step(Some(reply))
     }
+}
 
-    fn call(&mut self, operation: DatabaseOperation, scope: Scope) -> Result<Act, AllocError> {
-        self.run(RUN, Some(Instruction::OnDatabase(operation, scope)))
-    }
-
-    fn work(&mut self, operation: TransactionOperation) -> Result<Act, AllocError> {
-        self.run(RUN, Some(Instruction::OnTransaction(operation)))
-    }
-
-    fn log(&mut self) -> Result<Act, AllocError> {
-        self.run(RUN, Some(Instruction::LogStack))
-    }
-
-    fn reply(&mut self, awaits: &Awaits, reply: &Reply) -> Result<Act, AllocError> {
-        self.use_reply(RUN, awaits, reply)
+impl Worked for Machine {
+    fn go(&mut self, reply: &Reply) -> Result<Step, AllocError> {
+        go_on(self, reply)
     }
 
     fn count(&self) -> usize {
@@ -102,106 +108,123 @@ impl Worked for Registers {
         }
     }
 
-    fn is_refused(&self) -> bool {
+    fn is_refused(&self, number: u64) -> bool {
         let top = self.stack().as_slice().last();
         self.errors().len() == 1
             && top_bytes(self) == b"\x01ERROR\x00\x012102\x00".as_slice()
-            && matches!(top, Some(item) if item.instruction == RUN)
+            && matches!(top, Some(item) if item.instruction == number)
     }
-}
 
-// Lays these items, the first the oldest, by the instructions of their places.
-fn lay_all<W: Worked>(alloc: Global, worked: &mut W, items: &[Lying]) -> Result<(), AllocError> {
-    for (place, item) in items.iter().enumerate() {
-        worked.lay(alloc, *item, place as u64)?;
+    fn is_polling(&self, life: u64) -> bool {
+        match self.state() {
+            State::Awaiting(Awaits::Stamp(wait)) => wait.life == life && wait.polled == 0,
+            _ => false,
+        }
     }
-    Ok(())
-}
-
-// Registers of the transaction `p`, with no item.
-fn new_registers(alloc: Global) -> Result<Registers, AllocError> {
-    Registers::new(alloc, Bytes::from_slice(alloc, b"p")?)
 }
 
 // The bytes of an item; none where it is no string, or waits.
 fn known_bytes(value: &ItemValue) -> &[u8] {
     match value {
-        ItemValue::Known(element) => bytes_of(element).unwrap_or(&[]),
-        ItemValue::Waits(_) => &[],
+        ItemValue::Known(Elem::Bytes(bytes)) => bytes.as_slice(),
+        ItemValue::Known(Elem::Text(text)) => text.as_bytes(),
+        _ => &[],
     }
 }
 
 // The bytes of the top item; none where it is no string.
-fn top_bytes(registers: &Registers) -> &[u8] {
-    match registers.stack().as_slice().last() {
+fn top_bytes(machine: &Machine) -> &[u8] {
+    match machine.stack().as_slice().last() {
         Some(item) => known_bytes(&item.value),
         None => &[],
     }
 }
 
+// Runs so many instructions, each of which asks nothing; whether they do.
+fn lays<W: Worked>(worked: &mut W, count: usize) -> Result<bool, AllocError> {
+    for _ in 0..count {
+        if !matches!(worked.go(&Reply::Done)?, Step::Again) {
+            return Ok(false);
+        }
+    }
+    Ok(true)
+}
+
+// The step of the instruction behind so many that ask nothing.
+fn step_behind<W: Worked>(worked: &mut W, count: usize) -> Result<Step, AllocError> {
+    if !lays(worked, count)? {
+        return Ok(Step::Again);
+    }
+    worked.go(&Reply::Done)
+}
+
+// The name of an instruction in a scope.
+fn scoped(alloc: Global, name: &[u8], scope: Scope) -> Result<Vec<u8>, AllocError> {
+    let mut full = Vec::from_slice(alloc, name)?;
+    full.extend_from_slice(scope.0)?;
+    Ok(full)
+}
+
+// How the name of an instruction in a scope ends; whether it reads by snapshot, and whether on the transaction of the
+// current name.
+type Scope = (&'static [u8], bool, bool);
+
+const SCOPES: [Scope; 3] = [
+    (b"", false, true),
+    (b"_SNAPSHOT", true, true),
+    (b"_DATABASE", false, false),
+];
+
 // ---- operands
 
-fn course_of(act: &Act) -> Course {
-    match act {
-        Act::Asks(_, _) => Course::Asks,
-        Act::Stops(End::BadInstruction(RUN)) => Course::Bad,
-        Act::Stops(End::Underflow(RUN)) => Course::Under,
+// How the instruction of this number goes on.
+fn course_at(step: &Step, number: u64) -> Course {
+    match step {
+        Step::Ask(_) => Course::Asks,
+        Step::Stopped(End::BadInstruction(at)) if *at == number => Course::Bad,
+        Step::Stopped(End::Underflow(at)) if *at == number => Course::Under,
         _ => Course::Other,
     }
 }
 
-// The items before an operation, the top last; how it goes on, and how many items it leaves.
+// The items before an instruction, the top last; how it goes on, and how many items it leaves.
 type Row = (&'static [Lying], Course, usize);
 
-// How an operation goes on over these items, and how many it leaves.
+// How an instruction over so many items goes on, and how many it leaves.
 fn outcome_of<W: Worked + Drop>(
-    alloc: Global,
     mut worked: W,
-    items: &[Lying],
-    operation: DatabaseOperation,
-    scope: Scope,
+    items: usize,
 ) -> Result<(Course, usize), AllocError> {
-    lay_all(alloc, &mut worked, items)?;
-    let course = course_of(&worked.call(operation, scope)?);
-    Ok((course, worked.count()))
+    let step = step_behind(&mut worked, items)?;
+    Ok((course_at(&step, items as u64), worked.count()))
 }
 
-fn is_answered(
-    alloc: Global,
-    operation: DatabaseOperation,
-    scope: Scope,
-    row: Row,
-) -> Result<bool, AllocError> {
+fn is_answered(alloc: Global, name: &[u8], row: Row) -> Result<bool, AllocError> {
     let (items, course, left) = row;
-    let (found, count) = outcome_of(alloc, new_registers(alloc)?, items, operation, scope)?;
+    let (found, count) = outcome_of(machine_over(alloc, items, &[name])?, items.len())?;
     Ok(found == course && count == left)
 }
 
-// The first of the rows that an operation in this scope doesn't answer as it says.
+// The first of the rows that an instruction in this scope doesn't answer as it says.
 fn first_other_in(
     alloc: Global,
-    operation: DatabaseOperation,
+    name: &[u8],
     scope: Scope,
     rows: &[Row],
 ) -> Result<Option<usize>, AllocError> {
+    let name = scoped(alloc, name, scope)?;
     for (place, row) in rows.iter().enumerate() {
-        if !is_answered(alloc, operation, scope, *row)? {
+        if !is_answered(alloc, name.as_slice(), *row)? {
             return Ok(Some(place));
         }
     }
     Ok(None)
 }
 
-const SCOPES: [Scope; 3] = [Scope::Transaction, Scope::Snapshot, Scope::Database];
-
 // The same in each scope in turn.
-fn first_other(
-    alloc: Global,
-    operation: DatabaseOperation,
-    rows: &[Row],
-) -> Result<Option<usize>, AllocError> {
+fn first_other(alloc: Global, name: &[u8], rows: &[Row]) -> Result<Option<usize>, AllocError> {
     for scope in SCOPES {
-        let other = first_other_in(alloc, operation, scope, rows)?;
+        let other = first_other_in(alloc, name, scope, rows)?;
         if other.is_some() {
             return Ok(other);
         }
@@ -272,18 +295,18 @@ const SELECTOR_READS: &[Row] = &[
     (&[ZERO, ZERO, Int(3), ONE, ZERO, K, ONE, ZERO, K], Under, 0),
 ];
 
-// The rows of each operation.
-const OPERANDS: [(DatabaseOperation, &[Row]); 4] = [
-    (GetKey, KEY_READS),
-    (GetRange, RANGE_READS),
-    (GetRangeStartsWith, PREFIX_READS),
-    (GetRangeSelector, SELECTOR_READS),
+// The rows of each instruction.
+const OPERANDS: [(&[u8], &[Row]); 4] = [
+    (b"GET_KEY", KEY_READS),
+    (b"GET_RANGE", RANGE_READS),
+    (b"GET_RANGE_STARTS_WITH", PREFIX_READS),
+    (b"GET_RANGE_SELECTOR", SELECTOR_READS),
 ];
 
-// The first of the operations that isn't answered as its rows say, with the row.
+// The first of the instructions that isn't answered as its rows say, with the row.
 fn first_other_operands(alloc: Global) -> Result<Option<(usize, usize)>, AllocError> {
-    for (place, (operation, rows)) in OPERANDS.iter().enumerate() {
-        if let Some(row) = first_other(alloc, *operation, rows)? {
+    for (place, (name, rows)) in OPERANDS.iter().enumerate() {
+        if let Some(row) = first_other(alloc, name, rows)? {
             return Ok(Some((place, row)));
         }
     }
@@ -299,14 +322,14 @@ fn operands_are_judged_one_at_a_time(rt: HostRuntime) -> Result<(), Fail> {
 // ---- reads by snapshot
 
 // What each read pops.
-const READS: &[(&[Lying], DatabaseOperation)] = &[
-    (&[K], Get),
-    (&[K, ONE, ZERO, K], GetKey),
-    (&[ZERO, ZERO, ZERO, K, K], GetRange),
-    (&[ZERO, ZERO, ZERO, K], GetRangeStartsWith),
+const READS: &[(&[Lying], &[u8])] = &[
+    (&[K], b"GET"),
+    (&[K, ONE, ZERO, K], b"GET_KEY"),
+    (&[ZERO, ZERO, ZERO, K, K], b"GET_RANGE"),
+    (&[ZERO, ZERO, ZERO, K], b"GET_RANGE_STARTS_WITH"),
     (
         &[K, ZERO, ZERO, ZERO, ONE, ZERO, K, ONE, ZERO, K],
-        GetRangeSelector,
+        b"GET_RANGE_SELECTOR",
     ),
 ];
 
@@ -321,10 +344,10 @@ fn snapshot_of(call: &TxnCall) -> Option<bool> {
     }
 }
 
-// Whether an act asks a read, by snapshot or not, and on the transaction `p` or on one of its own.
-fn is_read(act: &Act, is_by_snapshot: bool, is_named: bool) -> bool {
-    match act {
-        Act::Asks(asked, _) => is_read_request(asked.request(), is_by_snapshot, is_named),
+// Whether a step asks a read, by snapshot or not, and on the transaction `p` or on one of its own.
+fn is_read(step: &Step, is_by_snapshot: bool, is_named: bool) -> bool {
+    match step {
+        Step::Ask(asked) => is_read_request(asked.request(), is_by_snapshot, is_named),
         _ => false,
     }
 }
@@ -341,27 +364,24 @@ fn is_read_request(request: &Request, is_by_snapshot: bool, is_named: bool) -> b
     }
 }
 
-// Whether an operation in this scope asks a read as its name says.
+// Whether an instruction over so many items asks a read as the end of its name says.
 fn asks_as_named<W: Worked + Drop>(
-    alloc: Global,
     mut worked: W,
-    items: &[Lying],
-    operation: DatabaseOperation,
+    items: usize,
     scope: Scope,
 ) -> Result<bool, AllocError> {
-    lay_all(alloc, &mut worked, items)?;
-    let is_by_snapshot = scope == Scope::Snapshot;
-    let is_named = scope != Scope::Database;
-    Ok(is_read(&worked.call(operation, scope)?, is_by_snapshot, is_named))
+    let step = step_behind(&mut worked, items)?;
+    Ok(is_read(&step, scope.1, scope.2))
 }
 
-fn reads_in(
-    alloc: Global,
-    row: (&[Lying], DatabaseOperation),
-    scope: Scope,
-) -> Result<bool, AllocError> {
-    let (items, operation) = row;
-    asks_as_named(alloc, new_registers(alloc)?, items, operation, scope)
+fn reads_in(alloc: Global, row: (&[Lying], &[u8]), scope: Scope) -> Result<bool, AllocError> {
+    let (items, name) = row;
+    let name = scoped(alloc, name, scope)?;
+    asks_as_named(
+        machine_over(alloc, items, &[name.as_slice()])?,
+        items.len(),
+        scope,
+    )
 }
 
 // The first of the reads that asks otherwise in this scope.
@@ -438,100 +458,80 @@ fn reply_to(asked: Wanted) -> Reply {
     }
 }
 
-// The items before an operation; what it asks, and the text that the reply pushes, where it pushes one.
+// The items before an instruction, and its name; what it asks, and the text that the reply pushes, where it pushes one.
 type Work = (
     &'static [Lying],
-    TransactionOperation,
+    &'static [u8],
     Wanted,
     Option<&'static [u8]>,
 );
 
-// Uses the reply that a call has; true.
-fn uses_reply_to<W: Worked>(
-    worked: &mut W,
-    awaits: &Awaits,
-    asked: Wanted,
-) -> Result<bool, AllocError> {
-    let _act = worked.reply(awaits, &reply_to(asked))?;
-    Ok(true)
-}
-
-// Uses the reply to an act's request, if it asks this; whether it does.
-fn replies<W: Worked>(worked: &mut W, act: &Act, asked: Wanted) -> Result<bool, AllocError> {
-    match act {
-        Act::Asks(request, awaits) if is_asked(request.request(), asked) => {
-            uses_reply_to(worked, awaits, asked)
+// Takes the step of an instruction, and uses the reply, if it asks this; whether it does.
+fn works_on<W: Worked>(worked: &mut W, asked: Wanted) -> Result<bool, AllocError> {
+    match worked.go(&Reply::Done)? {
+        Step::Ask(request) if is_asked(request.request(), asked) => {
+            Ok(matches!(worked.go(&reply_to(asked))?, Step::Again))
         }
         _ => Ok(false),
     }
 }
 
-// Runs an operation and uses the reply, if it asks this; whether it does.
-fn works_on<W: Worked>(
-    worked: &mut W,
-    operation: TransactionOperation,
-    asked: Wanted,
-) -> Result<bool, AllocError> {
-    let act = worked.work(operation)?;
-    replies(worked, &act, asked)
-}
-
-fn works_over<W: Worked + Drop>(
-    alloc: Global,
-    mut worked: W,
-    work: Work,
-) -> Result<bool, AllocError> {
-    let (items, operation, asked, text) = work;
-    lay_all(alloc, &mut worked, items)?;
-    Ok(works_on(&mut worked, operation, asked)? && worked.is_left(text))
+fn works_over<W: Worked + Drop>(mut worked: W, work: Work) -> Result<bool, AllocError> {
+    let (items, _, asked, text) = work;
+    Ok(lays(&mut worked, items.len())? && works_on(&mut worked, asked)? && worked.is_left(text))
 }
 
 fn works(alloc: Global, work: Work) -> Result<bool, AllocError> {
-    works_over(alloc, new_registers(alloc)?, work)
+    works_over(machine_over(alloc, work.0, &[work.1])?, work)
 }
 
 const WORKS: &[Work] = &[
     (
         &[],
-        GetReadVersion,
+        b"GET_READ_VERSION",
         Wanted::ReadVersion,
         Some(b"GOT_READ_VERSION"),
     ),
-    (&[], SetReadVersion, Wanted::SetReadVersion(0), None),
+    (&[], b"SET_READ_VERSION", Wanted::SetReadVersion(0), None),
     (
         &[],
-        GetCommittedVersion,
+        b"GET_COMMITTED_VERSION",
         Wanted::CommittedVersion,
         Some(b"GOT_COMMITTED_VERSION"),
     ),
-    (&[], DisableWriteConflict, Wanted::NoWriteConflict, None),
+    (
+        &[],
+        b"DISABLE_WRITE_CONFLICT",
+        Wanted::NoWriteConflict,
+        None,
+    ),
     (
         &[Str(b"e"), Str(b"b")],
-        ReadConflictRange,
+        b"READ_CONFLICT_RANGE",
         Wanted::ReadConflict(b"b", b"e"),
         Some(b"SET_CONFLICT_RANGE"),
     ),
     (
         &[Str(b"e"), Str(b"b")],
-        WriteConflictRange,
+        b"WRITE_CONFLICT_RANGE",
         Wanted::WriteConflict(b"b", b"e"),
         Some(b"SET_CONFLICT_RANGE"),
     ),
     (
         &[K],
-        ReadConflictKey,
+        b"READ_CONFLICT_KEY",
         Wanted::ReadConflict(b"k", b"k\x00"),
         Some(b"SET_CONFLICT_KEY"),
     ),
     (
         &[K],
-        WriteConflictKey,
+        b"WRITE_CONFLICT_KEY",
         Wanted::WriteConflict(b"k", b"k\x00"),
         Some(b"SET_CONFLICT_KEY"),
     ),
 ];
 
-// The first of the operations that works otherwise.
+// The first of the instructions that works otherwise.
 fn first_other_work(alloc: Global) -> Result<Option<usize>, AllocError> {
     for (place, work) in WORKS.iter().enumerate() {
         if !works(alloc, *work)? {
@@ -541,31 +541,29 @@ fn first_other_work(alloc: Global) -> Result<Option<usize>, AllocError> {
     Ok(None)
 }
 
-// Whether SET_READ_VERSION hands on this version after this reply.
+// Whether SET_READ_VERSION hands on this version behind an instruction that has this reply.
 fn hands_on_after<W: Worked + Drop>(
     mut worked: W,
-    awaits: &Awaits,
     reply: &Reply,
     version: i64,
 ) -> Result<bool, AllocError> {
-    let _act = worked.reply(awaits, reply)?;
-    works_on(&mut worked, SetReadVersion, Wanted::SetReadVersion(version))
+    Ok(
+        matches!(worked.go(&Reply::Done)?, Step::Ask(_))
+            && matches!(worked.go(reply)?, Step::Again)
+            && works_on(&mut worked, Wanted::SetReadVersion(version))?,
+    )
 }
 
-fn hands_on(
-    alloc: Global,
-    awaits: &Awaits,
-    reply: &Reply,
-    version: i64,
-) -> Result<bool, AllocError> {
-    hands_on_after(new_registers(alloc)?, awaits, reply, version)
+fn hands_on(alloc: Global, name: &[u8], reply: &Reply, version: i64) -> Result<bool, AllocError> {
+    let machine = machine_over(alloc, &[], &[name, b"SET_READ_VERSION"])?;
+    hands_on_after(machine, reply, version)
 }
 
 // Whether it hands on a version that was read, one that was committed, and 0 after a fault.
 fn are_handed_on(alloc: Global) -> Result<(bool, bool, bool), AllocError> {
-    let read = hands_on(alloc, &Awaits::ReadVersion, &Reply::Version(7), 7)?;
-    let committed = hands_on(alloc, &Awaits::CommittedVersion, &Reply::Version(-1), -1)?;
-    let refused = hands_on(alloc, &Awaits::ReadVersion, &Reply::Fault(Code(1025)), 0)?;
+    let read = hands_on(alloc, b"GET_READ_VERSION", &Reply::Version(7), 7)?;
+    let committed = hands_on(alloc, b"GET_COMMITTED_VERSION", &Reply::Version(-1), -1)?;
+    let refused = hands_on(alloc, b"GET_READ_VERSION", &Reply::Fault(Code(1025)), 0)?;
     Ok((read, committed, refused))
 }
 
@@ -578,23 +576,39 @@ fn versions_and_conflict_ranges_are_asked(rt: HostRuntime) -> Result<(), Fail> {
 
 // ---- replies
 
-// Whether the reply pushes these bytes.
+// Whether the reply to what an instruction over so many items asks pushes these bytes.
 fn pushes_on<W: Worked + Drop>(
     mut worked: W,
-    awaits: &Awaits,
+    items: usize,
     reply: &Reply,
     bytes: &[u8],
 ) -> Result<bool, AllocError> {
-    let _act = worked.reply(awaits, reply)?;
-    Ok(worked.is_left(Some(bytes)))
+    Ok(
+        matches!(step_behind(&mut worked, items)?, Step::Ask(_))
+            && matches!(worked.go(reply)?, Step::Again)
+            && worked.is_left(Some(bytes)),
+    )
 }
 
-fn pushes(alloc: Global, awaits: &Awaits, reply: &Reply, bytes: &[u8]) -> Result<bool, AllocError> {
-    pushes_on(new_registers(alloc)?, awaits, reply, bytes)
+fn pushes(
+    alloc: Global,
+    items: &[Lying],
+    name: &[u8],
+    reply: &Reply,
+    bytes: &[u8],
+) -> Result<bool, AllocError> {
+    pushes_on(
+        machine_over(alloc, items, &[name])?,
+        items.len(),
+        reply,
+        bytes,
+    )
 }
 
 // A prefix, a key that was found, and what is pushed.
-const KEYS: &[(&[u8], &[u8], &[u8])] = &[
+type Found = (&'static [u8], &'static [u8], &'static [u8]);
+
+const KEYS: &[Found] = &[
     (b"c", b"b", b"c"),
     (b"c", b"", b"c"),
     (b"c", b"f", b"d"),
@@ -602,10 +616,15 @@ const KEYS: &[(&[u8], &[u8], &[u8])] = &[
     (b"d", b"d", b"d"),
 ];
 
-fn pushes_key(alloc: Global, row: (&[u8], &[u8], &[u8])) -> Result<bool, AllocError> {
-    let prefix = Bytes::from_slice(alloc, row.0)?;
-    let key = Bytes::from_slice(alloc, row.1)?;
-    pushes(alloc, &Awaits::Key { prefix }, &Reply::KeyIs(key), row.2)
+fn pushes_key(alloc: Global, row: Found) -> Result<bool, AllocError> {
+    let reply = Reply::KeyIs(Bytes::from_slice(alloc, row.1)?);
+    pushes(
+        alloc,
+        &[Str(row.0), ONE, ZERO, K],
+        b"GET_KEY",
+        &reply,
+        row.2,
+    )
 }
 
 // The first row whose key is not pushed as it says.
@@ -632,25 +651,28 @@ fn two_pairs(alloc: Global) -> Result<Pairs, AllocError> {
 }
 
 // Whether two pairs are pushed as these bytes.
-fn pushes_pairs(alloc: Global, awaits: &Awaits, bytes: &[u8]) -> Result<bool, AllocError> {
+fn pushes_pairs(
+    alloc: Global,
+    items: &[Lying],
+    name: &[u8],
+    bytes: &[u8],
+) -> Result<bool, AllocError> {
     let reply = Reply::PairsAre(two_pairs(alloc)?);
-    pushes(alloc, awaits, &reply, bytes)
+    pushes(alloc, items, name, &reply, bytes)
 }
 
-fn pushes_pairs_within(alloc: Global) -> Result<bool, AllocError> {
-    let prefix = Bytes::from_slice(alloc, b"d")?;
-    pushes_pairs(
-        alloc,
-        &Awaits::PairsWithin { prefix },
-        b"\x01d\x00\x014\x00",
-    )
-}
+// A range by its selectors, of which the pairs within the prefix `d` are pushed.
+const WITHIN_D: &[Lying] = &[Str(b"d"), ZERO, ZERO, ZERO, ONE, ZERO, K, ONE, ZERO, K];
 
 // Whether two pairs are pushed, and the one alone that lies within a prefix.
 fn are_pushed(alloc: Global) -> Result<(bool, bool), AllocError> {
     let all = b"\x01g\x00\x017\x00\x01d\x00\x014\x00";
-    let is_all = pushes_pairs(alloc, &Awaits::Pairs, all)?;
-    Ok((is_all, pushes_pairs_within(alloc)?))
+    let one = b"\x01d\x00\x014\x00";
+    let is_all = pushes_pairs(alloc, &[ZERO, ZERO, ZERO, K, K], b"GET_RANGE", all)?;
+    Ok((
+        is_all,
+        pushes_pairs(alloc, WITHIN_D, b"GET_RANGE_SELECTOR", one)?,
+    ))
 }
 
 #[test]
@@ -670,35 +692,26 @@ fn entry_count(request: &Request) -> usize {
     }
 }
 
-// How many entries an act's request has; 0 where there is none.
-fn asked_count(act: &Act) -> usize {
-    match act {
-        Act::Asks(asked, _) => entry_count(asked.request()),
+// How many entries the request of a step has; 0 where there is none.
+fn asked_count(step: &Step) -> usize {
+    match step {
+        Step::Ask(asked) => entry_count(asked.request()),
         _ => 0,
     }
 }
 
-// What the reply to an act's request comes to; that all is done, where there is none.
-fn follows<W: Worked>(worked: &mut W, act: &Act, reply: &Reply) -> Result<Act, AllocError> {
-    match act {
-        Act::Asks(_, awaits) => worked.reply(awaits, reply),
-        _ => Ok(Act::Does),
-    }
-}
-
-// Both of an act.
-fn logged<W: Worked>(worked: &mut W, act: &Act, reply: &Reply) -> Result<(usize, Act), AllocError> {
-    let next = follows(worked, act, reply)?;
-    Ok((asked_count(act), next))
+// How many entries the request has that is asked next by this reply.
+fn logged<W: Worked>(worked: &mut W, reply: &Reply) -> Result<usize, AllocError> {
+    let step = worked.go(reply)?;
+    Ok(asked_count(&step))
 }
 
 // How many entries the requests of LOG_STACK have, where the second has this reply.
 fn log_all<W: Worked>(worked: &mut W, second: &Reply) -> Result<[usize; 4], AllocError> {
-    let act = worked.log()?;
-    let (newest, act) = logged(worked, &act, &Reply::Done)?;
-    let (middle, act) = logged(worked, &act, second)?;
-    let (oldest, act) = logged(worked, &act, &Reply::Done)?;
-    let (none, _act) = logged(worked, &act, &Reply::Done)?;
+    let newest = logged(worked, &Reply::Done)?;
+    let middle = logged(worked, &Reply::Done)?;
+    let oldest = logged(worked, second)?;
+    let none = logged(worked, &Reply::Done)?;
     Ok([newest, middle, oldest, none])
 }
 
@@ -708,22 +721,28 @@ const LOGGED: [Lying; 206] = [Str(b"L"); 206];
 // How many entries the requests have, how many items are left, and whether the second was refused.
 type Outcome = ([usize; 4], usize, bool);
 
-// The same where LOG_STACK runs over these items.
+// The same where LOG_STACK runs over so many items.
 fn log_over<W: Worked + Drop>(
-    alloc: Global,
     mut worked: W,
-    items: &[Lying],
+    items: usize,
     second: &Reply,
 ) -> Result<Outcome, AllocError> {
-    lay_all(alloc, &mut worked, items)?;
+    if !lays(&mut worked, items)? {
+        return Err(AllocError);
+    }
     let sizes = log_all(&mut worked, second)?;
-    Ok((sizes, worked.count(), worked.is_refused()))
+    Ok((sizes, worked.count(), worked.is_refused(items as u64)))
 }
 
 fn logs(alloc: Global, count: usize, second: &Reply) -> Result<Outcome, AllocError>
     requires { count ≤ 205 }
 {
-    log_over(alloc, new_registers(alloc)?, &LOGGED[..count + 1], second)
+    let items = &LOGGED[..count + 1];
+    log_over(
+        machine_over(alloc, items, &[b"LOG_STACK"])?,
+        items.len(),
+        second,
+    )
 }
 
 #[test]

@@ -1,13 +1,16 @@
 ghost use Rattle.std.specs.Prelude.{◌≡◌, false, IfOk};
 ghost use Rattle.machine_rules.specs.declared.State.TheVariants.{Running};
 
-use super::*;
 use Course::{Asks, Bad, Other, Under};
 use fdb_calls::{Request, TxnCall};
 use fdb_tuple::{Elem, pack_element};
 use key_bytes::{Bytes, Pair, Pairs};
+use stack_machine::{End, Machine, State, Step};
 use std::alloc::{AllocError, Global};
 use std::test::Fail;
+
+mod instructions;
+mod waits;
 
 // How many polls a wait has in these tests.
 const POLLS: u32 = 10_000;
