@@ -31,6 +31,3 @@ pub use answer::Answer;
 pub use txn::Txn;
 pub use txn_on::TxnOn;
 pub use verdict::Verdict;
-
-#[cfg(test)]
-mod tests;

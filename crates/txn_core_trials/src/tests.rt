@@ -1,4 +1,3 @@
-use super::*;
 use asks::{Say, call_of, range_of, selector_of};
 use by_name::{AskedByName, Named, is_named_so};
 use conflict_ranges::{RangeSet, WriteIndex};
@@ -7,6 +6,7 @@ use fdb_calls::{Outcome, Reply, Tr, TrFault, TxnCall};
 use key_bytes::{Bytes, Key, KeyRange, Pair, Pairs};
 use std::alloc::{AllocError, Global};
 use std::test::Fail;
+use txn_core::{Answer, Txn, TxnOn, Verdict};
 use version_store::Store;
 
 mod asks;
