@@ -16,6 +16,3 @@ mod lives;
 mod machines;
 
 pub use core_state::Core;
-
-#[cfg(test)]
-mod tests;

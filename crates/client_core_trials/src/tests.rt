@@ -1,5 +1,5 @@
-use super::*;
 use asks::{Ask, Say, bytes_of, range_of, request_of};
+use client_core::Core;
 use command_rules::RunArgs;
 use database_rules::{Code, Mode, Selector};
 use fdb_calls::{Reply, Request, TxnCall};
