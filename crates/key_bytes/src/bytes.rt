@@ -125,9 +125,10 @@ impl Bytes {
     pub fn after(&self) -> Result<Bytes, AllocError>
         ensures { IfOk result (λ next. next ≡ after self.now) }
     {
-        let mut next = self.copy()?;
-        next.extend(&[0])?;
-        Ok(next)
+        Ok(Bytes {
+            alloc: self.alloc,
+            form: self.form.pushed(self.alloc, 0)?,
+        })
     }
 
     /// The least byte string above every byte string that begins with this one: trailing `FF` bytes are dropped, and

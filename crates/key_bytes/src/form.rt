@@ -1,6 +1,6 @@
 //! The forms of a byte string.
 
-ghost use Rattle.std.specs.Prelude.{◌≡◌, ◌++◌, length, IfOk, OnOk, OnErr, nat_eq};
+ghost use Rattle.std.specs.Prelude.{◌≡◌, [], ◌∷◌, ◌++◌, length, IfOk, OnOk, OnErr, nat_eq};
 ghost use Rattle.std.specs.Cmp.Lexicographic.{pointwise};
 ghost use Rattle.key_bytes.specs.Keys.{IsByteString, key_cmp};
 ghost use Rattle.key_bytes.specs.Forms.{items_of};
@@ -61,6 +61,16 @@ impl Form {
             Form::InPlace(short) => Ok(Form::InPlace(short.copy())),
             Form::Shared(items) => Ok(Form::Shared(items.clone()?)),
             Form::Growing(items) => Form::from_slice(alloc, items.as_slice()),
+        }
+    }
+
+    // A copy with one byte more. In place it takes no memory.
+    pub(crate) fn pushed(&self, alloc: Global, byte: u8) -> Result<Form, AllocError>
+        ensures { IfOk result (λ form. items_of form ≡ items_of self.now ++ byte ∷ []) }
+    {
+        match self {
+            Form::InPlace(short) if short.has_room() => Ok(Form::InPlace(short.pushed(byte))),
+            _ => joined(alloc, self.as_slice(), &[byte]),
         }
     }
 

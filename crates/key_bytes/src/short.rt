@@ -1,6 +1,6 @@
 //! A byte string of at most 22 bytes, kept where it is.
 
-ghost use Rattle.std.specs.Prelude.{◌≡◌, ◌+◌, ◌<◌, ◌≤◌, ◌++◌, [], length, take, drop};
+ghost use Rattle.std.specs.Prelude.{◌≡◌, ◌+◌, ◌<◌, ◌≤◌, [], ◌∷◌, ◌++◌, length, nat_lt, take, drop};
 ghost use Rattle.std.specs.Int.{w64, from_be_bytes};
 ghost use Rattle.key_bytes.specs.Keys.{IsByteString, key_cmp};
 
@@ -51,7 +51,12 @@ impl Short {
         requires { length bytes.now ≤ SHORT_LIMIT }
         ensures { result ≡ bytes.now }
     {
-        Short::joined(&[], bytes)
+        let mut room = [0; SHORT_LIMIT];
+        room[..bytes.len()].copy_from_slice(bytes);
+        Short {
+            len: bytes.len() as u8,
+            room,
+        }
     }
 
     // The first bytes with the others behind them.
@@ -65,6 +70,26 @@ impl Short {
         room[first.len()..len].copy_from_slice(second);
         Short {
             len: len as u8,
+            room,
+        }
+    }
+
+    // Whether one byte more finds room.
+    pub(crate) fn has_room(&self) -> bool
+        ensures { result ≡ nat_lt (length self.now) SHORT_LIMIT }
+    {
+        usize::from(self.len) < SHORT_LIMIT
+    }
+
+    // A copy with one byte more.
+    pub(crate) fn pushed(&self, byte: u8) -> Short
+        requires { length self.now < SHORT_LIMIT }
+        ensures { result ≡ self.now ++ byte ∷ [] }
+    {
+        let mut room = self.room;
+        room[usize::from(self.len)] = byte;
+        Short {
+            len: self.len + 1,
             room,
         }
     }
