@@ -20,17 +20,6 @@ or_none false = refl
 pub covers_only : (own : List KeyRange) (range : KeyRange) → own ≡ range ∷ [] → (key : List ℕ) → covers own key ≡ has range key
 covers_only own range is key = ap (λ ranges. covers ranges key) is ∙ or_none (has range key)
 
--- where one range has all keys of another, the other adds none
-pub none_added : (own : List KeyRange) (range other : KeyRange) → own ≡ range ∷ [] → ((key : List ℕ) → has other key ≡ true → has range key ≡ true)
-    → (key : List ℕ) → covers own key ≡ (covers own key || has other key)
-none_added own range other is all key = by_other (has other key) refl
-  where
-    by_other : (t : Bool) → has other key ≡ t → covers own key ≡ (covers own key || t)
-    by_other true there =
-        let covered = covers_only own range is key ∙ all key there in
-        covered ∙ ap (λ s. s || true) (sym covered)
-    by_other false _ = sym (or_none (covers own key))
-
 pub is_within_too : (range other : KeyRange) → key_lt other.begin range.begin ≡ false → key_lt range.end other.end ≡ false
     → (key : List ℕ) → has other key ≡ true → has range key ≡ true
 is_within_too range other begins ends key is_in =

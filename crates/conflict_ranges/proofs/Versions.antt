@@ -6,6 +6,7 @@ use Rattle.std.proofs.lemmas.Map.Lookups.{exact_bytes}
 use Rattle.std.proofs.lemmas.Map.Views.{tells_apart}
 use Rattle.std.specs.FinMap.{FinMap, contains_key, get, get-insert, get-retain_keys, insert, retain_keys}
 use Rattle.std.specs.Cmp.Lexicographic.{nat_list_cmp_total, texts_ties}
+use Rattle.std.specs.Option.{unwrap_or}
 use Rattle.std.specs.Ordering.{eq_by_cmp, is_eq}
 use Rattle.key_bytes.specs.Keys.{key_cmp, after, within}
 use Rattle.database_rules.proofs.Ranges.{has_one}
@@ -23,17 +24,18 @@ one_key : (k q : List ℕ) → within k (after k) q ≡ eq_by_cmp key_cmp q k
 one_key k q = has_one k q ∙ texts_ties q k
 
 -- a key that has no version is known at version 0, and each key has the version that it had
-pub known_at_0 : (keys : Versions) (k : List ℕ) → contains_key keys k ≡ false
-    → (q : List ℕ) → version_in (get (insert keys k 0) q) ≡ version_in (get keys q)
-known_at_0 keys k new q =
-    ap version_in (get-insert nat_list_cmp_total keys k 0 q) ∙ by_test (eq_by_cmp key_cmp q k) refl
+pub known_at_least_0 : (keys : Versions) (k q : List ℕ)
+    → version_in (get (insert keys k (unwrap_or (get keys k) 0)) q) ≡ version_in (get keys q)
+known_at_least_0 keys k q =
+    ap version_in (get-insert nat_list_cmp_total keys k (unwrap_or (get keys k) 0) q) ∙ by_test (eq_by_cmp key_cmp q k) refl
   where
-    none : (found : Option ℕ) → is_some found ≡ false → 0 ≡ version_in found
-    none None _ = refl
-    none (Some version) is = absurd (true≢false is)
+    filled : (found : Option ℕ) → unwrap_or found 0 ≡ version_in found
+    filled None = refl
+    filled (Some version) = refl
 
-    by_test : (t : Bool) → eq_by_cmp key_cmp q k ≡ t → version_in (cond t (Some 0) (get keys q)) ≡ version_in (get keys q)
-    by_test true same = none (get keys q) (ap (λ q. is_some (get keys q)) (tells_apart exact_bytes q k same) ∙ new)
+    by_test : (t : Bool) → eq_by_cmp key_cmp q k ≡ t
+        → version_in (cond t (Some (unwrap_or (get keys k) 0)) (get keys q)) ≡ version_in (get keys q)
+    by_test true same = filled (get keys k) ∙ sym (ap (λ q. version_in (get keys q)) (tells_apart exact_bytes q k same))
     by_test false _ = refl
 
 -- a key that is given a version is known, and so is each that was

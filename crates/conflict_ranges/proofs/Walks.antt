@@ -1,6 +1,5 @@
 -- A walk over the keys of a range, from edge to edge.
-use Rattle.std.proofs.Common.{◌≡◌, ◌⊎◌, ℕ, max, inl, inr, arith, Bool, true, false, not, List, refl, sym, ap, subst, ◌∙◌, true≢false}
-use Rattle.std.proofs.lemmas.Bool.{cases_lt}
+use Rattle.std.proofs.Common.{◌≡◌, ℕ, Bool, true, false, not, List, refl, sym, ap, subst, ◌∙◌, true≢false}
 use Rattle.key_bytes.specs.declared.range.KeyRange.{KeyRange}
 use Rattle.key_bytes.specs.Keys.{key_lt, key_le}
 use Rattle.key_bytes.specs.Ranges.{has}
@@ -42,33 +41,6 @@ module _ {X : Type 0} (P : X → Type 0) (range : KeyRange) (edges : Edges X) wh
       below = λ key is_in low. alike_too key (λ over. next.alike key over low) is_in;
     }
 
-    pub passed_all : ((key : List ℕ) → key_le from key ≡ true → key_lt key range.end ≡ true → held edges key ≡ held edges from)
-        → (key : List ℕ) → has range key ≡ true → P (held edges key)
-    passed_all alike key is_in =
-        alike_too key (λ over. alike key over (from_within range.begin range.end key is_in).1) is_in
-
-pub passed_weaker : {X : Type 0} (P Q : X → Type 0) (range : KeyRange) (edges : Edges X) (from : List ℕ) → ((x : X) → P x → Q x)
-    → HasPassed P range edges from → HasPassed Q range edges from
-passed_weaker P Q range edges from weaker passed = record {
-  inside = passed.inside;
-  below = λ key is_in low. weaker (held edges key) (passed.below key is_in low);
-}
-
 -- a key of the range has this
 abbrev pub IsReached : KeyRange → Edges ℕ → ℕ → Type 0
 IsReached range edges number = (key : List ℕ) × (has range key ≡ true) × (held edges key ≡ number)
-
--- where keys have two numbers, one has the greater
-pub reached_greater : (range : KeyRange) (edges : Edges ℕ) (a b greatest : ℕ) → greatest ≡ max a b
-    → IsReached range edges a → IsReached range edges b → IsReached range edges greatest
-reached_greater range edges a b greatest is (key, is_in, first) (other, other_in, second) = elim (cases_lt a b) [
-  | inl above ↦ let same : b ≡ greatest = omega (arith, is, above) in (other, other_in, second ∙ same)
-  | inr below ↦ let same : a ≡ greatest = omega (arith, is, below) in (key, is_in, first ∙ same)
-]
-
--- the same, where the first number is 0 if no key has it
-pub reached_or : (range : KeyRange) (edges : Edges ℕ) (a b greatest : ℕ) → greatest ≡ max a b → (a ≡ 0) ⊎ IsReached range edges a
-    → IsReached range edges b → (greatest ≡ 0) ⊎ IsReached range edges greatest
-reached_or range edges a b greatest is (inl none) (key, is_in, here) =
-    let same : b ≡ greatest = omega (arith, is, none) in inr (key, is_in, here ∙ same)
-reached_or range edges a b greatest is (inr first) second = inr (reached_greater range edges a b greatest is first second)

@@ -100,14 +100,25 @@ impl WriteIndex {
         self.newest <= version && is_after(begin, end)
     }
 
-    /// Takes the memory that `install` of these ranges at this version needs: one search for a range of one key that is known, two
-    /// for another key, and five at most for any other range. Each key keeps its version, after a refusal too.
+    /// Takes the memory that `install` of these ranges at this version needs: one search for a range of one key, and five at most for
+    /// any other range. Each key keeps its version, after a refusal too.
     pub fn reserve(&mut self, ranges: &RangeSet, version: u64) -> Result<(), AllocError>
         ensures same { (key : List ℕ) → newest_at self.new key ≡ newest_at self.old key }
         ensures ready { OnOk result (IsReadyFor self.new version ranges.now) }
     {
         for (begin, end) in ranges.ranges() {
             self.make_room(begin, end, version)?;
+        }
+        Ok(())
+    }
+
+    /// The same for `install_all`: the ranges may meet, and be empty.
+    pub fn reserve_all(&mut self, ranges: &[KeyRange], version: u64) -> Result<(), AllocError>
+        ensures same { (key : List ℕ) → newest_at self.new key ≡ newest_at self.old key }
+        ensures ready { OnOk result (IsReadyFor self.new version ranges.now) }
+    {
+        for range in ranges {
+            self.make_room(&range.begin, &range.end, version)?;
         }
         Ok(())
     }
@@ -130,9 +141,7 @@ impl WriteIndex {
         ensures kept { Keeps self.old self.new }
         ensures known { OnOk result (finite.contains_key self.new.keys key.now ≡ true) }
     {
-        if !self.keys.contains_key(key) {
-            self.keys.insert(key.copy()?, 0)?;
-        }
+        self.keys.insert_missing(key.copy()?, 0)?;
         Ok(())
     }
 
@@ -146,6 +155,18 @@ impl WriteIndex {
         self.newest = self.newest.max(version);
         for (begin, end) in ranges.ranges() {
             self.give(begin, end, version);
+        }
+    }
+
+    /// The same for a list of ranges, which may meet, and be empty.
+    pub fn install_all(&mut self, ranges: &[KeyRange], version: u64)
+        requires { IsReadyFor self.old version ranges.now }
+        ensures { (key : List ℕ) → newest_at self.new key
+            ≡ (if covers ranges.now key then version else newest_at self.old key) }
+    {
+        self.newest = self.newest.max(version);
+        for range in ranges {
+            self.give(&range.begin, &range.end, version);
         }
     }
 

@@ -56,11 +56,6 @@ module _ {X : Type 0} where
         ∙ ap (λ t. cond t (suc (count_while p (drop (at + 1) es))) 0) passes
         ∙ (omega arith)
 
-    pub counted_none : (es : List (List ℕ × X)) (at : ℕ) (d : List ℕ × X) → at < length es → p (get_or es at d).0 ≡ false
-        → count_while p (drop at es) ≡ 0
-    counted_none es at d inside fails =
-        ap (count_while p) (drop_more es at d inside) ∙ ap (λ t. cond t (suc (count_while p (drop (at + 1) es))) 0) fails
-
     pub count_inside : (es : List (List ℕ × X)) → count_while p es ≤ length es
     count_inside [] = omega arith
     count_inside (e ∷ es) = elim (p e.0) as (λ t. cond t (suc (count_while p es)) 0 ≤ suc (length es)) [

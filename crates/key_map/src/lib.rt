@@ -3,7 +3,7 @@
 
 mod map;
 
-pub use map::KeyMap;
+pub use map::{KeyMap, add_missing};
 
 #[cfg(test)]
 mod tests;

@@ -1,12 +1,13 @@
 //! An ordered map from keys to values.
 
-ghost use Rattle.std.specs.Prelude.{◌≡◌, ℕ, List, [], not, None, IsTrue, IfOk, OnOk, OnErr};
+ghost use Rattle.std.specs.Prelude.{◌≡◌, ℕ, List, [], not, None, Some, IsTrue, IfOk, OnOk, OnErr};
+ghost use Rattle.std.specs.BTreeMap.{get, IsOrdered, IsUnchanged, Updates};
 ghost use Rattle.std.specs.Bool.{OnFalse};
 ghost use Rattle.std.specs.Borrow.{sem};
 ghost use Rattle.std.specs.List.{filter};
 ghost use Rattle.std.specs.List.Sorted.{IsStrictlySortedBy};
 ghost use Rattle.std.specs.Map.{keys_of};
-ghost use Rattle.std.specs.Option.{option_map, option_copied, option_copied_mut};
+ghost use Rattle.std.specs.Option.{option_map, option_copied, option_copied_mut, unwrap_or};
 ghost use Rattle.std.specs.FinMap as finite;
 ghost use Rattle.std.specs.Map.Iter.{GivesInOrder, deref_pair};
 ghost use Rattle.key_bytes.specs.Keys.{key_cmp, key_le, key_lt, within};
@@ -85,6 +86,17 @@ impl<V> KeyMap<V> {
         ensures only_new { OnErr result (finite.get self.old key ≡ None) }
     {
         Ok(self.tree.insert(key, value)?)
+    }
+
+    /// Gives `key` this value where it has none: one search. Only a new key takes memory. After a refusal the map is unchanged.
+    pub fn insert_missing(&mut self, key: Key, value: V) -> Result<(), AllocError>
+    where
+        V: Drop,
+        ensures ok { OnOk result (self.new ≡ finite.insert self.old key (unwrap_or (finite.get self.old key) value)) }
+        ensures err { OnErr result (self.new ≡ self.old) }
+    {
+        add_missing(&mut self.tree, key, value)?;
+        Ok(())
     }
 
     /// Removes `key`, and answers its value. It takes no memory.
@@ -179,6 +191,21 @@ fn copied(alloc: Global, rest: Range<'_, Bytes, Bytes>) -> Result<Pairs, AllocEr
         pairs.push(pair)?;
     }
     Ok(pairs)
+}
+
+/// Gives a key of a tree this value where it has none: one search. Only a new key takes memory. After a refusal the entries are
+/// unchanged.
+pub fn add_missing<V: Drop>(
+    tree: &mut BTreeMap<Bytes, V>,
+    key: Key,
+    value: V,
+) -> Result<(), AllocError>
+    ensures ok { OnOk result (Updates key_cmp tree.old tree.new key (Some (unwrap_or (get key_cmp tree.old key) value))) }
+    ensures err { OnErr result (IsUnchanged tree.old tree.new) }
+    ensures rising { IsOrdered key_cmp tree.new }
+{
+    let _value = tree.entry(key)?.or_insert(value);
+    Ok(())
 }
 
 // Leaves the entries with keys below `begin`, and from `end` on.

@@ -1,5 +1,5 @@
 -- Keys with empty chains come in: no database changes.
-use Rattle.std.proofs.Common.{◌≡◌, ℕ, zero, suc, true, false, cond, List, Option, Some, None, is_some, IsSome, refl, sym, ap, subst, ◌∙◌, arith}
+use Rattle.std.proofs.Common.{◌≡◌, ℕ, zero, suc, true, false, cond, List, Option, Some, None, IsSome, refl, sym, ap, subst, ◌∙◌, arith}
 use Rattle.std.proofs.lemmas.Bool.{false≢true}
 use Rattle.std.proofs.lemmas.Map.Lookups.{exact_bytes}
 use Rattle.std.proofs.lemmas.Map.Views.{tells_apart}
@@ -8,7 +8,7 @@ use Rattle.std.specs.Cmp.Lexicographic.{nat_list_cmp_total}
 use Rattle.std.specs.FinMap.{same_map}
 use Rattle.std.specs.List.Sorted.{IsStrictlySortedBy}
 use Rattle.std.specs.Map.{keys_of}
-use Rattle.std.specs.Option.{IfSome, option_and_then}
+use Rattle.std.specs.Option.{IfSome, option_and_then, unwrap_or}
 use Rattle.key_bytes.specs.Keys.{key_cmp}
 use Rattle.version_store.specs.declared.chains.Head.{Head}
 use Rattle.version_store.specs.Chains.{Slots, spelled, chain_of, head_of, database_of, IsWhole, IsSoundHead, Sound, IsKept, AddsKeys}
@@ -36,21 +36,24 @@ module _ (a b : List (List ℕ × Head)) (added : AddsKeys a b) where
   pub IsSome-added : (key : List ℕ) → IsSome (head_of a key) → IsSome (head_of b key)
   IsSome-added key = IsSome-kept (head_of a key) (head_of b key) (added key)
 
--- a key with an empty chain was inserted
-pub AddsKeys-inserted : (old new : List (List ℕ × Head)) (key : List ℕ) (head : Head) → head_of old key ≡ None → head.len ≡ 0
-    → ((q : List ℕ) → head_of new q ≡ cond (is_at (key_cmp key) q) (Some head) (head_of old q)) → AddsKeys old new
-AddsKeys-inserted old new key head none empty updates q =
+-- where there is no head, that of an empty chain comes in
+IsKept-unwrapped : (o : Option Head) (head : Head) → head.len ≡ 0 → IsKept o (Some (unwrap_or o head))
+IsKept-unwrapped None head empty = empty
+IsKept-unwrapped (Some own) head empty = refl
+
+-- a key has an empty chain where it had none
+pub AddsKeys-added : (old new : List (List ℕ × Head)) (key : List ℕ) (head : Head) → head.len ≡ 0
+    → ((q : List ℕ) → head_of new q ≡ cond (is_at (key_cmp key) q) (Some (unwrap_or (head_of old key) head)) (head_of old q))
+    → AddsKeys old new
+AddsKeys-added old new key head empty updates q =
     elim (is_at (key_cmp key) q)
-    as (λ b. is_at (key_cmp key) q ≡ b → head_of new q ≡ cond b (Some head) (head_of old q) → IsKept (head_of old q) (head_of new q)) [
-      | true ↦ λ same is. subst (λ o. IsKept o (head_of new q)) (sym none ∙ ap (head_of old) (tells_apart exact_bytes key q same))
-          (subst (IsKept None) (sym is) empty)
+    as (λ b. is_at (key_cmp key) q ≡ b → head_of new q ≡ cond b (Some (unwrap_or (head_of old key) head)) (head_of old q)
+    → IsKept (head_of old q) (head_of new q)) [
+      | true ↦ λ same is. subst (IsKept (head_of old q))
+          (sym (is ∙ ap (λ k. Some (unwrap_or (head_of old k) head)) (tells_apart exact_bytes key q same)))
+          (IsKept-unwrapped (head_of old q) head empty)
       | false ↦ λ _ is. subst (IsKept (head_of old q)) (sym is) (IsKept-refl (head_of old q))
     ] refl (updates q)
-
--- no head is there
-pub is_some-false : (o : Option Head) → false ≡ is_some o → o ≡ None
-is_some-false None none = refl
-is_some-false (Some head) none = absurd (false≢true none)
 
 -- an empty chain is sound, and holds nothing
 IsSoundHead-empty : (slots : Slots) (nodes last newest len : ℕ) → len ≡ 0

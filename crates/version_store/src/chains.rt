@@ -13,6 +13,7 @@ ghost use Rattle.version_store.specs.Versions.{holding, present};
 
 use crate::changes::Change;
 use key_bytes::{Bytes, Key};
+use key_map::add_missing;
 use slab::Slab;
 use std::alloc::{AllocError, Global};
 use std::collections::BTreeMap;
@@ -90,10 +91,7 @@ fn add_key(tree: &mut BTreeMap<Bytes, Head>, key: &Key) -> Result<(), AllocError
     ensures adds { AddsKeys tree.old.entries tree.new.entries }
     ensures added { OnOk result (IsSome (head_of tree.new.entries key.now)) }
 {
-    if tree.contains_key(key) {
-        return Ok(());
-    }
-    tree.insert(key.copy()?, Head { newest: 0, len: 0 })?;
+    add_missing(tree, key.copy()?, Head { newest: 0, len: 0 })?;
     Ok(())
 }
 
