@@ -24,5 +24,5 @@ mod walking;
 pub use applying::applied;
 pub use fault::ViewFault;
 pub use near::NearView;
-pub use undecided::{add_undecided, hides};
+pub use undecided::{add_undecided, around_below, hides};
 pub use view::View;

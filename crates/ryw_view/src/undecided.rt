@@ -13,9 +13,13 @@ use key_bytes::{Key, KeyRange};
 use std::alloc::AllocError;
 use write_map::{KeyState, WriteMap};
 
-// What the mutations make of a key, and the first edge above it, where it lies below the end of a range. Up to it, or else up
-// to the end, all keys from this one on are alike.
-fn around_below<'a>(edits: &'a WriteMap, from: &Key, end: &Key) -> (KeyState<'a>, Option<&'a Key>)
+/// What the mutations make of a key, and the first edge above it, where it lies below the end of a range. Up to it, or else up
+/// to the end, all keys from this one on are alike. It takes no memory, and one search.
+pub fn around_below<'a>(
+    edits: &'a WriteMap,
+    from: &Key,
+    end: &Key,
+) -> (KeyState<'a>, Option<&'a Key>)
     ensures state { IsStateUnder edits.now.mutations from.now result.0 }
     ensures edge { MatchOption result.1
         (AreAlikeUpTo edits.now.mutations from.now end.now)
