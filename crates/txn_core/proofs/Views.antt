@@ -216,12 +216,6 @@ module _ {A : Type 0} (shown : A → Reply) (old mid new : Kept) (store : Versio
             (rested_stands (ranges_of snapshot ranges) rests.1).0 (λ key. noted key rests.1),
       )
 
--- what a read adds to the keys that are rested on, unless by snapshot
-pub rested_ranges : (snapshot : Bool) (taken ranges pieces : List KeyRange) (key : List ℕ) → covers pieces key ≡ covers (without taken ranges) key
-    → (not snapshot && covers pieces key) ≡ covers (without taken (ranges_of snapshot ranges)) key
-rested_ranges true taken ranges pieces key is = sym (covers_without taken [] key)
-rested_ranges false taken ranges pieces key is = is
-
 -- a fault that is handed on is answered as it was
 pub answered_on_return : {A : Type 0} (shown : A → Reply) (result : Result A TrFault) (why : TrFault) (stands : Transaction → Type 0)
     (t : Transaction) (called : Called) → result ≡ Err why → Answered shown (Err why) stands t called → Answered shown result stands t called

@@ -111,9 +111,9 @@ impl Txn {
         let changes = self.changes(store, &stamp)?;
         let declared = self.declared_by(&stamp)?;
         store.reserve(&changes)?;
-        index.reserve(&declared, version)?;
+        index.reserve_all(&declared, version)?;
         store.install(changes);
-        index.install(declared, version);
+        index.install_all(&declared, version);
         self.tried(Tried::Version(version));
         Ok(())
     }

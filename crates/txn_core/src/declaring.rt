@@ -1,7 +1,6 @@
 //! The keys that a commit declares to write.
 
-ghost use Rattle.std.specs.Prelude.{◌≡◌, ◌||◌, ◌++◌, ◌^◌, ◌<◌, ℕ, List, length, zip, OnOk, IfOk};
-ghost use Rattle.key_bytes.specs.Ranges.{has};
+ghost use Rattle.std.specs.Prelude.{◌≡◌, ◌++◌, ◌^◌, ◌<◌, ℕ, List, length, zip, OnOk, IfOk};
 ghost use Rattle.database_rules.specs.Histories.{write_range, stamp_of};
 ghost use Rattle.database_rules.specs.States.{covers};
 ghost use Rattle.txn_core.specs.Stands.{declared_among, declared_in};
@@ -22,69 +21,80 @@ pub(crate) fn stamp_of(version: u64) -> [u8; 10]
     [a, b, c, d, e, f, g, h, 0, 0]
 }
 
-// Adds the keys that a mutation writes.
-fn add_written(ranges: &mut RangeSet, mutation: &Mutation) -> Result<(), AllocError>
-    ensures { OnOk result ((key : List ℕ)
-        → covers ranges.new key ≡ (covers ranges.old key || has (write_range (mutation_of mutation.now)) key)) }
+// The keys that a mutation writes.
+fn written(mutation: &Mutation) -> Result<KeyRange, AllocError>
+    ensures { IfOk result (λ range. range ≡ write_range (mutation_of mutation.now)) }
 {
     match mutation {
         Mutation::Set { key, .. } | Mutation::Clear { key } | Mutation::Atomic { key, .. } => {
-            ranges.add(&KeyRange::single(key.allocator(), key)?)
+            KeyRange::single(key.allocator(), key)
         }
-        Mutation::ClearRange { range } => ranges.add(range),
+        Mutation::ClearRange { range } => {
+            let begin = range.begin.copy()?;
+            let end = range.end.copy()?;
+            Ok(KeyRange { begin, end })
+        }
     }
 }
 
-// Adds the keys that those of the mutations write which declare them.
-fn add_declared(
-    ranges: &mut RangeSet,
+// Adds the ranges that those of the mutations write which declare them.
+fn push_written(
+    ranges: &mut Vec<KeyRange>,
     mutations: &[Mutation],
     declares: &[bool],
 ) -> Result<(), AllocError>
-    ensures { OnOk result ((key : List ℕ)
-        → covers ranges.new key ≡ (covers ranges.old key || covers (declared_among (mutations_of mutations.now) declares.now) key)) }
+    ensures { OnOk result (ranges.new.items ≡ ranges.old.items ++ declared_among (mutations_of mutations.now) declares.now) }
 {
     for (mutation, declares) in mutations.iter().zip(declares) {
         if *declares {
-            add_written(ranges, mutation)?;
+            ranges.push(written(mutation)?)?;
         }
     }
     Ok(())
 }
 
-// Adds the keys of a set.
-fn add_ranges(ranges: &mut RangeSet, other: &RangeSet) -> Result<(), AllocError>
-    ensures { OnOk result ((key : List ℕ) → covers ranges.new key ≡ (covers ranges.old key || covers other.now key)) }
+// Adds the ranges of a set.
+fn push_ranges(ranges: &mut Vec<KeyRange>, set: &RangeSet) -> Result<(), AllocError>
+    ensures { OnOk result (ranges.new.items ≡ ranges.old.items ++ set.now) }
 {
-    for (begin, end) in other.ranges() {
+    for (begin, end) in set.ranges() {
         let begin = begin.copy()?;
         let end = end.copy()?;
-        ranges.add(&KeyRange { begin, end })?;
+        ranges.push(KeyRange { begin, end })?;
     }
     Ok(())
 }
 
 impl Txn {
-    // The keys that the commit declares, where these are its mutations with the versionstamp filled in.
-    fn declared(&self, edits: &WriteMap) -> Result<RangeSet, AllocError>
-        ensures { IfOk result (λ ranges. (key : List ℕ)
-            → covers ranges key ≡ covers (declared_among edits.now.mutations self.now.declares ++ self.now.write_ranges) key) }
+    // The ranges that the commit declares, where these are its mutations with the versionstamp filled in.
+    fn declared(&self, edits: &WriteMap) -> Result<Vec<KeyRange>, AllocError>
+        ensures { IfOk result (λ ranges. ranges.items ≡ declared_among edits.now.mutations self.now.declares ++ self.now.write_ranges) }
     {
-        let mut ranges = RangeSet::new(self.allocator());
-        add_declared(&mut ranges, edits.mutations(), &self.declares)?;
-        add_ranges(&mut ranges, &self.write_ranges)?;
+        let mut ranges = Vec::new(self.allocator());
+        push_written(&mut ranges, edits.mutations(), &self.declares)?;
+        push_ranges(&mut ranges, &self.write_ranges)?;
         Ok(ranges)
     }
 
-    // The keys that the commit declares, where this is its versionstamp.
-    pub(crate) fn declared_by(&self, stamp: &[u8; 10]) -> Result<RangeSet, AllocError>
-        ensures { IfOk result (λ ranges. (key : List ℕ)
-            → covers ranges key ≡ covers (declared_in stamp.now self.now) key) }
+    // The ranges that the commit declares, where this is its versionstamp: those of its mutations in their order, and then those
+    // that it was told to declare.
+    pub(crate) fn declared_by(&self, stamp: &[u8; 10]) -> Result<Vec<KeyRange>, AllocError>
+        ensures { IfOk result (λ ranges. ranges.items ≡ declared_in stamp.now self.now) }
     {
         if self.edits.has_stamps() {
             self.declared(&self.edits.filled(stamp)?)
         } else {
             self.declared(&self.edits)
         }
+    }
+
+    // The keys of these ranges.
+    pub(crate) fn declared_keys(&self, stamp: &[u8; 10]) -> Result<RangeSet, AllocError>
+        ensures { IfOk result (λ ranges. (key : List ℕ)
+            → covers ranges key ≡ covers (declared_in stamp.now self.now) key) }
+    {
+        let mut keys = RangeSet::new(self.allocator());
+        keys.add_all(&self.declared_by(stamp)?)?;
+        Ok(keys)
     }
 }

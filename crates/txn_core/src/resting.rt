@@ -1,19 +1,22 @@
 //! What a read leaves: the version that it took, and the keys that its transaction rests on since then.
 
-ghost use Rattle.std.specs.Prelude.{◌≡◌, ◌||◌, ◌&&◌, not, ℕ, List, true, false, Ok, MatchOption, IfOk, OnOk, OnErr};
+ghost use Rattle.std.specs.Prelude.{◌≡◌, ◌≢◌, ◌||◌, ◌&&◌, not, ℕ, List, true, false, Ok, IsTrue, MatchOption, IfOk};
+ghost use Rattle.std.specs.List.{list_any};
+ghost use Rattle.key_bytes.specs.Ranges.{has, meets};
+ghost use Rattle.ryw_view.specs.Segments.{is_open};
 ghost use Rattle.database_rules.specs.States.{covers, unreadable};
 ghost use Rattle.database_rules.specs.Intervals.{any_meet, decided, without};
-ghost use Rattle.txn_core.specs.Accesses.{Rests, is_ahead_of};
+ghost use Rattle.txn_core.specs.Accesses.{Rests, is_ahead_of, ranges_of};
 
 use crate::txn::Txn;
 use conflict_ranges::RangeSet;
 use database_rules::{ACCESSED_UNREADABLE, Code};
 use fdb_calls::TrFault;
 use key_bytes::KeyRange;
-use ryw_view::add_undecided;
+use ryw_view::{add_undecided, around_below, hides};
 use std::alloc::AllocError;
 use version_store::Store;
-use write_map::WriteMap;
+use write_map::{KeyState, WriteMap};
 
 // The keys of ranges that the mutations don't decide; None where a key of the ranges is unreadable.
 fn undecided(edits: &WriteMap, interval: &[KeyRange]) -> Result<Option<Vec<KeyRange>>, AllocError>
@@ -31,16 +34,81 @@ fn undecided(edits: &WriteMap, interval: &[KeyRange]) -> Result<Option<Vec<KeyRa
     Ok(Some(pieces))
 }
 
-// Adds ranges, unless this holds. After a refusal the same keys are in the set as before.
-fn add_unless(without: bool, ranges: &mut RangeSet, pieces: &[KeyRange]) -> Result<(), AllocError>
-    ensures ok { OnOk result ((key : List ℕ)
-        → covers ranges.new key ≡ (covers ranges.old key || (not without && covers pieces.now key))) }
-    ensures err { OnErr result ((key : List ℕ) → covers ranges.new key ≡ covers ranges.old key) }
+// Whether a key of ranges is unreadable.
+fn is_hidden(edits: &WriteMap, interval: &[KeyRange]) -> bool
+    ensures { result ≡ any_meet interval.now (unreadable edits.now.mutations) }
 {
-    if without {
-        return Ok(());
+    for range in interval {
+        if hides(edits, range) {
+            return true;
+        }
     }
-    ranges.add_all(pieces)
+    false
+}
+
+// Whether the value of a key in this state rests on what is stored.
+fn is_open(state: KeyState<'_>) -> bool
+    ensures { result ≡ is_open state.entry }
+{
+    matches!(state, KeyState::Unmodified | KeyState::Depends(_))
+}
+
+// Whether one search of the edges tells that the mutations decide no key of a range, and make none unreadable.
+fn lies_open(edits: &WriteMap, range: &KeyRange) -> bool
+    ensures readable { IsTrue result → list_any (meets range.now) (unreadable edits.now.mutations) ≡ false }
+    ensures open { IsTrue result → (key : List ℕ)
+        → has range.now key ≡ (has range.now key && not (covers (decided edits.now.mutations) key)) }
+{
+    if range.is_empty() {
+        return false;
+    }
+    match around_below(edits, &range.begin, &range.end) {
+        (state, None) => is_open(state),
+        (_, Some(_)) => false,
+    }
+}
+
+// Adds to a set the keys of ranges that the mutations don't decide. False where a key of the ranges is unreadable: then, and after
+// a refusal, the set has the same keys as before.
+fn add_pieces(
+    edits: &WriteMap,
+    interval: &[KeyRange],
+    ranges: &mut RangeSet,
+) -> Result<bool, AllocError>
+    ensures readable { IfOk result (λ readable. readable ≡ not (any_meet interval.now (unreadable edits.now.mutations))) }
+    ensures added { result ≡ Ok true → (key : List ℕ) → covers ranges.new key
+        ≡ (covers ranges.old key || covers (without (decided edits.now.mutations) interval.now) key) }
+    ensures same { result ≢ Ok true → (key : List ℕ) → covers ranges.new key ≡ covers ranges.old key }
+{
+    if let [range] = interval {
+        if lies_open(edits, range) {
+            ranges.add(range)?;
+            return Ok(true);
+        }
+    }
+    let Some(pieces) = undecided(edits, interval)? else {
+        return Ok(false);
+    };
+    ranges.add_all(&pieces)?;
+    Ok(true)
+}
+
+// The same for an ordinary read; a snapshot one adds none.
+fn add_unless(
+    snapshot: bool,
+    edits: &WriteMap,
+    interval: &[KeyRange],
+    ranges: &mut RangeSet,
+) -> Result<bool, AllocError>
+    ensures readable { IfOk result (λ readable. readable ≡ not (any_meet interval.now (unreadable edits.now.mutations))) }
+    ensures added { result ≡ Ok true → (key : List ℕ) → covers ranges.new key
+        ≡ (covers ranges.old key || covers (without (decided edits.now.mutations) (ranges_of snapshot interval.now)) key) }
+    ensures same { result ≢ Ok true → (key : List ℕ) → covers ranges.new key ≡ covers ranges.old key }
+{
+    if snapshot {
+        return Ok(!is_hidden(edits, interval));
+    }
+    add_pieces(edits, interval, ranges)
 }
 
 impl Txn {
@@ -63,12 +131,11 @@ impl Txn {
         ensures { Rests result self.old self.new store.now snapshot interval.now }
     {
         let version = self.version_over(store);
-        let Some(pieces) = undecided(&self.edits, interval)? else {
-            self.version = Some(version);
-            return Err(TrFault::Code(Code(ACCESSED_UNREADABLE)));
-        };
-        add_unless(snapshot, &mut self.read_ranges, &pieces)?;
+        let is_readable = add_unless(snapshot, &self.edits, interval, &mut self.read_ranges)?;
         self.version = Some(version);
+        if !is_readable {
+            return Err(TrFault::Code(Code(ACCESSED_UNREADABLE)));
+        }
         Ok(())
     }
 }

@@ -69,7 +69,7 @@ impl TxnOn<'_> {
         ensures { IfOk result (λ ranges. (t : Transaction) (key : List ℕ) → StandsFor self.now.txn.now t
             → covers ranges key ≡ covers (declared_of stamp.now t) key) }
     {
-        self.txn.declared_by(stamp)
+        self.txn.declared_keys(stamp)
     }
 
     /// Notes what became of a commit. It takes no memory.

@@ -1,6 +1,6 @@
 use Rattle.std.proofs.Common.{◌++◌, sym, ap, ◌∙◌}
 use Rattle.std.proofs.lemmas.Result.{IfOk-weaker}
-use Rattle.database_rules.specs.States.{all_filled, covers}
+use Rattle.database_rules.specs.States.{all_filled}
 use Rattle.txn_core.specs.Stands.{Kept, declared_among}
 use Rattle.write_map.proofs.Filled.{plain_filled}
 use Rattle.txn_core.proofs.txn.Txn.declared_by.Goals as goal
@@ -8,9 +8,9 @@ use Rattle.txn_core.proofs.txn.Txn.declared_by.Goals as goal
 pub returns-else-has_stamps : goal.returns-else-has_stamps
 returns-else-has_stamps c =
     let kept = c.args.self.now in let mutations = c.self.inside.edits.mutations in
-    IfOk-weaker c.declared-else-has_stamps.result _ _ (λ ranges found key.
-    found key
-    ∙ ap (λ list. covers (declared_among list kept.declares ++ kept.write_ranges) key)
+    IfOk-weaker c.declared-else-has_stamps.result _ _ (λ ranges found.
+    found
+    ∙ ap (λ list. declared_among list kept.declares ++ kept.write_ranges)
     (sym (plain_filled c.args.stamp.now mutations (sym c.has_stamps.ensures ∙ c.if-has_stamps.false)))
-    ∙ ap (λ (k : Kept). covers (declared_among (all_filled c.args.stamp.now k.mutations) kept.declares ++ kept.write_ranges) key) c.self.view_is)
+    ∙ ap (λ (k : Kept). declared_among (all_filled c.args.stamp.now k.mutations) kept.declares ++ kept.write_ranges) c.self.view_is)
     c.declared-else-has_stamps.ensures
