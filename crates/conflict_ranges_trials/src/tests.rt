@@ -167,6 +167,32 @@ fn finds_the_newest(rt: HostRuntime) -> Result<(), Fail> {
     Ok(())
 }
 
+// The newest versions of `b`, of `c` and from `a` to `z`, where ranges that meet, an empty one and a key were written at 4.
+fn newest_of_list(alloc: Global) -> Result<[u64; 3], AllocError> {
+    let mut index = WriteIndex::new(alloc);
+    let ranges = [
+        range_of(alloc, b"a", b"c")?,
+        range_of(alloc, b"b", b"b")?,
+        range_of(alloc, b"a", b"b")?,
+        KeyRange::single(alloc, &Bytes::from_slice(alloc, b"b")?)?,
+    ];
+    index.reserve_all(&ranges, 4)?;
+    index.install_all(&ranges, 4);
+    let first = index.newest_in(&range_of(alloc, b"b", b"b\0")?);
+    let second = index.newest_in(&range_of(alloc, b"c", b"c\0")?);
+    Ok([
+        first,
+        second,
+        index.newest_in(&range_of(alloc, b"a", b"z")?),
+    ])
+}
+
+#[test]
+fn takes_a_list_of_ranges(rt: HostRuntime) -> Result<(), Fail> {
+    assert_eq!(rt; newest_of_list(rt.alloc())?, [4, 0, 4]);
+    Ok(())
+}
+
 // The keys of the large index: numbers as 8 bytes, the highest first.
 const LARGE: u64 = 200_000;
 

@@ -4,6 +4,7 @@ ghost use Rattle.std.specs.FinMap as finite;
 use super::*;
 use key_bytes::{Bytes, Key, Pair, Pairs};
 use std::alloc::{AllocError, Global};
+use std::collections::BTreeMap;
 use std::test::Fail;
 
 // Callers, whose proofs use the contracts alone.
@@ -82,6 +83,24 @@ fn inserts_and_removes(rt: HostRuntime) -> Result<(), Fail> {
         one_key(rt.alloc())?,
         [None, Some(1), Some(3), Some(3), None]
     );
+    Ok(())
+}
+
+// What a key has that was added twice, to a map and to a tree.
+fn added_twice(alloc: Global) -> Result<[Option<u64>; 2], AllocError> {
+    let key = key_of(alloc, b"a")?;
+    let mut map: KeyMap<u64> = KeyMap::new(alloc);
+    map.insert_missing(key.copy()?, 1)?;
+    map.insert_missing(key.copy()?, 2)?;
+    let mut tree: BTreeMap<Bytes, u64> = BTreeMap::new(alloc);
+    add_missing(&mut tree, key.copy()?, 3)?;
+    add_missing(&mut tree, key.copy()?, 4)?;
+    Ok([map.get(&key).copied(), tree.get(&key).copied()])
+}
+
+#[test]
+fn keeps_what_is_there(rt: HostRuntime) -> Result<(), Fail> {
+    assert_eq!(rt; added_twice(rt.alloc())?, [Some(1), Some(3)]);
     Ok(())
 }
 

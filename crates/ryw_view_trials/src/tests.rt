@@ -1,7 +1,7 @@
 use database_rules::{AtomicOp, Mode, Selector};
 use key_bytes::{Bytes, Key, KeyRange, Pair, Pairs};
 use range_read::{OrderedView, RangeFault, all};
-use ryw_view::{NearView, View, ViewFault, add_undecided, hides};
+use ryw_view::{NearView, View, ViewFault, add_undecided, around_below, hides};
 use std::alloc::{AllocError, Global};
 use std::test::Fail;
 use version_store::Store;
@@ -301,6 +301,25 @@ fn are_pieces(pieces: &[KeyRange], wanted: &[Ends]) -> bool {
     pieces.len() == wanted.len()
         && pieces.iter().zip(wanted).all(|(piece, ends)| piece.begin.as_slice() == ends.0
             && piece.end.as_slice() == ends.1)
+}
+
+// Whether there is an edge above `a` that lies below each of two ends, where `b` is set.
+fn edges_below(alloc: Global) -> Result<[bool; 2], AllocError> {
+    let edits = edits_of(alloc, &[Edit::Set(b"b", b"1")])?;
+    let (a, b, c) = (
+        key_of(alloc, b"a")?,
+        key_of(alloc, b"b")?,
+        key_of(alloc, b"c")?,
+    );
+    let (_, far) = around_below(&edits, &a, &c);
+    let (_, near) = around_below(&edits, &a, &b);
+    Ok([far.is_some(), near.is_some()])
+}
+
+#[test]
+fn finds_an_edge_below_an_end(rt: HostRuntime) -> Result<(), Fail> {
+    assert_eq!(rt; edges_below(rt.alloc())?, [true, false]);
+    Ok(())
 }
 
 fn is_pieces_row(alloc: Global, row: PiecesRow) -> Result<bool, AllocError> {
