@@ -94,6 +94,7 @@ impl<V> KeyMap<V> {
         V: Drop,
         ensures ok { OnOk result (self.new ≡ finite.insert self.old key (unwrap_or (finite.get self.old key) value)) }
         ensures err { OnErr result (self.new ≡ self.old) }
+        ensures only_new { OnErr result (finite.get self.old key ≡ None) }
     {
         add_missing(&mut self.tree, key, value)?;
         Ok(())
@@ -202,6 +203,7 @@ pub fn add_missing<V: Drop>(
 ) -> Result<(), AllocError>
     ensures ok { OnOk result (Updates key_cmp tree.old tree.new key (Some (unwrap_or (get key_cmp tree.old key) value))) }
     ensures err { OnErr result (IsUnchanged tree.old tree.new) }
+    ensures only_new { OnErr result (get key_cmp tree.old key ≡ None) }
     ensures rising { IsOrdered key_cmp tree.new }
 {
     let _value = tree.entry(key)?.or_insert(value);

@@ -13,8 +13,8 @@ use key_bytes::{Key, KeyRange};
 use std::alloc::AllocError;
 use write_map::{KeyState, WriteMap};
 
-/// What the mutations make of a key, and the first edge above it, where it lies below the end of a range. Up to it, or else up
-/// to the end, all keys from this one on are alike. It takes no memory, and one search.
+/// What the mutations make of a key, and how far all keys from it on are alike: up to an edge below the end of a range, or, where
+/// no edge is given, up to that end. It takes no memory, and one search.
 pub fn around_below<'a>(
     edits: &'a WriteMap,
     from: &Key,
