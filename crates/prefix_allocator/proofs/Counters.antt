@@ -1,140 +1,95 @@
 -- How the key of a counter is read.
-use Rattle.std.proofs.Common.{◌≡◌, ℕ, zero, suc, ◌≤◌, Bool, true, false, cond, List, [], ◌∷◌, ◌++◌, length, drop, Option, Some, None, Ok, Err, refl, sym, ap, ◌∙◌, arith}
-use Rattle.std.specs.Prelude.{bytes_eq, pos, negsuc, nat_lt}
-use Rattle.std.specs.Int.{is_negative}
-use Rattle.std.proofs.lemmas.Bool.{le-ltb, ltb-false, ne_eqb}
-use Rattle.std.proofs.Math.Seq.{take-append_seam, drop-append_seam}
-use Rattle.key_bytes.specs.Keys.{begins_with}
-use Rattle.fdb_tuple.specs.declared.tuple.Elem.{Elem}
-use Rattle.fdb_tuple.specs.declared.tuple.Elem.TheVariants as elem
-use Rattle.fdb_tuple.specs.Tuples.{Null, Bytes, Text, Int, Boolean, Uuid, Stamp, Elements, Empty, Single, Nested, greatest_magnitude, IsTuple}
-use Rattle.fdb_tuple.specs.Spelling.{spelling}
-use Rattle.fdb_tuple.specs.Listed.{elements_of, element_of}
-use Rattle.fdb_tuple.proofs.ReadLaws.{read_tuple_again}
-use Rattle.fdb_subspace.specs.declared.fault.SubFault.{SubFault}
-use Rattle.fdb_subspace.specs.declared.fault.SubFault.TheVariants as fault
-use Rattle.fdb_subspace.specs.Inside.{behind_by, behind_read, key_read}
+use Rattle.std.proofs.Common.{◌≡◌, ℕ, ◌+◌, ◌*◌, ◌^◌, ◌<◌, ◌≤◌, true, false, cond, ◌&&◌, List, [], ◌++◌, length, get_or, take, drop, reverse, Option, Some, None, refl, sym, ap, ◌∙◌, arith}
+use Rattle.std.specs.Prelude.{bytes_eq, nat_le, pos}
+use Rattle.std.proofs.Math.Bool.{and-false}
+use Rattle.std.proofs.lemmas.Bool.{and_from, le-leb, lt-leb}
+use Rattle.std.proofs.lemmas.List.{append-nil, length-append, length-drop, length-reverse, length-take}
+use Rattle.key_bytes.specs.Numbers.{number_low}
+use Rattle.fdb_tuple.specs.Spelling.{least_bytes, low_first, int_spelled, signed_spelled}
+use Rattle.fdb_tuple.proofs.ByteLists.{AreBytes, AreBytes-take, number_high_below, number_more}
+use Rattle.fdb_tuple.proofs.Digits.{length-low_first_le, with_sign-false}
 use Rattle.allocator_rules.specs.declared.TheConstants.{GREATEST_COUNTER}
-use Rattle.allocator_rules.specs.Counters.{counter_key, counter_in}
-use Rattle.allocator_rules.proofs.Codes.{counter_in_is, counter_in_again}
-use Rattle.allocator_rules.proofs.Viewing.{itself}
-use Rattle.prefix_allocator.specs.Keyed.{small, is_zero, small_in, number_in}
+use Rattle.allocator_rules.specs.Counters.{counter_key, counter_in, counters_prefix}
+use Rattle.allocator_rules.proofs.Codes.{counter_in_is, number_spelled}
 
--- the tuple of 0 and a number
-abbrev pub pair : ℕ → Elements
-pair number = Single (Int (pos 0)) (Single (Int (pos number)) Empty)
+-- ---- the number of digits
 
-not_negative : (number : ℕ) → is_negative (pos number) ≡ false
-not_negative number = le-ltb number 0 (omega arith)
+-- up to seven digits there is room for one more
+pub digits_fit : (digits : List ℕ) (i : ℕ) → i < length digits → length digits ≤ 8 → AreBytes digits
+    → number_low (reverse (take i digits)) < 256 ^ 7
+digits_fit digits i lt le bytes =
+    number_high_below 7 (take i digits) (omega (arith, length-take i digits)) (AreBytes-take i digits bytes)
 
-pair_is_tuple : (number : ℕ) → number ≤ GREATEST_COUNTER → IsTuple (pair number)
-pair_is_tuple number small =
-    let wide : number ≤ greatest_magnitude (is_negative (pos number)) = rw (not_negative number) (omega arith) in
-    (((omega arith), (wide, tt)), omega arith)
+-- one more digit
+pub digits_more : (digits : List ℕ) (i : ℕ) → i < length digits
+    → number_low (reverse (take (i + 1) digits)) ≡ 256 * number_low (reverse (take i digits)) + get_or digits i 0
+digits_more digits i lt =
+    ap (λ bytes. number_low (reverse bytes)) (sym (with_sign-false (take (i + 1) digits)))
+    ∙ number_more false digits i lt
+    ∙ ap (λ bytes. 256 * number_low (reverse bytes) + get_or digits i 0) (with_sign-false (take i digits))
 
--- ---- reading
+-- ---- the digits of a key
 
--- what is spelled behind a prefix is read
-pub read_behind : (space : List ℕ) (tuple : Elements) → IsTuple tuple → key_read space (space ++ spelling tuple) ≡ Ok tuple
-read_behind space tuple is =
-    let key = space ++ spelling tuple in
-    let front : begins_with key space ≡ true = ap (λ front. bytes_eq space front) (take-append_seam space (spelling tuple))
-    ∙ itself space in
-    ap (λ (inside : Bool). cond inside (behind_read (drop (length space) key)) (Err fault.NotInside)) front
-    ∙ ap behind_read (drop-append_seam space (spelling tuple)) ∙ ap behind_by (read_tuple_again tuple is)
+-- those behind the code of a counter's number
+abbrev pub digits_in : (space key : List ℕ) → List ℕ
+digits_in space key = drop (length (counters_prefix space) + 1) key
 
--- a key of a counter reads as a pair
-pub counter_reads : (space key : List ℕ) (number : ℕ) → counter_in space key ≡ Some number → key_read space key ≡ Ok (pair number)
-counter_reads space key number is =
-    let parts = counter_in_is space key number is in
-    ap (key_read space) parts.0 ∙ read_behind space (pair number) (pair_is_tuple number parts.1)
+-- how long the spelling is of 0, and of a number
+zero_length : length (int_spelled (pos 0)) ≡ 1
+unfolding least_bytes low_first signed_spelled
+zero_length = refl
 
--- ---- the number
+number_length : (number : ℕ) → number ≤ GREATEST_COUNTER → length (int_spelled (pos number)) ≤ 9
+unfolding least_bytes
+number_length number small = rw (number_spelled number (omega arith))
+    (omega (arith, length-reverse (low_first 16 number), length-low_first_le 16 8 number (omega arith)))
 
-small_is : (negative : Bool) (size number : ℕ) → small negative size ≡ Some number
-    → (negative ≡ false) × (size ≡ number) × (size ≤ GREATEST_COUNTER)
-small_is true size number is = absurd cc
-small_is false size number is = by (nat_lt GREATEST_COUNTER size) refl is
-  where
-    by : (large : Bool) → nat_lt GREATEST_COUNTER size ≡ large → cond large None (Some size) ≡ Some number
-        → (false ≡ false) × (size ≡ number) × (size ≤ GREATEST_COUNTER)
-    by true large is = absurd cc
-    by false large is = (refl, cc, ltb-false GREATEST_COUNTER size large)
+-- a counter's key has at most eight
+few_digits : (space : List ℕ) (number : ℕ) → number ≤ GREATEST_COUNTER → length (digits_in space (counter_key space number)) ≤ 8
+few_digits space number small =
+    let spelled = int_spelled (pos number) ++ [] in
+    let key = length-append space (int_spelled (pos 0) ++ spelled) in
+    let behind = length-append (int_spelled (pos 0)) spelled in
+    let one = ap length (append-nil (int_spelled (pos number))) in
+    let prefix = length-append space (int_spelled (pos 0) ++ []) in
+    let zero = ap length (append-nil (int_spelled (pos 0))) in
+    let left = length-drop (length (counters_prefix space) + 1) (counter_key space number) in
+    omega (arith, key, behind, one, prefix, zero, zero_length, left, number_length number small)
 
-pub number_again : (number : ℕ) → number ≤ GREATEST_COUNTER → number_in (elements_of (pair number)) ≡ Some number
-number_again number low =
-    ap (λ (negative : Bool). small negative number) (not_negative number)
-    ∙ ap (λ (large : Bool). cond large None (Some number)) (le-ltb GREATEST_COUNTER number low)
-
-second_is : (tuple : Elements) (number : ℕ) → number_in (elem.Int (pos 0) ∷ elements_of tuple) ≡ Some number
-    → (tuple ≡ Single (Int (pos number)) Empty) × (number ≤ GREATEST_COUNTER)
-second_is Empty number is = absurd cc
-second_is (Nested inner Empty) number is = absurd cc
-second_is (Nested inner (Single scalar rest)) number is = absurd cc
-second_is (Nested inner (Nested third rest)) number is = absurd cc
-second_is (Single scalar (Single third rest)) number is = absurd cc
-second_is (Single scalar (Nested third rest)) number is = absurd cc
-second_is (Single Null Empty) number is = absurd cc
-second_is (Single (Bytes bytes) Empty) number is = absurd cc
-second_is (Single (Text text) Empty) number is = absurd cc
-second_is (Single (Boolean value) Empty) number is = absurd cc
-second_is (Single (Uuid bytes) Empty) number is = absurd cc
-second_is (Single (Stamp stamp user) Empty) number is = absurd cc
-second_is (Single (Int (pos size)) Empty) number is =
-    let parts = small_is (is_negative (pos size)) size number is in
-    (ap (λ size. Single (Int (pos size)) Empty) parts.1, omega arith)
-second_is (Single (Int (negsuc size)) Empty) number is = absurd
-    (let parts = small_is (is_negative (negsuc size)) (suc size) number is in cc)
-
-not_zero : (first : Elem) (others : List Elem) (number : ℕ) → is_zero first ≡ false → number_in (first ∷ others) ≡ Some number → ⊥
-not_zero first [] number apart is = cc
-not_zero first (second ∷ []) number apart is =
-    let none : None ≡ Some number = ap (λ (zero : Bool). cond zero (small_in second) None) (sym apart) ∙ is in cc
-not_zero first (second ∷ third ∷ others) number apart is = cc
-
--- a tuple with a number of a counter is the pair of 0 and that number
-pub number_is : (tuple : Elements) (number : ℕ) → number_in (elements_of tuple) ≡ Some number
-    → (tuple ≡ pair number) × (number ≤ GREATEST_COUNTER)
-number_is Empty number is = absurd cc
-number_is (Single (Int (pos zero)) rest) number is =
-    let parts = second_is rest number is in (ap (λ rest. Single (Int (pos 0)) rest) parts.0, parts.1)
-number_is (Single (Int (pos (suc size))) rest) number is = absurd
-    (not_zero (elem.Int (pos (suc size))) (elements_of rest) number (ne_eqb (suc size) 0 (λ e. omega arith)) is)
-number_is (Single (Int (negsuc size)) rest) number is = absurd
-    (not_zero (elem.Int (negsuc size)) (elements_of rest) number (ne_eqb (suc size) 0 (λ e. omega arith)) is)
-number_is (Single Null rest) number is = absurd (not_zero elem.Null (elements_of rest) number refl is)
-number_is (Single (Bytes bytes) rest) number is = absurd (not_zero (elem.Bytes bytes) (elements_of rest) number refl is)
-number_is (Single (Text text) rest) number is = absurd (not_zero (elem.Text text) (elements_of rest) number refl is)
-number_is (Single (Boolean value) rest) number is = absurd (not_zero (elem.Bool value) (elements_of rest) number refl is)
-number_is (Single (Uuid bytes) rest) number is = absurd (not_zero (elem.Uuid bytes) (elements_of rest) number refl is)
-number_is (Single (Stamp stamp user) rest) number is = absurd (not_zero (element_of (Stamp stamp user)) (elements_of rest) number refl is)
-number_is (Nested inner rest) number is = absurd (not_zero (elem.Nested inner) (elements_of rest) number refl is)
-
--- ---- a key
-
--- a key that reads as a tuple is a counter's where the tuple has the number of one
-pub counter_found : (space key : List ℕ) (tuple : Elements) → key ≡ space ++ spelling tuple → key_read space key ≡ Ok tuple
-    → number_in (elements_of tuple) ≡ counter_in space key
-counter_found space key tuple is reads = by (number_in (elements_of tuple)) refl (counter_in space key) refl
-  where
-    by : (number : Option ℕ) → number_in (elements_of tuple) ≡ number → (counter : Option ℕ) → counter_in space key ≡ counter
-        → number ≡ counter
-    by (Some number) number_of counter counter_is =
-        let parts = number_is tuple number number_of in
-        let key_is : key ≡ counter_key space number = is ∙ ap (λ tuple. space ++ spelling tuple) parts.0 in
-        sym (counter_in_again space number parts.1) ∙ ap (counter_in space) (sym key_is) ∙ counter_is
-    by None none None counter_is = refl
-    by None none (Some counter) counter_is =
-        let read : Ok tuple ≡ Ok (pair counter) = sym reads ∙ counter_reads space key counter counter_is in
-        let same : tuple ≡ pair counter = cc in
-        let low = (counter_in_is space key counter counter_is).1 in
-        absurd (let again : number_in (elements_of tuple) ≡ Some counter = ap (λ tuple. number_in (elements_of tuple)) same
-        ∙ number_again counter low in cc)
-
--- a key that reads as none isn't
-pub no_counter : (space key : List ℕ) (f : SubFault) → key_read space key ≡ Err f → None ≡ counter_in space key
-no_counter space key f refused = by (counter_in space key) refl
+-- so a key with more is no counter's
+pub many_digits : (space key : List ℕ) → 8 < length (digits_in space key) → None ≡ counter_in space key
+many_digits space key many = by (counter_in space key) refl
   where
     by : (counter : Option ℕ) → counter_in space key ≡ counter → None ≡ counter
     by None is = refl
-    by (Some counter) is = absurd (let reads = counter_reads space key counter is in cc)
+    by (Some number) is = absurd
+      (let parts = counter_in_is space key number is in
+      let few = few_digits space number parts.1 in
+      let same = ap (λ key. length (digits_in space key)) parts.0 in
+      omega (arith, few, same, many))
+
+-- ---- the number of a key
+
+-- the number that its digits say
+abbrev pub said : (space key : List ℕ) → ℕ
+said space key = number_low (reverse (digits_in space key))
+
+-- a key that is that of this number is a counter's, where the number is small enough
+pub said_counter : (space key : List ℕ) → bytes_eq key (counter_key space (said space key)) ≡ true → said space key ≤ GREATEST_COUNTER
+    → Some (said space key) ≡ counter_in space key
+unfolding counter_in
+said_counter space key equal small =
+    sym (ap (λ b. cond b (Some (said space key)) None) (and_from _ _ equal (le-leb (said space key) GREATEST_COUNTER small)))
+
+-- a key that is another, or that of a greater number, isn't
+pub another_key : (space key : List ℕ) → bytes_eq key (counter_key space (said space key)) ≡ false → None ≡ counter_in space key
+unfolding counter_in
+another_key space key differs =
+    sym (ap (λ b. cond (b && nat_le (said space key) GREATEST_COUNTER) (Some (said space key)) None) differs)
+
+pub great_number : (space key : List ℕ) → GREATEST_COUNTER < said space key → None ≡ counter_in space key
+unfolding counter_in
+great_number space key great =
+    let equal = bytes_eq key (counter_key space (said space key)) in
+    sym (ap (λ b. cond (equal && b) (Some (said space key)) None) (lt-leb (said space key) GREATEST_COUNTER great)
+    ∙ ap (λ b. cond b (Some (said space key)) None) (and-false equal))

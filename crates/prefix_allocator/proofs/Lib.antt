@@ -5,6 +5,7 @@ pub mod Draws
 pub mod Drawing
 pub mod Finding
 pub mod Halves
+pub mod Numbers
 pub mod Openings
 pub mod Planning
 pub mod Scanning

@@ -1,13 +1,20 @@
 //! The keys of an allocator.
 
-ghost use Rattle.std.specs.Prelude.{◌≡◌, [], ◌∷◌, ◌++◌, IfOk};
+ghost use Rattle.std.specs.Prelude.{◌≡◌, ◌+◌, [], ◌∷◌, ◌++◌, length, drop, IfOk};
+ghost use Rattle.fdb_tuple.specs.Spelling.{least_bytes};
 ghost use Rattle.allocator_rules.specs.Counters.{packed, counters_prefix, recent_prefix, counter_key, recent_key};
 ghost use Rattle.allocator_rules.specs.Counters.{counters_begin, counters_end};
 
 use fdb_subspace::Subspace;
-use fdb_tuple::{Elem, pack_element};
 use key_bytes::{Bytes, Key, KeyRange};
 use std::alloc::{AllocError, Global};
+
+// The packed tuple of 0, behind which the counters stand, and that of 1, behind which the numbers stand that were tried.
+const COUNTERS: [u8; 1] = [0x14];
+const RECENTS: [u8; 2] = [0x15, 0x01];
+
+// The code of an integer above 0 is this and how many bytes it has; 0 has none.
+const CODE_OF_ZERO: u8 = 0x14;
 
 /// The keys of the allocator in a subspace.
 #[derive(Drop)]
@@ -25,10 +32,13 @@ impl AllocatorKeys {
     pub(crate) fn new(alloc: Global, space: &Subspace) -> Result<AllocatorKeys, AllocError>
         ensures { IfOk result (λ keys. keys.space ≡ space.now.prefix) }
     {
+        let space = Bytes::from_slice(alloc, space.prefix.as_slice())?;
+        let counters = joined(&space, &COUNTERS)?;
+        let recents = joined(&space, &RECENTS)?;
         Ok(AllocatorKeys {
-            space: space.prefix.copy()?,
-            counters: key_behind(alloc, &space.prefix, 0)?,
-            recents: key_behind(alloc, &space.prefix, 1)?,
+            space,
+            counters,
+            recents,
         })
     }
 
@@ -36,14 +46,26 @@ impl AllocatorKeys {
     pub(crate) fn counter(&self, start: u64) -> Result<Key, AllocError>
         ensures { IfOk result (λ key. key ≡ counter_key self.now.space start) }
     {
-        key_behind(self.counters.allocator(), &self.counters, start)
+        key_behind(&self.counters, start)
     }
 
     /// The key of a number that was tried.
     pub(crate) fn recent(&self, number: u64) -> Result<Key, AllocError>
         ensures { IfOk result (λ key. key ≡ recent_key self.now.space number) }
     {
-        key_behind(self.recents.allocator(), &self.recents, number)
+        key_behind(&self.recents, number)
+    }
+
+    /// The bytes of a key behind the code of the number, where it is a counter's.
+    pub(crate) fn digits_in<'a>(&self, key: &'a Key) -> &'a [u8]
+        ensures { result.now ≡ drop (length (counters_prefix self.now.space) + 1) key.now }
+    {
+        let bytes = key.as_slice();
+        let place = self.counters.as_slice().len() + 1;
+        if bytes.len() < place {
+            return &[];
+        }
+        &bytes[place..]
     }
 
     /// The range that has the keys of all counters.
@@ -51,10 +73,8 @@ impl AllocatorKeys {
         ensures begin { IfOk result (λ range. range.begin ≡ counters_begin self.now.space) }
         ensures end { IfOk result (λ range. range.end ≡ counters_end self.now.space) }
     {
-        let mut begin = self.counters.copy()?;
-        let mut end = self.counters.copy()?;
-        begin.extend(&[0x00])?;
-        end.extend(&[0xFF])?;
+        let begin = joined(&self.counters, &[0x00])?;
+        let end = joined(&self.counters, &[0xFF])?;
         Ok(KeyRange { begin, end })
     }
 
@@ -81,12 +101,29 @@ impl AllocatorKeys {
     }
 }
 
+// A prefix, and bytes behind it.
+fn joined(prefix: &Key, bytes: &[u8]) -> Result<Key, AllocError>
+    ensures { IfOk result (λ key. key ≡ prefix.now ++ bytes.now) }
+{
+    let mut key = prefix.copy()?;
+    key.extend(bytes)?;
+    Ok(key)
+}
+
+// How many of the 16 bytes of a number are zeros in front of its least bytes.
+fn zero_bytes(number: u128) -> usize
+    ensures { result + length (least_bytes number) ≡ 16 }
+{
+    (number.leading_zeros() / 8) as usize
+}
+
 // A prefix, and the packed tuple of one number behind it.
-fn key_behind(alloc: Global, prefix: &Key, number: u64) -> Result<Key, AllocError>
+fn key_behind(prefix: &Key, number: u64) -> Result<Key, AllocError>
     ensures { IfOk result (λ key. key ≡ prefix.now ++ packed number) }
 {
-    let packed = pack_element(alloc, &Elem::Int(i128::from(number)))?;
-    let mut key = prefix.copy()?;
-    key.extend(packed.as_slice())?;
+    let number = u128::from(number);
+    let zeros = zero_bytes(number);
+    let mut key = joined(prefix, &[CODE_OF_ZERO + (16 - zeros) as u8])?;
+    key.extend(&number.to_be_bytes()[zeros..])?;
     Ok(key)
 }

@@ -42,7 +42,7 @@ pub fn allocate<T: Tr, W: Words>(
 {
     let keys = AllocatorKeys::new(alloc, space)?;
     let greatest = greatest_key(tr, &keys)?;
-    let first = start_of(alloc, space, greatest)?;
+    let first = start_of(&keys, greatest)?;
     let start = open_window(tr, &keys, first)?;
     let Some(number) = find_number(tr, &keys, start, words)? else {
         return Err(AllocFault::WindowFull { start });

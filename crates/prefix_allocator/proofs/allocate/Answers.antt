@@ -1,11 +1,12 @@
-use Rattle.std.proofs.Common.{◌≡◌, ℕ, [], ◌∷◌, Option, Some, None, Ok, Err, refl, subst}
+use Rattle.std.proofs.Common.{◌≡◌, ℕ, [], ◌∷◌, Option, Some, None, Ok, Err, refl, sym, ap, ◌∙◌, subst}
 use Rattle.std.proofs.lemmas.Result.{err_from_is_err_and}
 use Rattle.database_rules.specs.Transactions.{Transaction, view}
 use Rattle.std.specs.Prelude.{⊤}
 use Rattle.allocator_rules.specs.Acts.{all_acted}
 use Rattle.allocator_rules.specs.Granting.{asks_greatest, claims}
 use Rattle.prefix_allocator.specs.Allocates.{Leaves}
-use Rattle.prefix_allocator.specs.Doing.{Done, Draws, tries_of, window_candidates}
+use Rattle.prefix_allocator.specs.Keyed.{Starts}
+use Rattle.prefix_allocator.specs.Doing.{Done, Draws, start_in, tries_of, window_candidates}
 use Rattle.prefix_allocator.proofs.Calls.{IsGreatest}
 use Rattle.prefix_allocator.proofs.Finding.{InWindow}
 use Rattle.prefix_allocator.proofs.Openings.{Opened, opening}
@@ -14,7 +15,7 @@ use Rattle.prefix_allocator.proofs.Allocating.{has_opened, out_of_memory, fault_
 use Rattle.prefix_allocator.proofs.allocate.Goals as goal
 
 pub open_window-requires : goal.open_window-requires
-open_window-requires g c = start_small c.args.space.now.prefix c.in_ok-greatest.greatest c.in_ok-first.first c.in_ok-first.ensures
+open_window-requires g c = start_small c.in_ok-keys.keys.space c.in_ok-greatest.greatest c.in_ok-first.first c.in_ok-first.ensures
 
 pub returns-in_err-keys-clause-allocates : goal.returns-in_err-keys-clause-allocates
 returns-in_err-keys-clause-allocates g c setting t stands =
@@ -37,7 +38,7 @@ returns-in_err-first-clause-allocates g c setting t stands =
     let after = g.T.Tr.stands c.greatest_key.new.tr setting in
     rw (p.1, p.2) (fault_start c.in_err-first.field-0.0 c.in_ok-greatest.greatest setting after (g.W.Words.words c.args.words.now)
     c.args.space.now.prefix t
-    c.in_err-first.ensures
+    (subst (λ space. Starts (Err c.in_err-first.field-0.0) space c.in_ok-greatest.greatest) c.in_ok-keys.ensures c.in_err-first.ensures)
     (subst (λ space. Done (IsGreatest setting t space) (Ok c.in_ok-greatest.greatest) setting after (asks_greatest space ∷ []) t)
     c.in_ok-keys.ensures
     (c.in_ok-greatest.ensures.read setting t stands)))
@@ -54,7 +55,7 @@ returns-in_err-start-clause-allocates g c setting t stands =
     (c.in_ok-greatest.ensures.read setting t stands) in
     let after = g.T.Tr.stands c.open_window.new.tr setting in
     let f = c.in_err-start.field-0.0 in
-    rw (p.1, p.2) (fault_opening f c.in_ok-greatest.greatest setting asked after words prefix first t c.in_ok-first.ensures greatest
+    rw (p.1, p.2) (fault_opening f c.in_ok-greatest.greatest setting asked after words prefix first t (ap (λ space. start_in space c.in_ok-greatest.greatest) (sym c.in_ok-keys.ensures) ∙ c.in_ok-first.ensures) greatest
     (λ u stands. subst (λ space. Done (Opened setting u space first) (Err f) setting after (opening setting u space first) u)
     c.in_ok-keys.ensures
     (c.in_err-start.ensures.opened setting u stands)))
@@ -75,7 +76,7 @@ returns-in_err-number-clause-allocates g c setting t stands =
     let opened = g.T.Tr.stands c.open_window.new.tr setting in
     let start = c.in_ok-start.start in
     let left = g.W.Words.words c.find_number.new.words in
-    let has = has_opened c.in_ok-greatest.greatest setting asked opened prefix first start t c.in_ok-first.ensures greatest
+    let has = has_opened c.in_ok-greatest.greatest setting asked opened prefix first start t (ap (λ space. start_in space c.in_ok-greatest.greatest) (sym c.in_ok-keys.ensures) ∙ c.in_ok-first.ensures) greatest
     (λ u stands. subst (λ space. Done (Opened setting u space first) (Ok start) setting opened (opening setting u space first) u)
     c.in_ok-keys.ensures
     (c.in_ok-start.ensures.opened setting u stands)) in
@@ -105,7 +106,7 @@ returns-in_default-clause-allocates g c setting t stands =
     let opened = g.T.Tr.stands c.open_window.new.tr setting in
     let start = c.in_ok-start.start in
     let left = g.W.Words.words c.find_number.new.words in
-    let has = has_opened c.in_ok-greatest.greatest setting asked opened prefix first start t c.in_ok-first.ensures greatest
+    let has = has_opened c.in_ok-greatest.greatest setting asked opened prefix first start t (ap (λ space. start_in space c.in_ok-greatest.greatest) (sym c.in_ok-keys.ensures) ∙ c.in_ok-first.ensures) greatest
     (λ u stands. subst (λ space. Done (Opened setting u space first) (Ok start) setting opened (opening setting u space first) u)
     c.in_ok-keys.ensures
     (c.in_ok-start.ensures.opened setting u stands)) in
@@ -138,7 +139,7 @@ returns-in_err-claim_number-clause-allocates g c setting t stands =
     let opened = g.T.Tr.stands c.open_window.new.tr setting in
     let start = c.in_ok-start.start in
     let left = g.W.Words.words c.find_number.new.words in
-    let has = has_opened c.in_ok-greatest.greatest setting asked opened prefix first start t c.in_ok-first.ensures greatest
+    let has = has_opened c.in_ok-greatest.greatest setting asked opened prefix first start t (ap (λ space. start_in space c.in_ok-greatest.greatest) (sym c.in_ok-keys.ensures) ∙ c.in_ok-first.ensures) greatest
     (λ u stands. subst (λ space. Done (Opened setting u space first) (Ok start) setting opened (opening setting u space first) u)
     c.in_ok-keys.ensures
     (c.in_ok-start.ensures.opened setting u stands)) in
@@ -174,7 +175,7 @@ returns-clause-allocates g c setting t stands =
     let opened = g.T.Tr.stands c.open_window.new.tr setting in
     let start = c.in_ok-start.start in
     let left = g.W.Words.words c.find_number.new.words in
-    let has = has_opened c.in_ok-greatest.greatest setting asked opened prefix first start t c.in_ok-first.ensures greatest
+    let has = has_opened c.in_ok-greatest.greatest setting asked opened prefix first start t (ap (λ space. start_in space c.in_ok-greatest.greatest) (sym c.in_ok-keys.ensures) ∙ c.in_ok-first.ensures) greatest
     (λ u stands. subst (λ space. Done (Opened setting u space first) (Ok start) setting opened (opening setting u space first) u)
     c.in_ok-keys.ensures
     (c.in_ok-start.ensures.opened setting u stands)) in

@@ -1,30 +1,35 @@
-use Rattle.std.proofs.Common.{◌≡◌, ◌∙◌, Err, ap, sym}
-use Rattle.fdb_subspace.specs.declared.fault.SubFault.TheVariants as fault
-use Rattle.fdb_subspace.specs.Inside.{key_read}
-use Rattle.prefix_allocator.proofs.Counters.{counter_found, no_counter}
+use Rattle.std.proofs.Common.{◌≡◌, length, reverse, Some, sym, ap, ◌∙◌, arith}
+use Rattle.std.specs.Prelude.{bytes_eq}
+use Rattle.std.proofs.lemmas.Bool.{not-true, not-false}
+use Rattle.key_bytes.specs.Numbers.{number_low}
+use Rattle.allocator_rules.specs.Counters.{counter_key}
+use Rattle.prefix_allocator.proofs.Counters.{said, many_digits, said_counter, another_key, great_number}
+use Rattle.prefix_allocator.proofs.starts.counter_of.Goals.{then-number-gt-GREATEST_COUNTER-via-then-number-gt-GREATEST_COUNTER, then-number-gt-GREATEST_COUNTER-via-else-number-gt-GREATEST_COUNTER+in_ok-counter+then-ne}
 use Rattle.prefix_allocator.proofs.starts.counter_of.Goals as goal
 
-pub returns-in-Ok : goal.returns-in-Ok
-returns-in-Ok c =
-    let space = c.args.space.now.prefix in
-    let key : c.as_slice.result.now ≡ c.args.key.now = c.as_slice.ensures in
-    c.number_of.ensures
-    ∙ counter_found space c.args.key.now c.in-Ok.tuple (sym key ∙ c.in-Ok.ensures.found.1) (ap (key_read space) (sym key)
-    ∙ c.in-Ok.ensures.exact)
+pub returns-in_default : goal.returns-in_default
+returns-in_default c =
+    many_digits c.args.keys.now.space c.args.key.now (omega (arith, c.in_default.ensures, ap length c.digits_in.ensures))
 
-pub returns-in-Err-NotInside : goal.returns-in-Err-NotInside
-returns-in-Err-NotInside c =
-    let space = c.args.space.now.prefix in
-    let key : c.as_slice.result.now ≡ c.args.key.now = c.as_slice.ensures in
-    let refused : key_read space c.as_slice.result.now ≡ Err fault.NotInside = rw c.in-Err-NotInside.field-0-is at
-    c.in-Err-NotInside.ensures.exact in
-    no_counter space c.args.key.now fault.NotInside (ap (key_read space) (sym key) ∙ refused)
+pub returns-then-number-gt-GREATEST_COUNTER : goal.returns-then-number-gt-GREATEST_COUNTER
+returns-then-number-gt-GREATEST_COUNTER c =
+    let space = c.args.keys.now.space in
+    let key = c.args.key.now in
+    let number : c.in-Some.number ≡ said space key = c.in-Some.ensures ∙ ap (λ digits. number_low (reverse digits)) c.digits_in.ensures in
+    elim c.then-number-gt-GREATEST_COUNTER.branch [
+      then-number-gt-GREATEST_COUNTER-via-then-number-gt-GREATEST_COUNTER w ↦
+        great_number space key (omega (arith, w.if-number-gt-GREATEST_COUNTER.true, number))
+    | then-number-gt-GREATEST_COUNTER-via-else-number-gt-GREATEST_COUNTER+in_ok-counter+then-ne w ↦
+        let differs = not-true (bytes_eq key w.in_ok-counter.field-0) (sym w.ne.ensures ∙ w.if-ne.true) in
+        another_key space key (ap (bytes_eq key) (ap (counter_key space) (sym number) ∙ sym w.in_ok-counter.ensures) ∙ differs)
+    ]
 
-pub returns-in-Err-Unpack : goal.returns-in-Err-Unpack
-returns-in-Err-Unpack c =
-    let space = c.args.space.now.prefix in
-    let key : c.as_slice.result.now ≡ c.args.key.now = c.as_slice.ensures in
-    let f = c.in-Err-Unpack.field-0-0 in
-    let refused : key_read space c.as_slice.result.now ≡ Err (fault.Unpack f) = rw c.in-Err-Unpack.field-0-is at
-    c.in-Err-Unpack.ensures.exact in
-    no_counter space c.args.key.now (fault.Unpack f) (ap (key_read space) (sym key) ∙ refused)
+pub returns : goal.returns
+returns c =
+    let space = c.args.keys.now.space in
+    let key = c.args.key.now in
+    let number : c.in-Some.number ≡ said space key = c.in-Some.ensures ∙ ap (λ digits. number_low (reverse digits)) c.digits_in.ensures in
+    let equal = not-false (bytes_eq key c.in_ok-counter.field-0) (sym c.ne.ensures ∙ c.if-ne.false) in
+    ap Some number
+    ∙ said_counter space key (ap (bytes_eq key) (ap (counter_key space) (sym number) ∙ sym c.in_ok-counter.ensures) ∙ equal)
+    (omega (arith, c.if-number-gt-GREATEST_COUNTER.false, number))
