@@ -63,10 +63,10 @@ many_digits space key many = by (counter_in space key) refl
     by : (counter : Option ℕ) → counter_in space key ≡ counter → None ≡ counter
     by None is = refl
     by (Some number) is = absurd
-      (let parts = counter_in_is space key number is in
-      let few = few_digits space number parts.1 in
-      let same = ap (λ key. length (digits_in space key)) parts.0 in
-      omega (arith, few, same, many))
+        (let parts = counter_in_is space key number is in
+        let few = few_digits space number parts.1 in
+        let same = ap (λ key. length (digits_in space key)) parts.0 in
+        omega (arith, few, same, many))
 
 -- ---- the number of a key
 

@@ -32,8 +32,8 @@ number_packed number skipped bytes wide e is =
     let size : 16 - skipped ≡ length least = omega arith in
     let few : nat_le (length least) 8 ≡ true = le-leb (length least) 8 (least_bytes_le number wide) in
     let left : drop skipped bytes ≡ least =
-        ap (drop skipped) (is ∙ sym (with_sign-false (to_be_bytes w128 number)))
-        ∙ drop-signed_bytes false number skipped e ∙ with_sign-false least in
+    ap (drop skipped) (is ∙ sym (with_sign-false (to_be_bytes w128 number)))
+    ∙ drop-signed_bytes false number skipped e ∙ with_sign-false least in
     ap (λ negative. signed_spelled negative least ++ []) (le-ltb number 0 (omega arith))
     ∙ append-nil (int_code false (length least) ++ with_sign false least)
     ∙ ap (λ few. cond few ((20 + length least) ∷ []) (29 ∷ length least ∷ []) ++ with_sign false least) few

@@ -11,6 +11,7 @@ use std::alloc::{AllocError, Global};
 
 // The packed tuple of 0, behind which the counters stand, and that of 1, behind which the numbers stand that were tried.
 const COUNTERS: [u8; 1] = [0x14];
+
 const RECENTS: [u8; 2] = [0x15, 0x01];
 
 // The code of an integer above 0 is this and how many bytes it has; 0 has none.

@@ -24,9 +24,9 @@ impl<'a> View<'a> {
         }
     }
 
-    // The stored pairs from a key on, up to the edge of a segment, for a loop over them: one search of the store. It takes no
-    // memory.
-    pub(crate) fn stored_from(&self, from: &Key, edge: Option<&Key>) -> PairsLeft<'a>
+    /// The pairs that are stored from a key on, up to an edge of the mutations where one is given, in the order of their keys, for
+    /// a loop over them: one search of the store. It takes no memory.
+    pub fn stored_from(&self, from: &Key, edge: Option<&Key>) -> PairsLeft<'a>
         ensures { result ≡ stored_between (stored_of self.now) from.now (option_copied edge.entry) }
     {
         let store = self.store;
@@ -40,8 +40,12 @@ impl<'a> View<'a> {
         }
     }
 
-    /// The first stored pair from a key on, up to the edge of a segment. It takes no memory.
-    pub fn first_stored(&self, from: &Key, edge: Option<&Key>) -> Option<(&'a Key, &'a Bytes)>
+    // The first stored pair from a key on, up to the edge of a segment. It takes no memory.
+    pub(crate) fn first_stored(
+        &self,
+        from: &Key,
+        edge: Option<&Key>,
+    ) -> Option<(&'a Key, &'a Bytes)>
         ensures { IsFirstMet (stored_of self.now) from.now false (option_copied edge.entry)
             (option_map deref_pair result) }
     {

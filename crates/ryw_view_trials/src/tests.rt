@@ -242,7 +242,7 @@ fn is_stored(alloc: Global) -> Result<bool, AllocError> {
     let view = view_of(&edits, &store, 1);
     let begin = key_of(alloc, b"b")?;
     let key = key_of(alloc, b"c")?;
-    let is_first = match view.first_stored(&begin, None) {
+    let is_first = match view.stored_from(&begin, None).next() {
         Some((found, _)) => *found == key,
         None => false,
     };

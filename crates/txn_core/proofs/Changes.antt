@@ -13,18 +13,20 @@ use Rattle.std.specs.Option.{option_map_or}
 use Rattle.std.specs.Ordering.{is_eq, is_lt, ordering_reverse}
 use Rattle.key_bytes.specs.Keys.{after, key_cmp, key_le, key_lt}
 use Rattle.key_bytes.proofs.Orders.{above_not_below, below_after, irreflexive, le_lt, lt_after, lt_le, lt_trans}
+use Rattle.key_map.specs.Ends.{first}
 use Rattle.key_map.proofs.Spans.{last-append}
+use Rattle.range_read.proofs.Walks.{onward_behind, span_behind}
 use Rattle.database_rules.specs.Databases.{Database, Mutation, do_all}
 use Rattle.database_rules.specs.KeyByKey.{is_modified_by}
+use Rattle.database_rules.specs.Slices.{Entries}
 use Rattle.database_rules.specs.States.{KeyState, Unmodified, Decided, Depends, is_unmodified, state_under, value_in}
 use Rattle.database_rules.proofs.KeyByKey.{get-put}
 use Rattle.database_rules.proofs.States.{get-under}
 use Rattle.version_store.specs.Changed.{is_above, changed, changed_by}
 use Rattle.write_map.specs.Pending.{is_single_state}
 use Rattle.ryw_view.specs.Segments.{IsSegment}
-use Rattle.ryw_view.specs.Walks.{is_inside, IsFirstMet}
-use Rattle.ryw_view.proofs.Firsts.{has_got}
-use Rattle.ryw_view.proofs.Lists.{fewer}
+use Rattle.ryw_view.specs.Walks.{is_inside, stored_between, IsFirstMet}
+use Rattle.ryw_view.proofs.Runs.{between_met}
 use Rattle.ryw_view.proofs.Segments.{before_outside, inside_before}
 use Rattle.txn_core.specs.Changing.{LeadUpTo}
 use Rattle.txn_core.proofs.Modified.{state_modified}
@@ -235,19 +237,48 @@ module _ (mutations : List Mutation) (database : Database) (begin : List ℕ) (e
     cleared_all none = led_past mutations database changes from cleared.led edge cleared.beyond
         (λ q on inside. none q on inside ∙ sym (none_at q (cleared.onward q on) inside))
 
--- the keys that are left
-abbrev pub left_from : Database → List ℕ → List (List ℕ × List ℕ)
-left_from database from = filter (λ e. key_le from e.0) (finite.entries database)
+-- the keys that are stored up to some of the pairs of the segment are removed, and these pairs are left
+pub record IsClearedBefore (mutations : List Mutation) (database : Database) (begin : List ℕ) (edge : Option (List ℕ))
+    (left : Entries) (changes : ChangeList) : Type 0 where
+  pub from : List ℕ
+  pub cleared : IsCleared mutations database begin from edge changes
+  pub left_is : left ≡ stored_between database from edge
 
-pub fewer_left : (database : Database) (from : List ℕ) (edge : Option (List ℕ)) (key value : List ℕ)
-    → IsFirstMet database from false edge (Some (key, value))
-    → length (left_from database (after key)) < length (left_from database from)
-fewer_left database from edge key value (met, inside) =
-    fewer (λ e. key_le from e.0) (λ e. key_le (after key) e.0) stricter (finite.entries database) (key, value)
-    (has_got database from false key value met.there) met.onward (ap not (below_after key))
-  where
-    stricter : (e : List ℕ × List ℕ) → key_le from e.0 ≡ false → key_le (after key) e.0 ≡ false
-    stricter e low =
-        ap not
-        (lt_trans e.0 key (after key)
-        (lt_le e.0 from key (not-false (key_lt e.0 from) low) (not-true (key_lt key from) met.onward)) (below_after key))
+-- behind the first of the pairs from a key on stand those from the key after it on
+others_left : (database : Database) (from : List ℕ) (edge : Option (List ℕ)) (pair : List ℕ × List ℕ) (rest : Entries)
+    → stored_between database from edge ≡ pair ∷ rest → rest ≡ stored_between database (after pair.0) edge
+others_left database from None pair rest is = sym (onward_behind database from false pair rest is)
+others_left database from (Some until) pair rest is = sym (span_behind database from until false pair rest is)
+
+module _ (mutations : List Mutation) (database : Database) (begin : List ℕ) (edge : Option (List ℕ))
+    (segment : IsSegment mutations begin begin false edge) (is : state_under mutations begin ≡ Decided None) where
+  pub before_first : (changes : ChangeList) → LeadUpTo mutations database (Some begin) changes
+      → (left : Entries) → left ≡ stored_between database begin edge → IsClearedBefore mutations database begin edge left changes
+  before_first changes led left left_is = record {
+    from = begin;
+    cleared = cleared_first mutations database begin edge segment is changes led;
+    left_is = left_is;
+  }
+
+  module _ (changes : ChangeList) (left : Entries) (before : IsClearedBefore mutations database begin edge left changes) where
+    -- a change of the first of them may come next
+    pub before_above : (pair : List ℕ × List ℕ) (rest : Entries) → left ≡ pair ∷ rest → is_above changes pair.0 ≡ true
+    before_above pair rest steps =
+        let met = between_met database before.from edge (Some pair) (ap first (sym before.left_is ∙ steps)) in
+        before.cleared.led.above pair.0 (not-true (key_lt pair.0 before.from) met.0.onward)
+
+    pub before_rest : (pair : List ℕ × List ℕ) (rest : Entries) → left ≡ pair ∷ rest
+        → IsClearedBefore mutations database begin edge rest (changes ++ (pair.0, None) ∷ [])
+    before_rest pair rest steps =
+        let between : stored_between database before.from edge ≡ pair ∷ rest = sym before.left_is ∙ steps in
+        let met = between_met database before.from edge (Some pair) (ap first between) in
+        record {
+          from = after pair.0;
+          cleared = cleared_more mutations database begin edge segment is changes before.from before.cleared pair.0 pair.1 met;
+          left_is = others_left database before.from edge pair rest between;
+        }
+
+    pub before_none : left ≡ [] → LeadUpTo mutations database edge changes
+    before_none none =
+        cleared_all mutations database begin edge segment is changes before.from before.cleared
+        (between_met database before.from edge None (ap first (sym before.left_is ∙ none)))

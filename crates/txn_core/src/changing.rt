@@ -34,7 +34,7 @@ fn push(changes: &mut Changes, key: &Key, value: Option<Bytes>) -> Result<(), Al
     changes.push(Change { key, value })
 }
 
-// Adds the changes of a segment whose keys have no value: each key that is stored there is removed.
+// Adds the changes of a segment whose keys have no value: each key that is stored there is removed. One search for all of them.
 fn clear_stored(
     changes: &mut Changes,
     view: &View<'_>,
@@ -46,10 +46,8 @@ fn clear_stored(
     requires before { LeadUpTo view.now.edits.now.mutations (stored_of view.now) (Some begin.now) changes.old }
     ensures { OnOk result (LeadUpTo view.now.edits.now.mutations (stored_of view.now) (option_copied edge.entry) changes.new) }
 {
-    let mut from = begin.copy()?;
-    while let Some((key, _)) = view.first_stored(&from, edge) {
+    for (key, _) in view.stored_from(begin, edge) {
         push(changes, key, None)?;
-        from = key.after()?;
     }
     Ok(())
 }

@@ -17,11 +17,11 @@ returns-then-number-gt-GREATEST_COUNTER c =
     let key = c.args.key.now in
     let number : c.in-Some.number ≡ said space key = c.in-Some.ensures ∙ ap (λ digits. number_low (reverse digits)) c.digits_in.ensures in
     elim c.then-number-gt-GREATEST_COUNTER.branch [
-      then-number-gt-GREATEST_COUNTER-via-then-number-gt-GREATEST_COUNTER w ↦
-        great_number space key (omega (arith, w.if-number-gt-GREATEST_COUNTER.true, number))
-    | then-number-gt-GREATEST_COUNTER-via-else-number-gt-GREATEST_COUNTER+in_ok-counter+then-ne w ↦
-        let differs = not-true (bytes_eq key w.in_ok-counter.field-0) (sym w.ne.ensures ∙ w.if-ne.true) in
-        another_key space key (ap (bytes_eq key) (ap (counter_key space) (sym number) ∙ sym w.in_ok-counter.ensures) ∙ differs)
+      | then-number-gt-GREATEST_COUNTER-via-then-number-gt-GREATEST_COUNTER w ↦
+          great_number space key (omega (arith, w.if-number-gt-GREATEST_COUNTER.true, number))
+      | then-number-gt-GREATEST_COUNTER-via-else-number-gt-GREATEST_COUNTER+in_ok-counter+then-ne w ↦
+          let differs = not-true (bytes_eq key w.in_ok-counter.field-0) (sym w.ne.ensures ∙ w.if-ne.true) in
+          another_key space key (ap (bytes_eq key) (ap (counter_key space) (sym number) ∙ sym w.in_ok-counter.ensures) ∙ differs)
     ]
 
 pub returns : goal.returns
