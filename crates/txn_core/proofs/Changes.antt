@@ -1,5 +1,5 @@
 -- The changes of a commit, made from segment to segment of the keys.
-use Rattle.std.proofs.Common.{◌≡◌, ℕ, ◌<◌, Bool, true, false, cond, not, List, [], ◌∷◌, ◌++◌, length, Option, Some, None, refl, sym, ap, ◌∙◌, true≢false}
+use Rattle.std.proofs.Common.{◌≡◌, ℕ, Bool, true, false, cond, not, List, [], ◌∷◌, ◌++◌, Option, Some, None, refl, sym, ap, ◌∙◌, true≢false}
 use Rattle.std.proofs.lemmas.Bool.{not-true, not-false}
 use Rattle.std.proofs.lemmas.List.Elements.{All-nil, All-push}
 use Rattle.std.proofs.lemmas.Map.Lookups.{exact_bytes}
@@ -8,11 +8,10 @@ use Rattle.std.specs.declared.cmp.Ordering.{Ordering}
 use Rattle.std.specs.declared.cmp.Ordering.TheVariants.{Less, Equal, Greater}
 use Rattle.std.specs.Cmp.Lexicographic.{nat_list_cmp_total, texts_ties}
 use Rattle.std.specs.FinMap as finite
-use Rattle.std.specs.List.{filter}
 use Rattle.std.specs.Option.{option_map_or}
 use Rattle.std.specs.Ordering.{is_eq, is_lt, ordering_reverse}
 use Rattle.key_bytes.specs.Keys.{after, key_cmp, key_le, key_lt}
-use Rattle.key_bytes.proofs.Orders.{above_not_below, below_after, irreflexive, le_lt, lt_after, lt_le, lt_trans}
+use Rattle.key_bytes.proofs.Orders.{above_not_below, irreflexive, le_lt, lt_after}
 use Rattle.key_map.specs.Ends.{first}
 use Rattle.key_map.proofs.Spans.{last-append}
 use Rattle.range_read.proofs.Walks.{onward_behind, span_behind}

@@ -1,4 +1,4 @@
-use Rattle.std.proofs.Common.{Some, refl, sym, ap, subst, ◌∙◌, option_copied}
+use Rattle.std.proofs.Common.{Some, refl, sym, ap, subst, option_copied}
 use Rattle.std.proofs.lemmas.Result.{on_ok_weaker}
 use Rattle.database_rules.specs.States.{Decided}
 use Rattle.ryw_view.specs.Views.{stored_of}
