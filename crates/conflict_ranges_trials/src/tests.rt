@@ -5,19 +5,64 @@ use key_bytes::{Bytes, Key, KeyRange};
 use std::alloc::{AllocError, Global};
 use std::test::Fail;
 
+fn bytes_of(alloc: Global, text: &[u8]) -> Result<Bytes, AllocError> {
+    Bytes::from_slice(alloc, text)
+}
+
 fn range_of(alloc: Global, begin: &[u8], end: &[u8]) -> Result<KeyRange, AllocError> {
-    let begin = Bytes::from_slice(alloc, begin)?;
-    let end = Bytes::from_slice(alloc, end)?;
+    let begin = bytes_of(alloc, begin)?;
+    let end = bytes_of(alloc, end)?;
     Ok(KeyRange { begin, end })
 }
 
 // ---- sets of keys
 
+// What is done to a set, and asked of it. What goes over rows knows no more of a set, so that its proof sees nothing of what
+// a set holds.
+trait Keys {
+    fn put(&mut self, range: &KeyRange) -> Result<(), AllocError>;
+
+    fn put_all(&mut self, ranges: &[KeyRange]) -> Result<(), AllocError>;
+
+    fn take(&mut self, range: &KeyRange) -> Result<(), AllocError>;
+
+    fn is_met(&self, range: &KeyRange) -> bool;
+
+    fn has_none(&self) -> bool;
+}
+
+impl Keys for RangeSet {
+    fn put(&mut self, range: &KeyRange) -> Result<(), AllocError> {
+        self.add(range)
+    }
+
+    fn put_all(&mut self, ranges: &[KeyRange]) -> Result<(), AllocError> {
+        self.add_all(ranges)
+    }
+
+    fn take(&mut self, range: &KeyRange) -> Result<(), AllocError> {
+        self.subtract(range)
+    }
+
+    fn is_met(&self, range: &KeyRange) -> bool {
+        self.meets(range)
+    }
+
+    fn has_none(&self) -> bool {
+        self.is_empty()
+    }
+}
+
+// Adds the keys from `a` up to `e`, and takes those from `c` up to `d` away.
+fn make_a_gap<K: Keys>(alloc: Global, keys: &mut K) -> Result<(), AllocError> {
+    keys.put(&range_of(alloc, b"a", b"e")?)?;
+    keys.take(&range_of(alloc, b"c", b"d")?)
+}
+
 // The keys from `a` up to `e`, without those from `c` up to `d`.
 fn set_with_a_gap(alloc: Global) -> Result<RangeSet, AllocError> {
     let mut set = RangeSet::new(alloc);
-    set.add(&range_of(alloc, b"a", b"e")?)?;
-    set.subtract(&range_of(alloc, b"c", b"d")?)?;
+    make_a_gap(alloc, &mut set)?;
     Ok(set)
 }
 
@@ -34,14 +79,19 @@ const MEETINGS: &[(&[u8], &[u8], bool)] = &[
     (b"d", b"b", false),
 ];
 
-fn first_other_meeting(alloc: Global) -> Result<Option<usize>, AllocError> {
-    let set = set_with_a_gap(alloc)?;
+// The first range that a set meets otherwise.
+fn first_other_in<K: Keys>(alloc: Global, keys: &K) -> Result<Option<usize>, AllocError> {
     for (place, (begin, end, is_met)) in MEETINGS.iter().enumerate() {
-        if set.meets(&range_of(alloc, *begin, *end)?) != *is_met {
+        if keys.is_met(&range_of(alloc, *begin, *end)?) != *is_met {
             return Ok(Some(place));
         }
     }
     Ok(None)
+}
+
+fn first_other_meeting(alloc: Global) -> Result<Option<usize>, AllocError> {
+    let set = set_with_a_gap(alloc)?;
+    first_other_in(alloc, &set)
 }
 
 #[test]
@@ -76,28 +126,62 @@ fn shown_by_place(alloc: Global, set: &RangeSet) -> Result<Bytes, AllocError> {
     Ok(text)
 }
 
-// The ranges of that set, after `x` to `z` and an empty range came in, shown twice, and whether a new set is empty and this
-// one isn't.
-fn listed(alloc: Global) -> Result<(Bytes, Bytes, bool), AllocError> {
-    let mut set = set_with_a_gap(alloc)?;
-    let more = [range_of(alloc, b"x", b"z")?, range_of(alloc, b"", b"")?];
-    set.add_all(&more)?;
+// The ranges from `x` to `z` and from the empty key to itself.
+fn two_ranges(alloc: Global) -> Result<[KeyRange; 2], AllocError> {
+    Ok([range_of(alloc, b"x", b"z")?, range_of(alloc, b"", b"")?])
+}
+
+// Makes the gap, and adds these two ranges.
+fn make_three<K: Keys>(alloc: Global, keys: &mut K) -> Result<(), AllocError> {
+    make_a_gap(alloc, keys)?;
+    keys.put_all(&two_ranges(alloc)?)
+}
+
+// Whether a new set is empty and this one isn't.
+fn tells_empty(alloc: Global, set: &RangeSet) -> bool {
     set.shows_apart();
-    let as_told = RangeSet::new(alloc).is_empty() && !set.is_empty();
-    Ok((shown(alloc, &set)?, shown_by_place(alloc, &set)?, as_told))
+    RangeSet::new(alloc).is_empty() && !set.is_empty()
+}
+
+// The ranges of a set, shown twice.
+fn shown_twice(alloc: Global, set: &RangeSet) -> Result<(Bytes, Bytes), AllocError> {
+    Ok((shown(alloc, set)?, shown_by_place(alloc, set)?))
+}
+
+// Whether a set is shown as these ranges, walked over and by their places.
+fn shows(alloc: Global, set: &RangeSet, ranges: &[u8]) -> Result<[bool; 2], AllocError> {
+    let (walked, by_place) = shown_twice(alloc, set)?;
+    Ok([walked.as_slice() == ranges, by_place.as_slice() == ranges])
+}
+
+// Whether this set is shown as its three ranges, walked over and by their places, and a new set is empty and this one isn't.
+fn lists_three(alloc: Global) -> Result<([bool; 2], bool), AllocError> {
+    let mut set = RangeSet::new(alloc);
+    make_three(alloc, &mut set)?;
+    Ok((
+        shows(alloc, &set, b"a-c d-e x-z ")?,
+        tells_empty(alloc, &set),
+    ))
 }
 
 #[test]
 fn lists_its_ranges(rt: HostRuntime) -> Result<(), Fail> {
-    let (ranges, by_place, as_told) = listed(rt.alloc())?;
-    assert_eq!(rt; ranges.as_slice(), b"a-c d-e x-z ".as_slice());
-    assert_eq!(rt; by_place.as_slice(), b"a-c d-e x-z ".as_slice());
+    let (are_listed, as_told) = lists_three(rt.alloc())?;
+    assert_eq!(rt; are_listed, [true, true]);
     assert!(rt; as_told);
     Ok(())
 }
 
 // Two ranges that are added one after the other, and the ranges of the set then.
-const PAIRS: &[(&[u8], &[u8], &[u8], &[u8], &[u8])] = &[
+type PairRow = (
+    &'static [u8],
+    &'static [u8],
+    &'static [u8],
+    &'static [u8],
+    &'static [u8],
+);
+
+const PAIRS: &[PairRow] = &[
     (b"c", b"e", b"b", b"b", b"c-e "),
     (b"c", b"e", b"c", b"d", b"c-e "),
     (b"b", b"b", b"c", b"e", b"c-e "),
@@ -110,16 +194,24 @@ const PAIRS: &[(&[u8], &[u8], &[u8], &[u8], &[u8])] = &[
     (b"c", b"e", b"b", b"f", b"b-c c-e e-f "),
 ];
 
+// Adds the two ranges.
+fn add_pair<K: Keys>(alloc: Global, keys: &mut K, row: PairRow) -> Result<(), AllocError> {
+    let (begin, end, then_begin, then_end, _) = row;
+    keys.put(&range_of(alloc, begin, end)?)?;
+    keys.put_all(&[range_of(alloc, then_begin, then_end)?])
+}
+
+// Whether the set has the row's ranges then.
+fn is_pair(alloc: Global, row: PairRow) -> Result<bool, AllocError> {
+    let mut set = RangeSet::new(alloc);
+    add_pair(alloc, &mut set, row)?;
+    Ok(shows(alloc, &set, row.4)? == [true, true])
+}
+
 // The first pair after which the set has other ranges, walked over or by their places.
 fn first_other_pair(alloc: Global) -> Result<Option<usize>, AllocError> {
-    for (place, (begin, end, then_begin, then_end, ranges)) in PAIRS.iter().enumerate() {
-        let mut set = RangeSet::new(alloc);
-        set.add(&range_of(alloc, *begin, *end)?)?;
-        set.add_all(&[range_of(alloc, *then_begin, *then_end)?])?;
-        if shown(alloc, &set)?.as_slice() != *ranges {
-            return Ok(Some(place));
-        }
-        if shown_by_place(alloc, &set)?.as_slice() != *ranges {
+    for (place, row) in PAIRS.iter().enumerate() {
+        if !is_pair(alloc, *row)? {
             return Ok(Some(place));
         }
     }
@@ -134,31 +226,77 @@ fn adds_a_second_range(rt: HostRuntime) -> Result<(), Fail> {
 
 // ---- which version last declared each key
 
+// What is done to an index, and asked of it: the same for versions as `Keys` for sets.
+trait Versions {
+    fn give(&mut self, set: RangeSet, version: u64) -> Result<(), AllocError>;
+
+    fn give_all(&mut self, ranges: &[KeyRange], version: u64) -> Result<(), AllocError>;
+
+    fn newest(&self, range: &KeyRange) -> u64;
+
+    // The same, by the two ends.
+    fn newest_by_ends(&self, range: &KeyRange) -> u64;
+}
+
+impl Versions for WriteIndex {
+    fn give(&mut self, set: RangeSet, version: u64) -> Result<(), AllocError> {
+        self.reserve(&set, version)?;
+        self.install(set, version);
+        Ok(())
+    }
+
+    fn give_all(&mut self, ranges: &[KeyRange], version: u64) -> Result<(), AllocError> {
+        self.reserve_all(ranges, version)?;
+        self.install_all(ranges, version);
+        Ok(())
+    }
+
+    fn newest(&self, range: &KeyRange) -> u64 {
+        self.newest_in(range)
+    }
+
+    fn newest_by_ends(&self, range: &KeyRange) -> u64 {
+        self.newest_between(&range.begin, &range.end)
+    }
+}
+
+// The set of the keys of a range.
+fn set_of(alloc: Global, range: &KeyRange) -> Result<RangeSet, AllocError> {
+    let mut set = RangeSet::new(alloc);
+    set.put(range)?;
+    Ok(set)
+}
+
 // Gives the keys of a range a version.
-fn write(
+fn write<V: Versions>(
     alloc: Global,
-    index: &mut WriteIndex,
+    index: &mut V,
     range: &KeyRange,
     version: u64,
 ) -> Result<(), AllocError> {
-    let mut ranges = RangeSet::new(alloc);
-    ranges.add(range)?;
-    index.reserve(&ranges, version)?;
-    index.install(ranges, version);
-    Ok(())
+    index.give(set_of(alloc, range)?, version)
+}
+
+// Writes `a` to `c` at 2, and `b` to `d` at 5.
+fn write_two<V: Versions>(alloc: Global, index: &mut V) -> Result<(), AllocError> {
+    write(alloc, index, &range_of(alloc, b"a", b"c")?, 2)?;
+    write(alloc, index, &range_of(alloc, b"b", b"d")?, 5)
+}
+
+// The newest versions from `a` to `b`, from `b` to `c` and from `x` to `y`.
+fn newest_in_three<V: Versions>(alloc: Global, index: &V) -> Result<[u64; 3], AllocError> {
+    let first = index.newest(&range_of(alloc, b"a", b"b")?);
+    let second = index.newest(&range_of(alloc, b"b", b"c")?);
+    let third = index.newest_by_ends(&range_of(alloc, b"x", b"y")?);
+    Ok([first, second, third])
 }
 
 // The newest versions from `a` to `b`, from `b` to `c` and from `x` to `y`, where `a` to `c` was written at 2, and `b` to
 // `d` at 5.
 fn newest_of_three(alloc: Global) -> Result<[u64; 3], AllocError> {
     let mut index = WriteIndex::new(alloc);
-    write(alloc, &mut index, &range_of(alloc, b"a", b"c")?, 2)?;
-    write(alloc, &mut index, &range_of(alloc, b"b", b"d")?, 5)?;
-    let first = index.newest_in(&range_of(alloc, b"a", b"b")?);
-    let second = index.newest_in(&range_of(alloc, b"b", b"c")?);
-    let outside = range_of(alloc, b"x", b"y")?;
-    let third = index.newest_between(&outside.begin, &outside.end);
-    Ok([first, second, third])
+    write_two(alloc, &mut index)?;
+    newest_in_three(alloc, &index)
 }
 
 #[test]
@@ -167,24 +305,34 @@ fn finds_the_newest(rt: HostRuntime) -> Result<(), Fail> {
     Ok(())
 }
 
-// The newest versions of `b`, of `c` and from `a` to `z`, where ranges that meet, an empty one and a key were written at 4.
-fn newest_of_list(alloc: Global) -> Result<[u64; 3], AllocError> {
-    let mut index = WriteIndex::new(alloc);
-    let ranges = [
+// The range of a key alone.
+fn single(alloc: Global, key: &[u8]) -> Result<KeyRange, AllocError> {
+    KeyRange::single(alloc, &bytes_of(alloc, key)?)
+}
+
+// Ranges that meet, an empty one and a key.
+fn four_ranges(alloc: Global) -> Result<[KeyRange; 4], AllocError> {
+    Ok([
         range_of(alloc, b"a", b"c")?,
         range_of(alloc, b"b", b"b")?,
         range_of(alloc, b"a", b"b")?,
-        KeyRange::single(alloc, &Bytes::from_slice(alloc, b"b")?)?,
-    ];
-    index.reserve_all(&ranges, 4)?;
-    index.install_all(&ranges, 4);
-    let first = index.newest_in(&range_of(alloc, b"b", b"b\0")?);
-    let second = index.newest_in(&range_of(alloc, b"c", b"c\0")?);
-    Ok([
-        first,
-        second,
-        index.newest_in(&range_of(alloc, b"a", b"z")?),
+        single(alloc, b"b")?,
     ])
+}
+
+// The newest versions of `b`, of `c` and from `a` to `z`.
+fn newest_of_keys<V: Versions>(alloc: Global, index: &V) -> Result<[u64; 3], AllocError> {
+    let first = index.newest(&range_of(alloc, b"b", b"b\0")?);
+    let second = index.newest(&range_of(alloc, b"c", b"c\0")?);
+    let third = index.newest(&range_of(alloc, b"a", b"z")?);
+    Ok([first, second, third])
+}
+
+// The newest versions of `b`, of `c` and from `a` to `z`, where ranges that meet, an empty one and a key were written at 4.
+fn newest_of_list(alloc: Global) -> Result<[u64; 3], AllocError> {
+    let mut index = WriteIndex::new(alloc);
+    index.give_all(&four_ranges(alloc)?, 4)?;
+    newest_of_keys(alloc, &index)
 }
 
 #[test]
@@ -197,28 +345,32 @@ fn takes_a_list_of_ranges(rt: HostRuntime) -> Result<(), Fail> {
 const LARGE: u64 = 200_000;
 
 fn one_key(alloc: Global, number: u64) -> Result<KeyRange, AllocError> {
-    let key = Bytes::from_slice(alloc, &number.to_be_bytes())?;
-    KeyRange::single(alloc, &key)
+    single(alloc, &number.to_be_bytes())
 }
 
-// An index in which each key was written by a commit of its own.
-fn large_index(alloc: Global) -> Result<WriteIndex, AllocError> {
-    let mut index = WriteIndex::new(alloc);
+// Writes each key by a commit of its own.
+fn write_large<V: Versions>(alloc: Global, index: &mut V) -> Result<(), AllocError> {
     for number in 0..LARGE {
-        write(alloc, &mut index, &one_key(alloc, number)?, number + 2)?;
+        write(alloc, index, &one_key(alloc, number)?, number + 2)?;
     }
-    Ok(index)
+    Ok(())
 }
 
 // The first key that has another version than that of its commit.
-fn first_other_version(alloc: Global) -> Result<Option<u64>, AllocError> {
-    let index = large_index(alloc)?;
+fn first_other_in_large<V: Versions>(alloc: Global, index: &V) -> Result<Option<u64>, AllocError> {
     for number in 0..LARGE {
-        if index.newest_in(&one_key(alloc, number)?) != number + 2 {
+        if index.newest(&one_key(alloc, number)?) != number + 2 {
             return Ok(Some(number));
         }
     }
     Ok(None)
+}
+
+// The same of a new index, in which each key was written.
+fn first_other_version(alloc: Global) -> Result<Option<u64>, AllocError> {
+    let mut index = WriteIndex::new(alloc);
+    write_large(alloc, &mut index)?;
+    first_other_in_large(alloc, &index)
 }
 
 #[test]
@@ -250,7 +402,7 @@ const PLACES: u8 = 24;
 
 // The first key of an entry: a key of one byte, or the next key after that.
 fn key_at(alloc: Global, place: u8) -> Result<Key, AllocError> {
-    let key = Bytes::from_slice(alloc, &[place / 2])?;
+    let key = bytes_of(alloc, &[place / 2])?;
     if place % 2 == 0 {
         return Ok(key);
     }
@@ -284,31 +436,27 @@ fn greatest_plain(plain: &[u64], begin: u8, end: u8) -> u64 {
     greatest
 }
 
-fn new_plain(alloc: Global) -> Result<Vec<u64>, AllocError> {
-    vec![in alloc; 0; usize::from(PLACES)]
-}
-
 // Adds the keys of some ranges, or takes those of a range away; the plain list has 1 for the keys of the set, and 0 for the
 // others.
-fn change_set(
+fn change_set<K: Keys>(
     alloc: Global,
-    set: &mut RangeSet,
-    plain: &mut Vec<u64>,
+    set: &mut K,
+    plain: &mut [u64],
     dice: &mut Dice,
 ) -> Result<(), AllocError> {
     let (begin, end, range) = roll_range(alloc, dice)?;
     match dice.roll(3) {
         0 => {
-            set.add(&range)?;
+            set.put(&range)?;
             write_plain(plain, begin, end, 1);
         }
         1 => {
-            set.subtract(&range)?;
+            set.take(&range)?;
             write_plain(plain, begin, end, 0);
         }
         _ => {
             let (more_begin, more_end, more) = roll_range(alloc, dice)?;
-            set.add_all(&[range, more])?;
+            set.put_all(&[range, more])?;
             write_plain(plain, begin, end, 1);
             write_plain(plain, more_begin, more_end, 1);
         }
@@ -317,35 +465,50 @@ fn change_set(
 }
 
 // Whether a set and the plain list agree on some ranges, and on whether there is a key.
-fn is_set_alike(
+fn is_set_alike<K: Keys>(
     alloc: Global,
-    set: &RangeSet,
+    set: &K,
     plain: &[u64],
     dice: &mut Dice,
 ) -> Result<bool, AllocError> {
     for _ in 0..8 {
         let (begin, end, range) = roll_range(alloc, dice)?;
-        if set.meets(&range) != (greatest_plain(plain, begin, end) > 0) {
+        if set.is_met(&range) != (greatest_plain(plain, begin, end) > 0) {
             return Ok(false);
         }
     }
-    Ok(set.is_empty() == (greatest_plain(plain, 0, PLACES) == 0))
+    Ok(set.has_none() == (greatest_plain(plain, 0, PLACES) == 0))
+}
+
+// The first of eight changes after which a set and the plain list differ.
+fn first_change_apart<K: Keys>(
+    alloc: Global,
+    set: &mut K,
+    dice: &mut Dice,
+) -> Result<Option<u64>, AllocError> {
+    let mut plain = [0; PLACES as usize];
+    for step in 0..8 {
+        change_set(alloc, set, &mut plain, dice)?;
+        if !is_set_alike(alloc, set, &plain, dice)? {
+            return Ok(Some(step));
+        }
+    }
+    Ok(None)
+}
+
+// The same of a new set.
+fn first_apart_of_new(alloc: Global, dice: &mut Dice) -> Result<Option<u64>, AllocError> {
+    let mut set = RangeSet::new(alloc);
+    first_change_apart(alloc, &mut set, dice)
 }
 
 // The first of 400 changes after which a set and the plain list differ. Each eighth begins with new ones, so that changes
 // of a set with one range come often.
 fn first_set_apart(alloc: Global) -> Result<Option<u64>, AllocError> {
     let mut dice = Dice { state: 7 };
-    let mut set = RangeSet::new(alloc);
-    let mut plain = new_plain(alloc)?;
-    for step in 0..400 {
-        if step % 8 == 0 {
-            set = RangeSet::new(alloc);
-            plain = new_plain(alloc)?;
-        }
-        change_set(alloc, &mut set, &mut plain, &mut dice)?;
-        if !is_set_alike(alloc, &set, &plain, &mut dice)? {
-            return Ok(Some(step));
+    for round in 0..50 {
+        if let Some(step) = first_apart_of_new(alloc, &mut dice)? {
+            return Ok(Some(step.saturating_add(8 * round)));
         }
     }
     Ok(None)
@@ -357,35 +520,45 @@ fn is_the_plain_set(rt: HostRuntime) -> Result<(), Fail> {
     Ok(())
 }
 
-// Gives the keys of a random set a version.
-fn write_random(
+// Adds the keys of up to three ranges, and writes a number for them in the plain list.
+fn add_random<K: Keys>(
     alloc: Global,
-    index: &mut WriteIndex,
-    plain: &mut Vec<u64>,
+    set: &mut K,
+    plain: &mut [u64],
+    dice: &mut Dice,
+    number: u64,
+) -> Result<(), AllocError> {
+    for _ in 0..dice.roll(4) {
+        let (begin, end, range) = roll_range(alloc, dice)?;
+        set.put(&range)?;
+        write_plain(plain, begin, end, number);
+    }
+    Ok(())
+}
+
+// Gives the keys of a random set a version.
+fn write_random<V: Versions>(
+    alloc: Global,
+    index: &mut V,
+    plain: &mut [u64],
     dice: &mut Dice,
     version: u64,
 ) -> Result<(), AllocError> {
     let mut set = RangeSet::new(alloc);
-    for _ in 0..dice.roll(4) {
-        let (begin, end, range) = roll_range(alloc, dice)?;
-        set.add(&range)?;
-        write_plain(plain, begin, end, version);
-    }
-    index.reserve(&set, version)?;
-    index.install(set, version);
-    Ok(())
+    add_random(alloc, &mut set, plain, dice, version)?;
+    index.give(set, version)
 }
 
 // Whether an index and the plain list agree on some ranges.
-fn is_index_alike(
+fn is_index_alike<V: Versions>(
     alloc: Global,
-    index: &WriteIndex,
+    index: &V,
     plain: &[u64],
     dice: &mut Dice,
 ) -> Result<bool, AllocError> {
     for _ in 0..8 {
         let (begin, end, range) = roll_range(alloc, dice)?;
-        if index.newest_in(&range) != greatest_plain(plain, begin, end) {
+        if index.newest(&range) != greatest_plain(plain, begin, end) {
             return Ok(false);
         }
     }
@@ -393,18 +566,26 @@ fn is_index_alike(
 }
 
 // The first of 400 versions after which an index and the plain list differ. One of four is no greater than all before it.
-fn first_index_apart(alloc: Global) -> Result<Option<u64>, AllocError> {
+fn first_version_apart<V: Versions>(
+    alloc: Global,
+    index: &mut V,
+) -> Result<Option<u64>, AllocError> {
     let mut dice = Dice { state: 11 };
-    let mut index = WriteIndex::new(alloc);
-    let mut plain = new_plain(alloc)?;
+    let mut plain = [0; PLACES as usize];
     for step in 1..400 {
         let version = if dice.roll(4) == 0 { step / 2 } else { step };
-        write_random(alloc, &mut index, &mut plain, &mut dice, version)?;
-        if !is_index_alike(alloc, &index, &plain, &mut dice)? {
+        write_random(alloc, index, &mut plain, &mut dice, version)?;
+        if !is_index_alike(alloc, index, &plain, &mut dice)? {
             return Ok(Some(step));
         }
     }
     Ok(None)
+}
+
+// The same of a new index.
+fn first_index_apart(alloc: Global) -> Result<Option<u64>, AllocError> {
+    let mut index = WriteIndex::new(alloc);
+    first_version_apart(alloc, &mut index)
 }
 
 #[test]
