@@ -77,23 +77,67 @@ fn do_edit(alloc: Global, edits: &mut WriteMap, edit: Edit) -> Result<(), AllocE
     }
 }
 
+// What takes mutations. What goes over them knows no more of it, so that its proof sees nothing of what it holds.
+trait Edited {
+    fn take_edit(&mut self, alloc: Global, edit: Edit) -> Result<(), AllocError>;
+}
+
+impl Edited for WriteMap {
+    fn take_edit(&mut self, alloc: Global, edit: Edit) -> Result<(), AllocError> {
+        do_edit(alloc, self, edit)
+    }
+}
+
+fn do_all<E: Edited>(alloc: Global, edits: &mut E, all: &[Edit]) -> Result<(), AllocError> {
+    for edit in all {
+        edits.take_edit(alloc, *edit)?;
+    }
+    Ok(())
+}
+
 fn edits_of(alloc: Global, all: &[Edit]) -> Result<WriteMap, AllocError> {
     let mut edits = WriteMap::new(alloc);
-    for edit in all {
-        do_edit(alloc, &mut edits, *edit)?;
-    }
+    do_all(alloc, &mut edits, all)?;
     Ok(edits)
 }
 
 // A key with its value.
 type Given = (&'static [u8], &'static [u8]);
 
-fn store_of(alloc: Global, given: &[Given]) -> Result<Store, AllocError> {
+fn push_pair(alloc: Global, pairs: &mut Pairs, key: &[u8], value: &[u8]) -> Result<(), AllocError> {
+    let pair = pair_of(alloc, key, value)?;
+    pairs.push(pair)
+}
+
+fn pairs_of(alloc: Global, given: &[Given]) -> Result<Pairs, AllocError> {
     let mut pairs = Pairs::new(alloc);
     for (key, value) in given {
-        pairs.push(pair_of(alloc, key, value)?)?;
+        push_pair(alloc, &mut pairs, key, value)?;
     }
-    Store::load(alloc, pairs)
+    Ok(pairs)
+}
+
+fn store_of(alloc: Global, given: &[Given]) -> Result<Store, AllocError> {
+    Store::load(alloc, pairs_of(alloc, given)?)
+}
+
+// A store, and mutations over it.
+#[derive(Drop)]
+struct Over {
+    store: Store,
+    edits: WriteMap,
+}
+
+impl Over {
+    fn view(&self) -> View<'_> {
+        view_of(&self.edits, &self.store, 1)
+    }
+}
+
+fn over_of(alloc: Global, given: &[Given], edits: &[Edit]) -> Result<Over, AllocError> {
+    let store = store_of(alloc, given)?;
+    let edits = edits_of(alloc, edits)?;
+    Ok(Over { store, edits })
 }
 
 // ---- what a view answers, beside tables
@@ -143,11 +187,42 @@ fn is_value(found: &Option<Option<Bytes>>, told: Told) -> bool {
     }
 }
 
-fn is_told(alloc: Global, view: &View<'_>, ask: Ask, told: Told) -> Result<bool, AllocError> {
+// The pairs beside a key. What goes over keys knows no more of a view, so that its proof sees nothing of what it shows.
+trait Walked {
+    // The first one from a key on.
+    fn above(&self, key: &Key) -> Result<Option<Pair>, AllocError>;
+
+    // The last one below a key.
+    fn below(&self, key: &Key) -> Result<Option<Pair>, AllocError>;
+}
+
+// A view is asked for values too.
+trait Seen: Walked {
+    // What it has of a key, or None where the key is unreadable.
+    fn value(&self, key: &Key) -> Result<Option<Option<Bytes>>, AllocError>;
+}
+
+impl<'a> Walked for View<'a> {
+    fn above(&self, key: &Key) -> Result<Option<Pair>, AllocError> {
+        self.next(key)
+    }
+
+    fn below(&self, key: &Key) -> Result<Option<Pair>, AllocError> {
+        self.prev(key)
+    }
+}
+
+impl<'a> Seen for View<'a> {
+    fn value(&self, key: &Key) -> Result<Option<Option<Bytes>>, AllocError> {
+        read(self, key)
+    }
+}
+
+fn is_told<S: Seen>(alloc: Global, view: &S, ask: Ask, told: Told) -> Result<bool, AllocError> {
     match ask {
-        Ask::Get(key) => Ok(is_value(&read(view, &key_of(alloc, key)?)?, told)),
-        Ask::Next(key) => Ok(is_pair(&view.next(&key_of(alloc, key)?)?, told)),
-        Ask::Prev(key) => Ok(is_pair(&view.prev(&key_of(alloc, key)?)?, told)),
+        Ask::Get(key) => Ok(is_value(&view.value(&key_of(alloc, key)?)?, told)),
+        Ask::Next(key) => Ok(is_pair(&view.above(&key_of(alloc, key)?)?, told)),
+        Ask::Prev(key) => Ok(is_pair(&view.below(&key_of(alloc, key)?)?, told)),
     }
 }
 
@@ -214,9 +289,8 @@ const ROWS: &[Row] = &[
 
 fn is_row(alloc: Global, row: Row) -> Result<bool, AllocError> {
     let (stored, edits, ask, told) = row;
-    let store = store_of(alloc, stored)?;
-    let edits = edits_of(alloc, edits)?;
-    is_told(alloc, &view_of(&edits, &store, 1), ask, told)
+    let over = over_of(alloc, stored, edits)?;
+    is_told(alloc, &over.view(), ask, told)
 }
 
 // The first row that is answered otherwise.
@@ -235,18 +309,20 @@ fn answers_the_rows(rt: HostRuntime) -> Result<(), Fail> {
     Ok(())
 }
 
-// Whether `c` is stored with its value under a clear of it, and is the first stored key from `b` on.
-fn is_stored(alloc: Global) -> Result<bool, AllocError> {
-    let store = store_of(alloc, TWO)?;
-    let edits = edits_of(alloc, ADDED)?;
-    let view = view_of(&edits, &store, 1);
-    let begin = key_of(alloc, b"b")?;
-    let key = key_of(alloc, b"c")?;
-    let is_first = match view.stored_from(&begin, None).next() {
-        Some((found, _)) => *found == key,
+// Whether a range's end is the first stored key from its begin on, and has this value.
+fn is_first(view: View<'_>, range: &KeyRange, value: &[u8]) -> bool {
+    let is_first = match view.stored_from(&range.begin, None).next() {
+        Some((found, _)) => *found == range.end,
         None => false,
     };
-    Ok(is_first && view.stored(&key) == Some(b"3".as_slice()))
+    is_first && view.stored(&range.end) == Some(value)
+}
+
+// Whether `c` is stored with its value under a clear of it, and is the first stored key from `b` on.
+fn is_stored(alloc: Global) -> Result<bool, AllocError> {
+    let range = range_of(alloc, b"b", b"c")?;
+    let over = over_of(alloc, TWO, ADDED)?;
+    Ok(is_first(over.view(), &range, b"3"))
 }
 
 #[test]
@@ -303,17 +379,24 @@ fn are_pieces(pieces: &[KeyRange], wanted: &[Ends]) -> bool {
             && piece.end.as_slice() == ends.1)
 }
 
+// Whether there is an edge above `a` that lies below an end.
+fn has_edge_below(alloc: Global, edits: &WriteMap, end: &[u8]) -> Result<bool, AllocError> {
+    let range = range_of(alloc, b"a", end)?;
+    let (_, edge) = around_below(edits, &range.begin, &range.end);
+    Ok(edge.is_some())
+}
+
+// The same of two ends.
+fn edges_in(alloc: Global, edits: &WriteMap) -> Result<[bool; 2], AllocError> {
+    let far = has_edge_below(alloc, edits, b"c")?;
+    let near = has_edge_below(alloc, edits, b"b")?;
+    Ok([far, near])
+}
+
 // Whether there is an edge above `a` that lies below each of two ends, where `b` is set.
 fn edges_below(alloc: Global) -> Result<[bool; 2], AllocError> {
     let edits = edits_of(alloc, &[Edit::Set(b"b", b"1")])?;
-    let (a, b, c) = (
-        key_of(alloc, b"a")?,
-        key_of(alloc, b"b")?,
-        key_of(alloc, b"c")?,
-    );
-    let (_, far) = around_below(&edits, &a, &c);
-    let (_, near) = around_below(&edits, &a, &b);
-    Ok([far.is_some(), near.is_some()])
+    edges_in(alloc, &edits)
 }
 
 #[test]
@@ -322,18 +405,43 @@ fn finds_an_edge_below_an_end(rt: HostRuntime) -> Result<(), Fail> {
     Ok(())
 }
 
+// The undecided pieces of a range, or None where it can't be read, and whether it is told to hide a key.
+fn undecided(
+    alloc: Global,
+    edits: &WriteMap,
+    range: &KeyRange,
+) -> Result<(Option<Vec<KeyRange>>, bool), AllocError> {
+    let mut pieces = Vec::new(alloc);
+    let readable = add_undecided(edits, range, &mut pieces)?;
+    let pieces = if readable { Some(pieces) } else { None };
+    Ok((pieces, hides(edits, range)))
+}
+
+// Whether the pieces of a range are these, and no key of it is told to be hidden, or the other way where it can't be read.
+fn are_told(pieces: &Option<Vec<KeyRange>>, hidden: bool, wanted: Option<&[Ends]>) -> bool {
+    match (pieces, wanted) {
+        (None, None) => hidden,
+        (Some(pieces), Some(wanted)) => !hidden && are_pieces(pieces.as_slice(), wanted),
+        _ => false,
+    }
+}
+
+// Whether a range has these undecided pieces, or, where there are none to tell, can't be read.
+fn is_undecided(
+    alloc: Global,
+    edits: &WriteMap,
+    range: &KeyRange,
+    wanted: Option<&[Ends]>,
+) -> Result<bool, AllocError> {
+    let (pieces, hidden) = undecided(alloc, edits, range)?;
+    Ok(are_told(&pieces, hidden, wanted))
+}
+
 fn is_pieces_row(alloc: Global, row: PiecesRow) -> Result<bool, AllocError> {
     let (edits, (begin, end), wanted) = row;
-    let edits = edits_of(alloc, edits)?;
     let range = range_of(alloc, begin, end)?;
-    let mut pieces = Vec::new(alloc);
-    let readable = add_undecided(&edits, &range, &mut pieces)?;
-    match wanted {
-        None => Ok(!readable && hides(&edits, &range)),
-        Some(wanted) => {
-            Ok(readable && !hides(&edits, &range) && are_pieces(pieces.as_slice(), wanted))
-        }
-    }
+    let edits = edits_of(alloc, edits)?;
+    is_undecided(alloc, &edits, &range, wanted)
 }
 
 // The first row with other pieces.

@@ -93,22 +93,38 @@ fn drawn_pairs(alloc: Global, draws: &mut Draws) -> Result<Pairs, AllocError> {
     let mut pairs = Pairs::new(alloc);
     for key in KEYS {
         if draws.below(2) == 0 {
-            let value = draws.pick(&VALUES);
-            pairs.push(pair_of(alloc, key, value)?)?;
+            push_pair(alloc, &mut pairs, key, draws.pick(&VALUES))?;
         }
     }
     Ok(pairs)
+}
+
+// A change of a key: to a value, or to none.
+fn drawn_change(alloc: Global, draws: &mut Draws, key: &[u8]) -> Result<Change, AllocError> {
+    let key = key_of(alloc, key)?;
+    let value = drawn_value(alloc, draws)?;
+    Ok(Change { key, value })
+}
+
+// Draws a change of a key, and whether it is made.
+fn push_drawn(
+    alloc: Global,
+    draws: &mut Draws,
+    changes: &mut Changes,
+    key: &[u8],
+) -> Result<(), AllocError> {
+    let change = drawn_change(alloc, draws, key)?;
+    if draws.below(3) == 0 && changes.is_below(&change.key) {
+        return changes.push(change);
+    }
+    Ok(())
 }
 
 // Some of the keys, each with a value or none from then on.
 fn drawn_changes(alloc: Global, draws: &mut Draws) -> Result<Changes, AllocError> {
     let mut changes = Changes::new(alloc);
     for key in KEYS {
-        let key = key_of(alloc, key)?;
-        let value = drawn_value(alloc, draws)?;
-        if draws.below(3) == 0 && changes.is_below(&key) {
-            changes.push(Change { key, value })?;
-        }
+        push_drawn(alloc, draws, &mut changes, key)?;
     }
     Ok(changes)
 }
@@ -137,28 +153,91 @@ struct Beside {
     plain: Plain,
 }
 
+// What takes commits. What draws a version knows no more of it.
+trait Versions {
+    fn last_pairs(&self) -> Result<Pairs, AllocError>;
+
+    fn commit_drawn(&mut self, alloc: Global, draws: &mut Draws) -> Result<(), AllocError>;
+}
+
+impl Versions for Store {
+    fn last_pairs(&self) -> Result<Pairs, AllocError> {
+        self.pairs()
+    }
+
+    fn commit_drawn(&mut self, alloc: Global, draws: &mut Draws) -> Result<(), AllocError> {
+        commit(self, drawn_changes(alloc, draws)?)
+    }
+}
+
+// Makes a second version, and draws one of the two, with its pairs.
+fn drawn_version<S: Versions>(
+    alloc: Global,
+    draws: &mut Draws,
+    store: &mut S,
+) -> Result<(u64, Pairs), AllocError> {
+    let first = store.last_pairs()?;
+    store.commit_drawn(alloc, draws)?;
+    let second = store.last_pairs()?;
+    match draws.below(2) {
+        0 => Ok((1, first)),
+        _ => Ok((2, second)),
+    }
+}
+
+// A store of one version.
+fn first_store(alloc: Global, draws: &mut Draws) -> Result<Store, AllocError> {
+    Store::load(alloc, drawn_pairs(alloc, draws)?)
+}
+
 // A store of two versions, and the pairs of the one that is drawn.
 fn drawn_store(alloc: Global, draws: &mut Draws) -> Result<(Store, u64, Pairs), AllocError> {
-    let mut store = Store::load(alloc, drawn_pairs(alloc, draws)?)?;
-    let first = store.pairs()?;
-    commit(&mut store, drawn_changes(alloc, draws)?)?;
-    let second = store.pairs()?;
-    match draws.below(2) {
-        0 => Ok((store, 1, first)),
-        _ => Ok((store, 2, second)),
+    let mut store = first_store(alloc, draws)?;
+    let (version, pairs) = drawn_version(alloc, draws, &mut store)?;
+    Ok((store, version, pairs))
+}
+
+impl Edited for Plain {
+    fn take_edit(&mut self, _alloc: Global, edit: Edit) -> Result<(), AllocError> {
+        self.do_edit(edit)
     }
+}
+
+// Does drawn mutations to both.
+fn do_drawn<E: Edited, P: Edited>(
+    alloc: Global,
+    draws: &mut Draws,
+    edits: &mut E,
+    plain: &mut P,
+) -> Result<(), AllocError> {
+    for _ in 0..draws.below(8) {
+        let edit = drawn_edit(draws);
+        edits.take_edit(alloc, edit)?;
+        plain.take_edit(alloc, edit)?;
+    }
+    Ok(())
+}
+
+fn plain_of(alloc: Global, pairs: Pairs) -> Result<Plain, AllocError> {
+    Ok(Plain::new(alloc, KeyMap::from_pairs(alloc, pairs)?))
+}
+
+// Drawn mutations, and what is then seen of these pairs.
+fn drawn_edits(
+    alloc: Global,
+    draws: &mut Draws,
+    pairs: Pairs,
+) -> Result<(WriteMap, Plain), AllocError> {
+    let mut plain = plain_of(alloc, pairs)?;
+    let mut edits = WriteMap::new(alloc);
+    do_drawn(alloc, draws, &mut edits, &mut plain)?;
+    plain.hide();
+    Ok((edits, plain))
 }
 
 fn drawn_beside(alloc: Global, draws: &mut Draws) -> Result<Beside, AllocError> {
     let (store, version, pairs) = drawn_store(alloc, draws)?;
-    let mut plain = Plain::new(alloc, KeyMap::from_pairs(alloc, pairs)?);
-    let mut edits = WriteMap::new(alloc);
-    for _ in 0..draws.below(8) {
-        let edit = drawn_edit(draws);
-        do_edit(alloc, &mut edits, edit)?;
-        plain.do_edit(edit)?;
-    }
-    plain.hide();
+    let (edits, plain) = drawn_edits(alloc, draws, pairs)?;
     Ok(Beside {
         store,
         version,
@@ -169,10 +248,32 @@ fn drawn_beside(alloc: Global, draws: &mut Draws) -> Result<Beside, AllocError> 
 
 // ---- whether both answer alike
 
-fn is_read_alike(view: &View<'_>, plain: &Plain, key: &Key) -> Result<bool, AllocError> {
-    match read(view, key)? {
-        Some(value) => Ok(!plain.is_hidden(key) && value.as_ref() == plain.pairs().get(key)),
-        None => Ok(plain.is_hidden(key)),
+// What the plain program has of keys. What goes over keys knows no more of it.
+trait Known {
+    // Whether a key has this value, or, where none is given, can't be read.
+    fn is_value(&self, key: &Key, value: &Option<Option<Bytes>>) -> bool;
+
+    // Whether this is the first pair from a key on.
+    fn is_above(&self, key: &Key, pair: Option<Pair>) -> bool;
+
+    // Whether this is the last pair below a key.
+    fn is_below(&self, key: &Key, pair: Option<Pair>) -> bool;
+}
+
+impl Known for Plain {
+    fn is_value(&self, key: &Key, value: &Option<Option<Bytes>>) -> bool {
+        match value {
+            Some(value) => !self.is_hidden(key) && value.as_ref() == self.pairs().get(key),
+            None => self.is_hidden(key),
+        }
+    }
+
+    fn is_above(&self, key: &Key, pair: Option<Pair>) -> bool {
+        is_same_pair(pair, self.pairs().next(key))
+    }
+
+    fn is_below(&self, key: &Key, pair: Option<Pair>) -> bool {
+        is_same_pair(pair, self.pairs().prev(key))
     }
 }
 
@@ -185,15 +286,19 @@ fn is_same_pair(pair: Option<Pair>, other: Option<(&Key, &Bytes)>) -> bool {
 }
 
 // One key: its value, and the pairs beside it.
-fn is_key_alike(view: &View<'_>, plain: &Plain, key: &Key) -> Result<bool, AllocError> {
+fn is_key_alike<S: Seen, P: Known>(view: &S, plain: &P, key: &Key) -> Result<bool, AllocError> {
     Ok(
-        is_read_alike(view, plain, key)?
-            && is_same_pair(view.next(key)?, plain.pairs().next(key))
-            && is_same_pair(view.prev(key)?, plain.pairs().prev(key)),
+        plain.is_value(key, &view.value(key)?)
+            && plain.is_above(key, view.above(key)?)
+            && plain.is_below(key, view.below(key)?),
     )
 }
 
-fn are_keys_alike(alloc: Global, view: &View<'_>, plain: &Plain) -> Result<bool, AllocError> {
+fn are_keys_alike<S: Seen, P: Known>(
+    alloc: Global,
+    view: &S,
+    plain: &P,
+) -> Result<bool, AllocError> {
     for key in KEYS {
         if !is_key_alike(view, plain, &key_of(alloc, key)?)? {
             return Ok(false);
@@ -202,69 +307,148 @@ fn are_keys_alike(alloc: Global, view: &View<'_>, plain: &Plain) -> Result<bool,
     Ok(true)
 }
 
-// A drawn selector means the same key.
-fn is_selected_alike(
-    alloc: Global,
-    draws: &mut Draws,
-    view: &View<'_>,
-    pairs: &Pairs,
-) -> Result<bool, AllocError> {
+// What is read of the pairs of a view.
+trait Sliced {
+    fn resolved(&self, alloc: Global, selector: &Selector) -> Result<Key, AllocError>;
+
+    fn found(&self, slice: &Slice) -> Result<Pairs, RangeFault>;
+
+    // The same, by a view for a walk through the range.
+    fn found_near(&self, slice: &Slice) -> Result<Pairs, RangeFault>;
+}
+
+impl<'a> Sliced for View<'a> {
+    fn resolved(&self, alloc: Global, selector: &Selector) -> Result<Key, AllocError> {
+        resolve(alloc, self, selector)
+    }
+
+    fn found(&self, slice: &Slice) -> Result<Pairs, RangeFault> {
+        all(
+            self,
+            &slice.range,
+            slice.limit,
+            slice.reverse,
+            Mode::WantAll,
+        )
+    }
+
+    fn found_near(&self, slice: &Slice) -> Result<Pairs, RangeFault> {
+        all_near(self, slice)
+    }
+}
+
+// A range, and how many of its pairs are read from which end.
+#[derive(Drop)]
+struct Slice {
+    range: KeyRange,
+    limit: u32,
+    reverse: bool,
+}
+
+fn drawn_slice(alloc: Global, draws: &mut Draws) -> Result<Slice, AllocError> {
+    let range = drawn_range(alloc, draws)?;
+    let limit = u32::try_from(draws.below(4)).unwrap_or(0);
+    let reverse = draws.below(2) == 0;
+    Ok(Slice {
+        range,
+        limit,
+        reverse,
+    })
+}
+
+fn drawn_range(alloc: Global, draws: &mut Draws) -> Result<KeyRange, AllocError> {
+    let (begin, end) = (draws.pick(&KEYS), draws.pick(&KEYS));
+    range_of(alloc, begin, end)
+}
+
+fn drawn_selector(alloc: Global, draws: &mut Draws) -> Result<Selector, AllocError> {
     let key = key_of(alloc, draws.pick(&KEYS))?;
     let or_equal = draws.below(2) == 0;
     let offset = draws.offset();
-    let selector = Selector {
+    Ok(Selector {
         key,
         or_equal,
         offset,
-    };
-    let wanted = key_at(pairs.as_slice(), place_of(pairs.as_slice(), &selector));
-    Ok(resolve(alloc, view, &selector)?.as_slice() == wanted)
+    })
 }
 
-// The pairs of a range, by a view for a walk through it.
-fn all_near(
-    view: &View<'_>,
-    range: &KeyRange,
-    limit: u32,
-    reverse: bool,
-) -> Result<Pairs, RangeFault> {
-    let begin = if reverse { &range.end } else { &range.begin };
-    let near = NearView::new(*view, begin, reverse)?;
-    all(&near, range, limit, reverse, Mode::WantAll)
-}
-
-// A drawn range has the same slice.
-fn is_sliced_alike(
+// A drawn selector means the same key.
+fn is_selected_alike<S: Sliced>(
     alloc: Global,
     draws: &mut Draws,
-    view: &View<'_>,
-    pairs: &Pairs,
-) -> Result<bool, Fail> {
-    let range = range_of(alloc, draws.pick(&KEYS), draws.pick(&KEYS))?;
-    let limit = u32::try_from(draws.below(4)).unwrap_or(0);
-    let reverse = draws.below(2) == 0;
-    let wanted = slice_of(alloc, pairs.as_slice(), &range, limit, reverse)?;
-    let found = all(view, &range, limit, reverse, Mode::WantAll)?;
-    let near = all_near(view, &range, limit, reverse)?;
-    Ok(
-        are_same_pairs(found.as_slice(), wanted.as_slice())
-            && are_same_pairs(near.as_slice(), wanted.as_slice()),
+    view: &S,
+    pairs: &[Pair],
+) -> Result<bool, AllocError> {
+    let selector = drawn_selector(alloc, draws)?;
+    let wanted = key_at(pairs, place_of(pairs, &selector));
+    Ok(view.resolved(alloc, &selector)?.as_slice() == wanted)
+}
+
+// The pairs of a slice, by a view for a walk through its range.
+fn all_near(view: &View<'_>, slice: &Slice) -> Result<Pairs, RangeFault> {
+    let begin = if slice.reverse {
+        &slice.range.end
+    } else {
+        &slice.range.begin
+    };
+    let near = NearView::new(*view, begin, slice.reverse)?;
+    all(
+        &near,
+        &slice.range,
+        slice.limit,
+        slice.reverse,
+        Mode::WantAll,
     )
 }
 
-// The undecided keys of a drawn range are the ones that were neither set nor cleared, unless one of its keys can't be read.
+// Whether a slice has these pairs, read either way.
+fn is_found<S: Sliced>(view: &S, slice: &Slice, wanted: &[Pair]) -> Result<bool, RangeFault> {
+    Ok(
+        are_same_pairs(view.found(slice)?.as_slice(), wanted)
+            && are_same_pairs(view.found_near(slice)?.as_slice(), wanted),
+    )
+}
+
+// A drawn range has the same slice.
+fn is_sliced_alike<S: Sliced>(
+    alloc: Global,
+    draws: &mut Draws,
+    view: &S,
+    pairs: &[Pair],
+) -> Result<bool, RangeFault> {
+    let slice = drawn_slice(alloc, draws)?;
+    let wanted = slice_of(alloc, pairs, &slice.range, slice.limit, slice.reverse)?;
+    is_found(view, &slice, wanted.as_slice())
+}
+
+// Whether these are the keys of a range that were neither set nor cleared, or none are told since one is hidden.
+fn are_left(pieces: &Option<Vec<KeyRange>>, hidden: bool, range: &KeyRange, plain: &Plain) -> bool {
+    match pieces {
+        None => hidden,
+        Some(pieces) => !hidden && are_same_keys(pieces.as_slice(), range, plain),
+    }
+}
+
+// The undecided keys of a range are the ones that were neither set nor cleared, unless one of its keys can't be read.
+fn is_undecided_as(
+    alloc: Global,
+    edits: &WriteMap,
+    plain: &Plain,
+    range: &KeyRange,
+) -> Result<bool, AllocError> {
+    let (pieces, hidden) = undecided(alloc, edits, range)?;
+    Ok(hidden == plain.hides(range) && are_left(&pieces, hidden, range, plain))
+}
+
+// The same of a drawn range.
 fn is_undecided_alike(
     alloc: Global,
     draws: &mut Draws,
     edits: &WriteMap,
     plain: &Plain,
 ) -> Result<bool, AllocError> {
-    let range = range_of(alloc, draws.pick(&KEYS), draws.pick(&KEYS))?;
-    let hidden = plain.hides(&range);
-    let mut pieces = Vec::new(alloc);
-    let readable = add_undecided(edits, &range, &mut pieces)?;
-    let same = hidden || are_same_keys(pieces.as_slice(), &range, plain);
-    Ok(readable != hidden && hides(edits, &range) == hidden && same)
+    let range = drawn_range(alloc, draws)?;
+    is_undecided_as(alloc, edits, plain, &range)
 }
 
 fn are_same_keys(pieces: &[KeyRange], range: &KeyRange, plain: &Plain) -> bool {
@@ -277,24 +461,59 @@ fn are_same_pairs(pairs: &[Pair], others: &[Pair]) -> bool {
             && pair.value == other.value)
 }
 
-// Draws a store with mutations: whether all is answered alike.
-fn is_drawn_alike(alloc: Global, draws: &mut Draws) -> Result<bool, Fail> {
-    let beside = drawn_beside(alloc, draws)?;
-    let view = view_of(&beside.edits, &beside.store, beside.version);
-    let pairs = beside.plain.pairs().pairs()?;
+// Whether a view answers as the plain program does that has these pairs.
+fn is_view_alike<S: Seen + Sliced, P: Known>(
+    alloc: Global,
+    draws: &mut Draws,
+    view: &S,
+    plain: &P,
+    pairs: &[Pair],
+) -> Result<bool, RangeFault> {
     Ok(
-        are_keys_alike(alloc, &view, &beside.plain)?
-            && is_selected_alike(alloc, draws, &view, &pairs)?
-            && is_selected_alike(alloc, draws, &view, &pairs)?
-            && is_sliced_alike(alloc, draws, &view, &pairs)?
-            && is_sliced_alike(alloc, draws, &view, &pairs)?
-            && is_undecided_alike(alloc, draws, &beside.edits, &beside.plain)?
-            && is_undecided_alike(alloc, draws, &beside.edits, &beside.plain)?,
+        are_keys_alike(alloc, view, plain)?
+            && is_selected_alike(alloc, draws, view, pairs)?
+            && is_selected_alike(alloc, draws, view, pairs)?
+            && is_sliced_alike(alloc, draws, view, pairs)?
+            && is_sliced_alike(alloc, draws, view, pairs)?,
     )
 }
 
+// Whether mutations leave the same keys of two drawn ranges undecided.
+fn are_edits_alike(
+    alloc: Global,
+    draws: &mut Draws,
+    edits: &WriteMap,
+    plain: &Plain,
+) -> Result<bool, AllocError> {
+    Ok(
+        is_undecided_alike(alloc, draws, edits, plain)?
+            && is_undecided_alike(alloc, draws, edits, plain)?,
+    )
+}
+
+// Whether the view of a store with mutations answers alike.
+fn is_seen_alike(alloc: Global, draws: &mut Draws, beside: &Beside) -> Result<bool, RangeFault> {
+    let pairs = beside.plain.pairs().pairs()?;
+    let view = view_of(&beside.edits, &beside.store, beside.version);
+    is_view_alike(alloc, draws, &view, &beside.plain, pairs.as_slice())
+}
+
+// Whether all is answered alike.
+fn is_beside_alike(alloc: Global, draws: &mut Draws, beside: &Beside) -> Result<bool, RangeFault> {
+    Ok(
+        is_seen_alike(alloc, draws, beside)?
+            && are_edits_alike(alloc, draws, &beside.edits, &beside.plain)?,
+    )
+}
+
+// Draws a store with mutations: whether all is answered alike.
+fn is_drawn_alike(alloc: Global, draws: &mut Draws) -> Result<bool, RangeFault> {
+    let beside = drawn_beside(alloc, draws)?;
+    is_beside_alike(alloc, draws, &beside)
+}
+
 // The first round in which the two differ.
-fn first_difference(alloc: Global) -> Result<Option<usize>, Fail> {
+fn first_difference(alloc: Global) -> Result<Option<usize>, RangeFault> {
     let mut draws = Draws {
         state: 0x9e37_79b9_7f4a_7c15,
     };

@@ -29,7 +29,7 @@ fn number_key(number: usize) -> [u8; 8] {
 fn stored_pairs(alloc: Global) -> Result<Pairs, AllocError> {
     let mut pairs = Pairs::new(alloc);
     for number in 0..STORED {
-        pairs.push(pair_of(alloc, &number_key(2 * number), &[1])?)?;
+        push_pair(alloc, &mut pairs, &number_key(2 * number), &[1])?;
     }
     Ok(pairs)
 }
@@ -43,13 +43,41 @@ fn stored_model(alloc: Global) -> Result<Vec<u8>, AllocError> {
     Ok(model)
 }
 
+fn stored(alloc: Global) -> Result<Store, AllocError> {
+    Store::load(alloc, stored_pairs(alloc)?)
+}
+
 fn new_large(alloc: Global) -> Result<Large, AllocError> {
+    let model = stored_model(alloc)?;
+    let store = stored(alloc)?;
+    let edits = WriteMap::new(alloc);
     Ok(Large {
         alloc,
-        store: Store::load(alloc, stored_pairs(alloc)?)?,
-        edits: WriteMap::new(alloc),
-        model: stored_model(alloc)?,
+        store,
+        edits,
+        model,
     })
+}
+
+// What takes mutations and is read at places. What goes over places knows no more of it.
+trait Going {
+    // Takes a mutation of one kind or another.
+    fn take_edit_at(&mut self, place: usize) -> Result<(), AllocError>;
+
+    // Sets a stored key, and reads from it on: whether that answers as the model.
+    fn goes_on(&mut self, place: usize) -> Result<bool, RangeFault>;
+}
+
+impl Going for Large {
+    fn take_edit_at(&mut self, place: usize) -> Result<(), AllocError> {
+        self.do_edit(place)
+    }
+
+    fn goes_on(&mut self, place: usize) -> Result<bool, RangeFault> {
+        let number = place.saturating_mul(2);
+        self.set(number, 4)?;
+        self.is_read(number)
+    }
 }
 
 impl Large {
@@ -81,10 +109,15 @@ impl Large {
     fn clear_range(&mut self, begin: usize, end: usize) -> Result<(), AllocError> {
         let range = range_of(self.alloc, &number_key(begin), &number_key(end))?;
         self.edits.clear_range(&range)?;
+        self.note_all(begin, end);
+        Ok(())
+    }
+
+    // Notes that the numbers from one up to another have no value.
+    fn note_all(&mut self, begin: usize, end: usize) {
         for number in begin..end {
             self.note(number, 0);
         }
-        Ok(())
     }
 
     // A mutation of one kind or another, forty numbers behind the one before.
@@ -104,13 +137,6 @@ impl Large {
         let range = range_of(self.alloc, &number_key(number), &[255])?;
         let pairs = all(&view, &range, LIMIT as u32, false, Mode::WantAll)?;
         Ok(is_slice(pairs.as_slice(), self.model.as_slice(), number))
-    }
-
-    // Sets a stored key, and reads from it on.
-    fn goes_on(&mut self, place: usize) -> Result<bool, RangeFault> {
-        let number = place.saturating_mul(2);
-        self.set(number, 4)?;
-        self.is_read(number)
     }
 }
 
@@ -139,18 +165,28 @@ fn is_slice(pairs: &[Pair], model: &[u8], from: usize) -> bool {
     pairs.len() == LIMIT || next_number(model, from).is_none()
 }
 
-// The first read that is answered otherwise.
-fn first_wrong(alloc: Global) -> Result<Option<usize>, RangeFault> {
-    let mut large = new_large(alloc)?;
+fn take_edits<G: Going>(going: &mut G) -> Result<(), AllocError> {
     for place in 0..EDITS {
-        large.do_edit(place)?;
+        going.take_edit_at(place)?;
     }
+    Ok(())
+}
+
+// The first read that is answered otherwise.
+fn first_wrong_in<G: Going>(going: &mut G) -> Result<Option<usize>, RangeFault> {
     for place in 0..READS {
-        if !large.goes_on(place)? {
+        if !going.goes_on(place)? {
             return Ok(Some(place));
         }
     }
     Ok(None)
+}
+
+// The same of many keys under many mutations.
+fn first_wrong(alloc: Global) -> Result<Option<usize>, RangeFault> {
+    let mut large = new_large(alloc)?;
+    take_edits(&mut large)?;
+    first_wrong_in(&mut large)
 }
 
 #[test]

@@ -37,33 +37,59 @@ fn is_same(pair: &Option<Pair>, other: &Option<Pair>) -> bool {
     }
 }
 
-// Whether both have the same pairs beside a key.
-fn is_alike(near: &NearView<'_>, view: &View<'_>, key: &Key) -> Result<bool, AllocError> {
-    Ok(is_same(&near.next(key)?, &view.next(key)?) && is_same(&near.prev(key)?, &view.prev(key)?))
+impl<'a> Walked for NearView<'a> {
+    fn above(&self, key: &Key) -> Result<Option<Pair>, AllocError> {
+        self.next(key)
+    }
+
+    fn below(&self, key: &Key) -> Result<Option<Pair>, AllocError> {
+        self.prev(key)
+    }
 }
 
-// Whether a view for a walk from a key is the view itself, asked at each key.
-fn is_view(alloc: Global, view: View<'_>, begin: &[u8], down: bool) -> Result<bool, AllocError> {
-    let near = NearView::new(view, &key_of(alloc, begin)?, down)?;
+// Whether both have the same pairs beside a key.
+fn is_alike<N: Walked, V: Walked>(near: &N, view: &V, key: &Key) -> Result<bool, AllocError> {
+    Ok(
+        is_same(&near.above(key)?, &view.above(key)?)
+            && is_same(&near.below(key)?, &view.below(key)?),
+    )
+}
+
+// Whether both have them beside each key.
+fn are_alike<N: Walked, V: Walked>(alloc: Global, near: &N, view: &V) -> Result<bool, AllocError> {
     for key in KEYS {
-        if !is_alike(&near, &view, &key_of(alloc, key)?)? {
+        if !is_alike(near, view, &key_of(alloc, key)?)? {
             return Ok(false);
         }
     }
     Ok(true)
 }
 
-// The first key from which a walk differs.
-fn first_begin(alloc: Global, edits: &[Edit]) -> Result<Option<usize>, AllocError> {
-    let store = store_of(alloc, SIX)?;
-    let edits = edits_of(alloc, edits)?;
-    let view = view_of(&edits, &store, 1);
+// Whether a view for a walk from a key is the view itself, asked at each key.
+fn is_view(alloc: Global, view: View<'_>, begin: &[u8], down: bool) -> Result<bool, AllocError> {
+    let near = NearView::new(view, &key_of(alloc, begin)?, down)?;
+    are_alike(alloc, &near, &view)
+}
+
+// The same of a walk either way.
+fn is_view_from(alloc: Global, view: View<'_>, begin: &[u8]) -> Result<bool, AllocError> {
+    Ok(is_view(alloc, view, begin, false)? && is_view(alloc, view, begin, true)?)
+}
+
+// The first key from which a walk through a view differs.
+fn first_begin_in(alloc: Global, view: View<'_>) -> Result<Option<usize>, AllocError> {
     for (place, begin) in KEYS.iter().enumerate() {
-        if !is_view(alloc, view, begin, false)? || !is_view(alloc, view, begin, true)? {
+        if !is_view_from(alloc, view, begin)? {
             return Ok(Some(place));
         }
     }
     Ok(None)
+}
+
+// The same, under these mutations.
+fn first_begin(alloc: Global, edits: &[Edit]) -> Result<Option<usize>, AllocError> {
+    let over = over_of(alloc, SIX, edits)?;
+    first_begin_in(alloc, over.view())
 }
 
 // The first mutations under which a walk differs, and the key from which it does.

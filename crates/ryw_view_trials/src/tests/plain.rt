@@ -1,7 +1,7 @@
 //! The view, written plainly: a whole map, to which each mutation is done in turn.
 
 use super::{Edit, key_of, range_of};
-use database_rules::Selector;
+use database_rules::{AtomicOp, Selector};
 use key_bytes::{Bytes, Key, KeyRange, Pair, Pairs, is_below};
 use key_map::KeyMap;
 use std::alloc::{AllocError, Global};
@@ -26,60 +26,49 @@ impl Plain {
         }
     }
 
-    // Notes the keys that a mutation sets or clears.
-    fn note_decided(&mut self, edit: Edit) -> Result<(), AllocError> {
-        let alloc = self.alloc;
-        match edit {
-            Edit::Set(key, _) | Edit::Clear(key) => {
-                let range = KeyRange::single(alloc, &key_of(alloc, key)?)?;
-                self.decided.push(range)?;
-            }
-            Edit::ClearRange(begin, end) => {
-                self.decided.push(range_of(alloc, begin, end)?)?;
-            }
-            _ => {}
-        }
-        Ok(())
+    // Notes the keys that a mutation sets or clears, and those that it hides.
+    fn note(&mut self, edit: Edit) -> Result<(), AllocError> {
+        add(&mut self.decided, decided_by(self.alloc, edit)?)?;
+        add(&mut self.hidden, hidden_by(self.alloc, edit)?)
     }
 
     /// Does a mutation to the map.
     pub fn do_edit(&mut self, edit: Edit) -> Result<(), AllocError> {
-        self.note_decided(edit)?;
-        let alloc = self.alloc;
+        self.note(edit)?;
         match edit {
-            Edit::Set(key, value) => {
-                self.pairs
-                    .insert(key_of(alloc, key)?, key_of(alloc, value)?)?;
-            }
-            Edit::Clear(key) => {
-                self.pairs.remove(&key_of(alloc, key)?);
-            }
-            Edit::ClearRange(begin, end) => {
-                let range = range_of(alloc, begin, end)?;
-                self.pairs.clear_range(&range.begin, &range.end);
-            }
-            Edit::Atomic(op, key, operand) => {
-                if !op.is_versionstamped() {
-                    let key = key_of(alloc, key)?;
-                    let old = self.pairs.get(&key).map(|value| value.as_slice());
-                    let value = atomic_ops::apply(alloc, op, old, operand)?;
-                    self.put(key, value)?;
-                }
-            }
-            Edit::StampValue(key) => {
-                let key = key_of(alloc, key)?;
-                self.hidden.push(KeyRange::single(alloc, &key)?)?;
-            }
-            Edit::StampKey => {
-                let range = range_of(
-                    alloc,
-                    b"b\0\0\0\0\0\0\0\0\0\0",
-                    b"b\xff\xff\xff\xff\xff\xff\xff\xff\xff\xff\0",
-                )?;
-                self.hidden.push(range)?;
-            }
+            Edit::Set(key, value) => self.set(key, value),
+            Edit::Clear(key) => self.put_at(key, None),
+            Edit::ClearRange(begin, end) => self.clear_range(begin, end),
+            Edit::Atomic(op, key, operand) => self.atomic(op, key, operand),
+            Edit::StampValue(_) | Edit::StampKey => Ok(()),
         }
+    }
+
+    fn set(&mut self, key: &[u8], value: &[u8]) -> Result<(), AllocError> {
+        let value = key_of(self.alloc, value)?;
+        self.put_at(key, Some(value))
+    }
+
+    fn clear_range(&mut self, begin: &[u8], end: &[u8]) -> Result<(), AllocError> {
+        let range = range_of(self.alloc, begin, end)?;
+        self.pairs.clear_range(&range.begin, &range.end);
         Ok(())
+    }
+
+    fn atomic(&mut self, op: AtomicOp, key: &[u8], operand: &[u8]) -> Result<(), AllocError> {
+        if op.is_versionstamped() {
+            return Ok(());
+        }
+        let key = key_of(self.alloc, key)?;
+        let old = self.pairs.get(&key).map(|value| value.as_slice());
+        let value = atomic_ops::apply(self.alloc, op, old, operand)?;
+        self.put(key, value)
+    }
+
+    // Gives a key a value or none.
+    fn put_at(&mut self, key: &[u8], value: Option<Bytes>) -> Result<(), AllocError> {
+        let key = key_of(self.alloc, key)?;
+        self.put(key, value)
     }
 
     fn put(&mut self, key: Key, value: Option<Bytes>) -> Result<(), AllocError> {
@@ -125,6 +114,41 @@ impl Plain {
     }
 }
 
+// The range of a key alone.
+fn single(alloc: Global, key: &[u8]) -> Result<KeyRange, AllocError> {
+    KeyRange::single(alloc, &key_of(alloc, key)?)
+}
+
+// The keys that a mutation sets or clears.
+fn decided_by(alloc: Global, edit: Edit) -> Result<Option<KeyRange>, AllocError> {
+    match edit {
+        Edit::Set(key, _) | Edit::Clear(key) => Ok(Some(single(alloc, key)?)),
+        Edit::ClearRange(begin, end) => Ok(Some(range_of(alloc, begin, end)?)),
+        _ => Ok(None),
+    }
+}
+
+// The keys that a mutation hides.
+fn hidden_by(alloc: Global, edit: Edit) -> Result<Option<KeyRange>, AllocError> {
+    match edit {
+        Edit::StampValue(key) => Ok(Some(single(alloc, key)?)),
+        Edit::StampKey => Ok(Some(range_of(
+            alloc,
+            b"b\0\0\0\0\0\0\0\0\0\0",
+            b"b\xff\xff\xff\xff\xff\xff\xff\xff\xff\xff\0",
+        )?)),
+        _ => Ok(None),
+    }
+}
+
+// Adds a range, if there is one.
+fn add(ranges: &mut Vec<KeyRange>, range: Option<KeyRange>) -> Result<(), AllocError> {
+    if let Some(range) = range {
+        ranges.push(range)?;
+    }
+    Ok(())
+}
+
 /// Whether a key is in one of these ranges.
 pub fn has_key(ranges: &[KeyRange], key: &[u8]) -> bool {
     ranges.iter().any(|range| range.has(key))
@@ -159,6 +183,11 @@ pub fn key_at(pairs: &[Pair], place: i64) -> &[u8] {
     }
 }
 
+fn push_copy(pairs: &mut Pairs, pair: &Pair) -> Result<(), AllocError> {
+    let copy = pair.copy()?;
+    pairs.push(copy)
+}
+
 /// A slice of these pairs, by a step for each of them.
 pub fn slice_of(
     alloc: Global,
@@ -177,7 +206,7 @@ pub fn slice_of(
         let pair = &pairs[place];
         let is_full = limit != 0 && limit as usize <= slice.len();
         if range.has(pair.key.as_slice()) && !is_full {
-            slice.push(pair.copy()?)?;
+            push_copy(&mut slice, pair)?;
         }
     }
     Ok(slice)
