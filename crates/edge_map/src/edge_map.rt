@@ -181,6 +181,17 @@ impl<T> EdgeMap<T> {
         }
     }
 
+    /// Takes all edges away: each key has what the keys below the first edge had. A few edges leave their room, and of more
+    /// all is given back. It takes no memory.
+    pub fn clear(&mut self)
+    where
+        T: Drop,
+        ensures { self.new ≡ record { base = self.old.base; entries = [] } }
+    {
+        self.row.clear();
+        self.tree.clear();
+    }
+
     /// Gives an edge something else, and answers what it had. It takes no memory.
     pub fn replace(&mut self, key: &Key, level: T) -> T
         requires { IsTrue (is_edge key.now self.old) }

@@ -245,6 +245,15 @@ impl<T> Row<T> {
         }
     }
 
+    // Takes all edges away, and keeps their room.
+    pub(crate) fn clear(&mut self)
+    where
+        T: Drop,
+        ensures { self.new ≡ [] }
+    {
+        self.edges.clear();
+    }
+
     // Gives an edge something else, and answers what it had.
     pub(crate) fn replace(&mut self, key: &Key, level: T) -> T
         requires { IsTrue (is_some (lookup (is_at (key_cmp key.now)) self.old)) }

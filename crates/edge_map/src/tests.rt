@@ -169,6 +169,23 @@ fn replaces_and_removes(rt: HostRuntime) -> Result<(), Fail> {
     Ok(())
 }
 
+// What a key of a cleared map has, and whether it and a key above it are edges, before the key is made one again and after.
+fn cleared(alloc: Global) -> Result<[(u64, bool, bool); 2], AllocError> {
+    let mut map = raised(alloc)?;
+    map.clear();
+    let (key, above) = (key_of(alloc, b"b")?, key_of(alloc, b"c")?);
+    let before = (*map.at(&key), map.has_edge(&key), map.has_edge(&above));
+    map.split(&key)?;
+    let after = (*map.at(&key), map.has_edge(&key), map.has_edge(&above));
+    Ok([before, after])
+}
+
+#[test]
+fn clears(rt: HostRuntime) -> Result<(), Fail> {
+    assert_eq!(rt; cleared(rt.alloc())?, [(0, false, false), (0, true, false)]);
+    Ok(())
+}
+
 // How many keys of two bytes a large map is made of.
 const MANY: u8 = 20;
 

@@ -239,6 +239,17 @@ impl<T> Tree<T> {
         }
     }
 
+    // Takes all edges away, and gives their room back. It takes no memory.
+    pub(crate) fn clear(&mut self)
+    where
+        T: Drop,
+        ensures { self.new ≡ record { base = self.old.base; entries = [] } }
+    {
+        let alloc = *self.levels.allocator();
+        self.places = BTreeMap::new(alloc);
+        self.levels = Vec::new(alloc);
+    }
+
     // Gives an edge something else, and answers what it had. It takes no memory.
     pub(crate) fn replace(&mut self, key: &Key, level: T) -> T
         requires { IsTrue (is_edge key.now self.old) }

@@ -1,13 +1,28 @@
 //! The end of a life, and the next one.
 
-ghost use Rattle.std.specs.Prelude.{◌≡◌};
+ghost use Rattle.std.specs.Prelude.{◌≡◌, []};
 ghost use Rattle.database_rules.specs.Transactions as rules;
 ghost use Rattle.fdb_calls.specs.Calling.{on_error_called};
 ghost use Rattle.txn_core.specs.Judging.{Handled};
 ghost use Rattle.txn_core.specs.Stands.{StandsFor};
 
 use crate::txn::Txn;
+use conflict_ranges::RangeSet;
 use database_rules::{Code, Phase, TRANSACTION_CANCELLED};
+
+// Of so many mutations at most the room stays for those of the next life.
+const FEW: usize = 16;
+
+// Takes all flags away. Room for a few stays, and of more all is given back.
+fn take_away(flags: &mut Vec<bool>)
+    ensures { flags.new.items ≡ [] }
+{
+    if flags.len() > FEW {
+        *flags = Vec::new(*flags.allocator());
+    } else {
+        flags.clear();
+    }
+}
 
 // Whether a transaction may be tried again after an error of this code.
 fn is_retryable(code: Code) -> bool
@@ -17,12 +32,20 @@ fn is_retryable(code: Code) -> bool
 }
 
 impl Txn {
-    /// Begins anew, with a life of this number (`fdb_transaction_reset`). It takes no memory.
+    /// Begins anew, with a life of this number (`fdb_transaction_reset`). Room for a few mutations stays. It takes no memory.
     pub fn reset(&mut self, life: u64)
         ensures { StandsFor self.new (rules.fresh life) }
     {
         let alloc = self.allocator();
-        *self = Txn::new(alloc, life);
+        self.life = life;
+        self.version = None;
+        self.edits.reset();
+        take_away(&mut self.declares);
+        self.read_ranges = RangeSet::new(alloc);
+        self.write_ranges = RangeSet::new(alloc);
+        self.size = 0;
+        self.is_silenced = false;
+        self.phase = Phase::Active;
     }
 
     /// Lets each further call of this life fail (`fdb_transaction_cancel`). A life that a commit was tried in stays as it

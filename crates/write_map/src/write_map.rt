@@ -26,6 +26,9 @@ use key_bytes::{Bytes, Key, KeyRange};
 use std::alloc::{AllocError, Global};
 use std::marker::Model;
 
+// A map of so many mutations at most keeps its room when they are taken away.
+const FEW: usize = 16;
+
 /// The pending mutations of a transaction. Contracts see the list of them in their order, and the edges between which all
 /// keys are alike.
 #[derive(Drop)]
@@ -152,6 +155,19 @@ impl WriteMap {
     {
         self.levels.shows_rising();
         self.levels.prev(key)
+    }
+
+    /// Takes all mutations away. Room for a few stays, and of more all is given back. It takes no memory.
+    pub fn reset(&mut self)
+        ensures { self.new ≡ record { mutations = []; edges = [] } }
+    {
+        if self.log.len() > FEW {
+            *self = WriteMap::new(self.alloc);
+        } else {
+            self.levels.clear();
+            self.log.clear();
+            self.is_stamped = false;
+        }
     }
 
     // Adds a mutation of one key, after which it has this state. It searches the edges six times at most, and twice more

@@ -182,6 +182,31 @@ fn keeps_its_mutations(rt: HostRuntime) -> Result<(), Fail> {
     Ok(())
 }
 
+// A map with more mutations than it keeps room for.
+fn many(alloc: Global) -> Result<WriteMap, AllocError> {
+    let mut map = one_of_each(alloc)?;
+    for byte in b'0'..b'Z' {
+        map.set(&[b'i', byte], b"i")?;
+    }
+    Ok(map)
+}
+
+// Whether a map has no mutation once it is reset, and takes one then.
+fn begins_anew(alloc: Global, mut map: WriteMap) -> Result<bool, AllocError> {
+    map.reset();
+    let is_bare = counts(&map) == (0, true, false) && shows(alloc, &map, b"g", b"unmodified")?;
+    map.set(b"a", b"one")?;
+    Ok(is_bare && counts(&map) == (1, false, false) && shows(alloc, &map, b"a", b"=one")?)
+}
+
+#[test]
+fn begins_anew_after_a_reset(rt: HostRuntime) -> Result<(), Fail> {
+    let alloc = rt.alloc();
+    assert!(rt; begins_anew(alloc, one_of_each(alloc)?)?);
+    assert!(rt; begins_anew(alloc, many(alloc)?)?);
+    Ok(())
+}
+
 // How many operations a key has after two, and what the second is.
 fn two_edits(alloc: Global) -> Result<Option<(usize, AtomicOp)>, AllocError> {
     let mut map = WriteMap::new(alloc);
