@@ -19,6 +19,3 @@ pub use database_rules::AtomicOp;
 pub use fault::StampFault;
 pub use names::from_name;
 pub use stamping::{has_room, resolve_stamp, stamped};
-
-#[cfg(test)]
-mod tests;

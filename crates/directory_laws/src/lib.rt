@@ -12,6 +12,3 @@ pub fn directories_are_found()
     ensures removed { AreRemovedGone }
     ensures others { DoesAllElseStay }
 {}
-
-#[cfg(test)]
-mod tests;

@@ -19,6 +19,3 @@ pub use change::Change;
 pub use edge_map::EdgeMap;
 pub use edges_left::EdgesLeft;
 pub use spread::Spread;
-
-#[cfg(test)]
-mod tests;

@@ -10,6 +10,3 @@ mod script;
 mod worker;
 
 pub use pairs::gen_pairs;
-
-#[cfg(test)]
-mod tests;

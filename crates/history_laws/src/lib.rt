@@ -23,6 +23,3 @@ pub fn steps_are_legal()
     ensures keeps { AreStepsReached }
     ensures legal { AreReachedLegal }
 {}
-
-#[cfg(test)]
-mod tests;

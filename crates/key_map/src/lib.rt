@@ -4,6 +4,3 @@
 mod map;
 
 pub use map::{KeyMap, add_missing};
-
-#[cfg(test)]
-mod tests;

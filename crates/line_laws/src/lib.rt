@@ -14,6 +14,3 @@ pub fn bad_places_are_longest_fronts()
     ensures pairs { ArePairPlaces }
     ensures orders { AreOrderPlaces }
 {}
-
-#[cfg(test)]
-mod tests;

@@ -21,6 +21,3 @@ mod threaded;
 pub use closing::settle_machines;
 pub use team::run_machine;
 pub use threaded::ThreadedMachine;
-
-#[cfg(test)]
-mod tests;

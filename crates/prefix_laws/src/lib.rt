@@ -13,6 +13,3 @@ pub fn prefixes_are_apart()
     ensures requests { ArePrefixesApart }
     ensures runs { RunsArePrefixesApart }
 {}
-
-#[cfg(test)]
-mod tests;

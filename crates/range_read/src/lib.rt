@@ -32,6 +32,3 @@ pub use resolving::resolve;
 pub use taken::Taken;
 pub use view::OrderedView;
 pub use walking::is_full;
-
-#[cfg(test)]
-mod tests;

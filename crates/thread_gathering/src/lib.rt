@@ -17,6 +17,3 @@ pub use service::CoreService;
 pub fn threads_gather_to_a_run()
     ensures { GatherToARun }
 {}
-
-#[cfg(test)]
-mod tests;

@@ -14,6 +14,3 @@ pub fn machines_weave_to_a_run()
     ensures run { WeaveToARun }
     ensures whole { WeaveToAWholeRun }
 {}
-
-#[cfg(test)]
-mod tests;

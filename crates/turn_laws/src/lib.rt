@@ -11,6 +11,3 @@ ghost use Rattle.turn_laws.specs.OneOrder.{HaveOneOrder};
 pub fn turns_are_one()
     ensures { HaveOneOrder }
 {}
-
-#[cfg(test)]
-mod tests;

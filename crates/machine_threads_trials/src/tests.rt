@@ -1,0 +1,123 @@
+ghost use Rattle.std.specs.Prelude.{◌≡◌, IfOk};
+ghost use Rattle.request_line.specs.History.{first_history};
+ghost use Rattle.request_line.specs.Line.{history};
+ghost use Rattle.machine_threads.specs.Threaded.{history_of, IsRunning};
+
+use fdb_calls::{Reply, Request};
+use key_bytes::{Bytes, Pair, Pairs};
+use machine_seat::start;
+use machine_threads::{ThreadedMachine, run_machine};
+use network::{Post, Service, serve};
+use outside::OpenGate;
+use request_line::{Receiver, Sender, open};
+use std::alloc::{AllocError, Global};
+use std::sync::Wait;
+use std::test::Fail;
+use std::thread;
+use std::thread::Threads;
+
+// A service that answers each request that a machine of this number was started, or that it has no memory.
+#[derive(Drop)]
+struct Starts {
+    alloc: Global,
+    machine: Option<u16>,
+}
+
+impl Service for Starts {
+    ghost use Rattle.std.specs.Prelude.{⊤};
+
+    ghost answers = { λ before machine request reply after. ⊤ };
+
+    fn answer(&mut self, _machine: u16, _request: &Request) -> Reply {
+        match self.machine {
+            Some(machine) => Reply::Started {
+                machine,
+                instructions: Pairs::new(self.alloc),
+            },
+            None => Reply::NoMemory,
+        }
+    }
+}
+
+// How many machines have ended, nothing where memory is wanting, and how many were started as the service saw it.
+#[derive(Clone, Copy, Debug, PartialEq, Eq)]
+struct Ran {
+    ended: Option<usize>,
+    machines: u64,
+}
+
+// Instructions that start a machine under the prefix `q`.
+fn starting(alloc: Global) -> Result<Pairs, AllocError> {
+    let mut instructions = Pairs::new(alloc);
+    for text in [b"\x02PUSH\x00\x01q\x00".as_slice(), b"\x02START_THREAD\x00"] {
+        let key = Bytes::new(alloc);
+        let value = Bytes::from_slice(alloc, text)?;
+        instructions.push(Pair { key, value })?;
+    }
+    Ok(instructions)
+}
+
+// Machine 0 with these instructions.
+fn first_machine(alloc: Global, sender: Sender<Post>) -> Result<ThreadedMachine, AllocError>
+    requires { history sender ≡ first_history }
+    ensures running { IfOk result IsRunning }
+    ensures history { IfOk result (λ machine. history_of machine ≡ first_history) }
+{
+    let prefix = Bytes::from_slice(alloc, b"p")?;
+    let seat = start(alloc, 0, prefix, 3, starting(alloc)?)?;
+    Ok(ThreadedMachine::new(alloc, seat, sender))
+}
+
+// Answers until all machines are over: how many were started.
+fn answer_all<R: Wait>(
+    rt: &R,
+    alloc: Global,
+    mut receiver: Receiver<Post>,
+    machine: Option<u16>,
+) -> u64 {
+    let mut starts = Starts { alloc, machine };
+    serve(rt, alloc, &mut receiver, &mut starts).machines
+}
+
+// Runs machine 0, while another thread answers.
+fn run_over<R: Threads + Wait + Copy + Send + Sync + 'static>(
+    rt: R,
+    alloc: Global,
+    machine: Option<u16>,
+) -> Result<Ran, AllocError> {
+    let (sender, receiver) = open::<Post>(alloc, 4)?;
+    let first = first_machine(alloc, sender)?;
+    let serving = thread::spawn(&rt, move || answer_all(&rt, alloc, receiver, machine))?;
+    let ended = run_machine(&rt, alloc, &OpenGate, first, 0);
+    let machines = serving.join(&rt);
+    Ok(Ran {
+        ended: ended.ok().map(|ended| ended.len()),
+        machines,
+    })
+}
+
+#[test]
+fn a_machine_and_one_that_it_starts_end(rt: HostRuntime) -> Result<(), Fail> {
+    let ran = run_over(rt, rt.alloc(), Some(1))?;
+    let wanted = Ran {
+        ended: Some(2),
+        machines: 2,
+    };
+    assert_eq!(rt; ran, wanted);
+    Ok(())
+}
+
+#[test]
+fn what_is_refused_still_posts_each_over(rt: HostRuntime) -> Result<(), Fail> {
+    let short = Ran {
+        ended: None,
+        machines: 1,
+    };
+    assert_eq!(rt; run_over(rt, rt.alloc(), None)?, short);
+    let twice = Ran {
+        ended: None,
+        machines: 2,
+    };
+    assert_eq!(rt; run_over(rt, rt.alloc(), Some(0))?, twice);
+    Ok(())
+}
