@@ -1,5 +1,5 @@
 -- The order of two byte strings that stand in rooms with zeros behind them, by the words of the rooms.
-use Rattle.std.proofs.Common.{◌≡◌, ◌≢◌, ℕ, zero, suc, ◌+◌, ◌*◌, ◌^◌, ◌<◌, ◌≤◌, List, [], ◌∷◌, ◌++◌, length, get_or, take, drop, refl, sym, ap, ◌∙◌, inl, inr, arith}
+use Rattle.std.proofs.Common.{◌≡◌, ◌≢◌, ℕ, zero, suc, ◌+◌, ◌*◌, ◌^◌, ◌<◌, ◌≤◌, List, [], ◌∷◌, ◌++◌, length, get_or, take, drop, true, false, true≢false, refl, sym, ap, ◌∙◌, inl, inr, arith}
 use Rattle.std.proofs.Math.Nat.{pow-suc, mul-le-mul_right}
 use Rattle.std.proofs.Math.Seq.{take-add}
 use Rattle.std.proofs.lemmas.Bool.{cases_order}
@@ -8,11 +8,20 @@ use Rattle.std.proofs.lemmas.List.Elements.{All-head, All-tail}
 use Rattle.std.specs.Cmp.{ranks}
 use Rattle.std.specs.FinMap.{slice_cmp-IsAntisymmetric, nat_cmp-IsAntisymmetric}
 use Rattle.std.specs.Int.{w64, from_be_bytes}
-use Rattle.std.specs.Ordering.{nat_cmp, ordering_then, MatchOrdering}
+use Rattle.std.specs.Ordering.{is_ne, nat_cmp, ordering_then, MatchOrdering}
 use Rattle.std.specs.declared.cmp.Ordering.{Ordering}
 use Rattle.std.specs.declared.cmp.Ordering.TheVariants.{Less, Equal, Greater}
 use Rattle.key_bytes.specs.Keys.{IsByteString, key_cmp}
 use Rattle.key_bytes.proofs.Orders.{nat_cmp-less, nat_cmp-equal, nat_cmp-greater, key_cmp-append, key_cmp-same_front}
+
+-- what an answer that isn't, or is, Equal says
+pub differs : (o : Ordering) → is_ne o ≡ true → o ≢ Equal
+differs o is e = true≢false (sym is ∙ ap is_ne e)
+
+pub ties : (o : Ordering) → is_ne o ≡ false → o ≡ Equal
+ties Less is = absurd (true≢false is)
+ties Equal is = refl
+ties Greater is = absurd (true≢false is)
 
 -- ---- the number that bytes write, the highest first
 

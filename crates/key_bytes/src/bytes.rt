@@ -77,6 +77,7 @@ impl Bytes {
     }
 
     /// A copy of this byte string. Up to 22 bytes take no memory, and those that are shared none but a count.
+    #[inline(always)]
     pub fn copy(&self) -> Result<Bytes, AllocError>
         ensures { IfOk result (λ copy. copy ≡ self.now) }
     {
@@ -205,6 +206,7 @@ impl Ord for Bytes {
 
     ghost matches_eq = { texts_ties };
 
+    #[inline(always)]
     fn cmp(&self, other: &Bytes) -> Ordering {
         self.form.cmp(&other.form)
     }

@@ -53,8 +53,20 @@ impl Form {
         }
     }
 
-    // A copy; bytes that are shared already are shared once more.
+    // A copy. One in place is a few moves where it is made, without a call.
+    #[inline(always)]
     pub(crate) fn copy(&self, alloc: Global) -> Result<Form, AllocError>
+        ensures { IfOk result (λ copy. items_of copy ≡ items_of self.now) }
+    {
+        match self {
+            Form::InPlace(short) => Ok(Form::InPlace(short.copy())),
+            long => long.copy_long(alloc),
+        }
+    }
+
+    // A copy; bytes that are shared already are shared once more.
+    #[inline(never)]
+    fn copy_long(&self, alloc: Global) -> Result<Form, AllocError>
         ensures { IfOk result (λ copy. items_of copy ≡ items_of self.now) }
     {
         match self {
@@ -69,7 +81,7 @@ impl Form {
         ensures { IfOk result (λ form. items_of form ≡ items_of self.now ++ byte ∷ []) }
     {
         match self {
-            Form::InPlace(short) if short.has_room() => Ok(Form::InPlace(short.pushed(byte))),
+            Form::InPlace(short) if short.has_room_for(1) => Ok(Form::InPlace(short.pushed(byte))),
             _ => joined(alloc, self.as_slice(), &[byte]),
         }
     }
@@ -79,14 +91,16 @@ impl Form {
         ensures ok { OnOk result (items_of self.new ≡ items_of self.old ++ bytes.now) }
         ensures err { OnErr result (items_of self.new ≡ items_of self.old) }
     {
-        if let Form::Growing(items) = self {
-            return items.extend_from_slice(bytes);
+        match self {
+            Form::InPlace(short) if short.has_room_for(bytes.len()) => short.extend(bytes),
+            Form::Growing(items) => items.extend_from_slice(bytes)?,
+            _ => *self = joined(alloc, self.as_slice(), bytes)?,
         }
-        *self = joined(alloc, self.as_slice(), bytes)?;
         Ok(())
     }
 
     // Which of two stands first in the order of keys.
+    #[inline(always)]
     pub(crate) fn cmp(&self, other: &Form) -> Ordering
         ensures { result ≡ key_cmp (items_of self.now) (items_of other.now) }
     {

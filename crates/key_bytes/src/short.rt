@@ -1,6 +1,6 @@
 //! A byte string of at most 22 bytes, kept where it is.
 
-ghost use Rattle.std.specs.Prelude.{◌≡◌, ◌+◌, ◌<◌, ◌≤◌, [], ◌∷◌, ◌++◌, length, nat_lt, take, drop};
+ghost use Rattle.std.specs.Prelude.{◌≡◌, ◌+◌, ◌<◌, ◌≤◌, ◌↔◌, [], ◌∷◌, ◌++◌, length, take, drop, IsTrue};
 ghost use Rattle.std.specs.Int.{w64, from_be_bytes};
 ghost use Rattle.key_bytes.specs.Keys.{IsByteString, key_cmp};
 
@@ -74,11 +74,11 @@ impl Short {
         }
     }
 
-    // Whether one byte more finds room.
-    pub(crate) fn has_room(&self) -> bool
-        ensures { result ≡ nat_lt (length self.now) SHORT_LIMIT }
+    // Whether so many bytes more find room.
+    pub(crate) fn has_room_for(&self, count: usize) -> bool
+        ensures { IsTrue result ↔ (length self.now + count ≤ SHORT_LIMIT) }
     {
-        usize::from(self.len) < SHORT_LIMIT
+        count <= SHORT_LIMIT - usize::from(self.len)
     }
 
     // A copy with one byte more.
@@ -94,7 +94,19 @@ impl Short {
         }
     }
 
+    // Adds bytes at the end.
+    pub(crate) fn extend(&mut self, bytes: &[u8])
+        requires { length self.old + length bytes.now ≤ SHORT_LIMIT }
+        ensures { self.new ≡ self.old ++ bytes.now }
+    {
+        let len = usize::from(self.len);
+        let end = len + bytes.len();
+        self.room[len..end].copy_from_slice(bytes);
+        self.len = end as u8;
+    }
+
     // A copy.
+    #[inline(always)]
     pub(crate) fn copy(&self) -> Short
         ensures { result ≡ self.now }
     {
@@ -112,9 +124,22 @@ impl Short {
         &self.room[..usize::from(self.len)]
     }
 
-    // Which of two stands first in the order of keys. The second and the third word share two bytes, so that three words
-    // hold the whole room; where all three are the same, the longer one goes on with zeros and stands later.
+    // Which of two stands first in the order of keys. Where the first word decides, as it mostly does, that takes no call.
+    #[inline(always)]
     pub(crate) fn cmp(&self, other: &Short) -> Ordering
+        ensures { result ≡ key_cmp self.now other.now }
+    {
+        let first = word_at(&self.room, 0).cmp(&word_at(&other.room, 0));
+        if first.is_ne() {
+            return first;
+        }
+        self.cmp_words(other)
+    }
+
+    // The same by all words. The second and the third word share two bytes, so that three words hold the whole room; where all
+    // three are the same, the longer one goes on with zeros and stands later.
+    #[inline(never)]
+    fn cmp_words(&self, other: &Short) -> Ordering
         ensures { result ≡ key_cmp self.now other.now }
     {
         let first = word_at(&self.room, 0).cmp(&word_at(&other.room, 0));
