@@ -2,10 +2,11 @@ pub mod Adds
 pub mod Answered
 pub mod Installed
 pub mod Loads
+pub mod Noted
 pub mod Present
 pub mod Puts
 pub mod Rising
-pub mod Rooms
 pub mod Spans
 pub mod Stays
 pub mod Walks
+pub mod Writes

@@ -1,14 +1,17 @@
--- Loading: each value is a chain of its own, and of two heads of one key the later stays.
-use Rattle.std.proofs.Common.{◌≡◌, ℕ, suc, ◌+◌, ◌<◌, Bool, true, false, cond, List, [], ◌∷◌, ◌++◌, length, take, drop, get_or, map, Option, Some, None, slice_index_or, slice_set, refl, sym, ap, subst, ◌∙◌, arith}
+-- Loading: each value is a chain of its own, and of two places of one key the later stays.
+use Rattle.std.proofs.Common.{◌≡◌, ◌≢◌, ℕ, zero, suc, ◌+◌, ◌-◌, ◌<◌, ◌≤◌, Bool, true, false, cond, List, [], ◌∷◌, ◌++◌, length, take, drop, get_or, map, Option, Some, None, slice_index_or, slice_set, refl, sym, ap, subst, ◌∙◌, arith}
 use Rattle.std.proofs.lemmas.List.{map-append, append_assoc, length-take-le, take_more_set, drop-set-lt, drop_more}
 use Rattle.std.proofs.lemmas.List.Elements.{All-nil, All-cons, All-head, All-tail, All-append, All-weaker}
 use Rattle.std.proofs.lemmas.Map.Lookups.{exact_bytes}
+use Rattle.std.proofs.lemmas.Map.Views.{tells_apart}
+use Rattle.std.proofs.lemmas.Option.{none-some}
 use Rattle.std.proofs.lemmas.Map.Made.{IfSome-update_all}
 use Rattle.std.specs.BTreeMap.{BTreeMap, IsFromIterResult}
 use Rattle.std.specs.Cmp.Lexicographic.{nat_list_cmp_total}
 use Rattle.std.specs.FinMap as finite
+use Rattle.std.specs.List.{All}
 use Rattle.std.specs.Map.{update, update_all}
-use Rattle.std.specs.Option.{IfSome, option_map, option_and_then}
+use Rattle.std.specs.Option.{IfSome, IsSomeAnd, option_map, option_and_then}
 use Rattle.std.specs.Ordering.{eq_by_cmp}
 use Rattle.key_bytes.specs.declared.pairs.Pair.{Pair}
 use Rattle.key_bytes.specs.Entries.{entries_of}
@@ -18,46 +21,100 @@ use Rattle.key_map.proofs.Finite.{get-map_of, map_of-collected}
 use Rattle.database_rules.specs.Databases.{Database, do_one, do_all}
 use Rattle.database_rules.specs.Histories.{set_of}
 use Rattle.version_store.specs.declared.chains.Node.{Node}
-use Rattle.version_store.specs.declared.chains.Head.{Head}
-use Rattle.version_store.specs.Chains.{Slots, before_older, spelled, chain_of, chains_of, head_of, database_of, IsThere, IsUpTo, IsWhole, IsSoundHead, Sound}
-use Rattle.version_store.specs.Loading.{first_chain, first_chains, first_head, heads_from, AreSoundHeads}
-use Rattle.version_store.specs.Versions.{holding, database_at}
+use Rattle.version_store.specs.Chains.{Slots, Places, chain_from, chain_of, chains_of, database_of, spelled, AreBehind, IsNewest, IsSoundPlace, Sound}
+use Rattle.version_store.specs.Loading.{first_chain, first_chains, places_from, AreAlone, IsAlone}
+use Rattle.version_store.specs.Versions.{holding, database_at, place_of}
 use Rattle.version_store.proofs.Spans.{present_of, and_then-chain_of, get-database_of}
 
 -- a node of version 1 that is a chain of its own
 module _ (slots : Slots) (place older : ℕ) (value : List ℕ)
-    (is : slice_index_or slots place None ≡ Some (record { version = 1; value = Some value; older = older })) where
-  pub chain_of-placed : chain_of slots (record { newest = place; len = 1 }) ≡ first_chain value
+    (is : slice_index_or slots place None ≡ Some (record { version = 1; value = Some value; older = older; left = 0 })) where
+  pub chain_of-placed : chain_of slots place ≡ first_chain value
   unfolding spelled
-  chain_of-placed = ap (λ (o : Option Node). before_older o (spelled 0 slots)) is
+  chain_of-placed = ap (chain_from slots) is
 
-  pub IsSoundHead-placed_alone : (nodes : ℕ) → IsSoundHead slots (nodes + 1) 1 (record { newest = place; len = 1 })
-  unfolding IsWhole
-  IsSoundHead-placed_alone nodes = record {
-    whole = subst (λ (o : Option Node). IsThere o (IsWhole 0 slots)) (sym is) tt;
-    short = omega arith;
-    versions = subst (IsUpTo 1) (sym chain_of-placed) (omega arith);
-  }
+  pub IsAlone-placed : IsAlone slots place
+  IsAlone-placed = subst (λ (o : Option Node). IsSomeAnd o (λ node. (node.version ≡ 1) × (node.left ≡ 0))) (sym is) (refl, refl)
 
-pub length-heads_from : (place : ℕ) (pairs : List Pair) → length (heads_from place pairs) ≡ length pairs
-length-heads_from place [] = refl
-length-heads_from place (pair ∷ pairs) = ap suc (length-heads_from (place + 1) pairs)
+-- a node comes to a vacant place: one that is alone stays
+module _ (slots slots' : Slots) (place : ℕ) (vacant : slice_index_or slots place None ≡ None)
+    (others : (at : ℕ) → at ≢ place → slice_index_or slots' at None ≡ slice_index_or slots at None) where
+  pub IsAlone-stays : (at : ℕ) → IsAlone slots at → IsAlone slots' at × (chain_of slots' at ≡ chain_of slots at)
+  unfolding spelled
+  IsAlone-stays at alone = stays_at (slice_index_or slots at None) refl alone
+    where
+      stays_at : (o : Option Node) → slice_index_or slots at None ≡ o → IsSomeAnd o (λ node. (node.version ≡ 1) × (node.left ≡ 0))
+          → IsAlone slots' at × (chain_of slots' at ≡ chain_of slots at)
+      stays_at None is there = absurd there
+      stays_at (Some node) is one =
+          let apart : at ≢ place = λ same. none-some node (sym vacant ∙ ap (λ p. slice_index_or slots p None) (sym same) ∙ is) in
+          let same : slice_index_or slots' at None ≡ Some node = others at apart ∙ is in (
+            subst (λ (o : Option Node). IsSomeAnd o (λ node. (node.version ≡ 1) × (node.left ≡ 0))) (sym same) one,
+            ap (chain_from slots') same ∙ chain_alone node one.1 ∙ sym (ap (chain_from slots) is),
+          )
+        where
+          chain_alone : (node : Node) → node.left ≡ 0 → chain_from slots' (Some node) ≡ chain_from slots (Some node)
+          chain_alone node none = spelled_none node.left none
+            where
+              spelled_none : (left : ℕ) → left ≡ 0
+                  → (node.version, node.value) ∷ spelled left slots' node.older ≡ (node.version, node.value) ∷ spelled left slots node.older
+              spelled_none zero _ = refl
+              spelled_none (suc n) none = absurd (omega (arith, none))
 
-heads_from-pushed : (place : ℕ) (pairs : List Pair) (pair : Pair)
-    → heads_from place (pairs ++ pair ∷ []) ≡ heads_from place pairs ++ (pair.key, first_head (place + length pairs)) ∷ []
-heads_from-pushed place [] pair = ap (λ n. (pair.key, first_head n) ∷ []) (omega arith)
-heads_from-pushed place (first ∷ pairs) pair =
-    ap (λ heads. (first.key, first_head place) ∷ heads) (heads_from-pushed (place + 1) pairs pair)
-    ∙ ap (λ n. (first.key, first_head place) ∷ heads_from (place + 1) pairs ++ (pair.key, first_head n) ∷ []) (omega arith)
+-- a node that is alone is sound for any keys
+IsSoundPlace-alone : (places : Places) (slots : Slots) (nodes place : ℕ) → IsAlone slots place → IsSoundPlace places slots nodes 1 place
+unfolding AreBehind
+IsSoundPlace-alone places slots nodes place = sound_at (slice_index_or slots place None)
+  where
+    behind_none : (left at : ℕ) → left ≡ 0 → AreBehind left places slots at
+    behind_none zero at none = tt
+    behind_none (suc n) at none = absurd (omega (arith, none))
 
--- a pair whose value was taken: before it the heads are as they were, and then comes its own
+    sound_at : (o : Option Node) → IsSomeAnd o (λ node. (node.version ≡ 1) × (node.left ≡ 0)) → IsSomeAnd o (IsNewest places slots nodes 1)
+    sound_at None there = there
+    sound_at (Some node) alone = record {
+      behind = behind_none node.left node.older alone.1;
+      short = omega (arith, alone.1);
+      version = omega (arith, alone.0);
+    }
+
+pub length-places_from : (place : ℕ) (pairs : List Pair) → length (places_from place pairs) ≡ length pairs
+length-places_from place [] = refl
+length-places_from place (pair ∷ pairs) = ap suc (length-places_from (place + 1) pairs)
+
+places_from-pushed : (place : ℕ) (pairs : List Pair) (pair : Pair)
+    → places_from place (pairs ++ pair ∷ []) ≡ places_from place pairs ++ (pair.key, place + length pairs) ∷ []
+places_from-pushed place [] pair = ap (λ n. (pair.key, n) ∷ []) (omega arith)
+places_from-pushed place (first ∷ pairs) pair =
+    ap (λ places. (first.key, place) ∷ places) (places_from-pushed (place + 1) pairs pair)
+    ∙ ap (λ n. (first.key, place) ∷ places_from (place + 1) pairs ++ (pair.key, n) ∷ []) (omega arith)
+
+-- the key of the pair at a place
+abbrev key_at : List Pair → ℕ → List ℕ
+key_at pairs place = slice_index_or (map (λ (pair : Pair). pair.key) pairs) place []
+
+-- the place of each key is that of its pair
+key_at-places_from : (first : ℕ) (pairs : List Pair)
+    → All (λ e. (first ≤ e.1) × (key_at pairs (e.1 - first) ≡ e.0)) (places_from first pairs)
+key_at-places_from first [] = All-nil _
+key_at-places_from first (pair ∷ pairs) =
+    let none : first - first ≡ 0 = omega arith in
+    let Stands : List ℕ × ℕ → Type 0 = λ e. (first ≤ e.1) × (key_at (pair ∷ pairs) (e.1 - first) ≡ e.0) in
+    All-cons Stands (pair.key, first) (places_from (first + 1) pairs) (omega arith, ap (key_at (pair ∷ pairs)) none)
+    (All-weaker (λ e. (first + 1 ≤ e.1) × (key_at pairs (e.1 - (first + 1)) ≡ e.0)) Stands
+    (λ e stands.
+    let later : e.1 - first ≡ suc (e.1 - (first + 1)) = omega (arith, stands.0) in
+    (omega (arith, stands.0), ap (key_at (pair ∷ pairs)) later ∙ stands.1))
+    (places_from (first + 1) pairs) (key_at-places_from (first + 1) pairs))
+
+-- a pair whose value was taken: before it the places are as they were, and then comes its own
 module _ (pairs : List Pair) (place : ℕ) (inside : place < length pairs) (taken : Pair) where
-  pub heads_from-taken : heads_from 0 (take (place + 1) (slice_set pairs place taken))
-      ≡ heads_from 0 (take place pairs) ++ (taken.key, first_head place) ∷ []
-  heads_from-taken =
-      ap (heads_from 0) (take_more_set pairs place taken inside)
-      ∙ heads_from-pushed 0 (take place pairs) taken
-      ∙ ap (λ n. heads_from 0 (take place pairs) ++ (taken.key, first_head n) ∷ [])
+  pub places_from-taken : places_from 0 (take (place + 1) (slice_set pairs place taken))
+      ≡ places_from 0 (take place pairs) ++ (taken.key, place) ∷ []
+  places_from-taken =
+      ap (places_from 0) (take_more_set pairs place taken inside)
+      ∙ places_from-pushed 0 (take place pairs) taken
+      ∙ ap (λ n. places_from 0 (take place pairs) ++ (taken.key, n) ∷ [])
       (omega (arith, length-take-le place pairs (omega (arith, inside))))
 
   -- it was the first of the pairs that were left
@@ -71,36 +128,35 @@ module _ (pairs : List Pair) (place : ℕ) (inside : place < length pairs) (take
       (sym (drop-set-lt (place + 1) pairs place taken (omega arith)))
 
 -- chains that stay one by one stay all
-module _ (slots slots' : Slots) (nodes nodes' : ℕ)
-    (stay : (head : Head) → IsSoundHead slots nodes 1 head → IsSoundHead slots' nodes' 1 head ×
-    (chain_of slots' head ≡ chain_of slots head)) where
-  chains_of-stay : (heads : List (List ℕ × Head)) → AreSoundHeads slots nodes heads → chains_of slots' heads ≡ chains_of slots heads
+module _ (slots slots' : Slots)
+    (stay : (place : ℕ) → IsAlone slots place → IsAlone slots' place × (chain_of slots' place ≡ chain_of slots place)) where
+  chains_of-stay : (places : Places) → AreAlone slots places → chains_of slots' places ≡ chains_of slots places
   chains_of-stay [] sound = refl
   chains_of-stay (e ∷ es) sound = λ i.
-      (e.0, (stay e.1 (All-head (λ (e : List ℕ × Head). IsSoundHead slots nodes 1 e.1) e es sound)).1 i)
-      ∷ chains_of-stay es (All-tail (λ (e : List ℕ × Head). IsSoundHead slots nodes 1 e.1) e es sound) i
+      (e.0, (stay e.1 (All-head (λ (e : List ℕ × ℕ). IsAlone slots e.1) e es sound)).1 i)
+      ∷ chains_of-stay es (All-tail (λ (e : List ℕ × ℕ). IsAlone slots e.1) e es sound) i
 
-  AreSoundHeads-stay : (heads : List (List ℕ × Head)) → AreSoundHeads slots nodes heads → AreSoundHeads slots' nodes' heads
-  AreSoundHeads-stay heads sound =
-      All-weaker (λ (e : List ℕ × Head). IsSoundHead slots nodes 1 e.1) (λ (e : List ℕ × Head). IsSoundHead slots' nodes' 1 e.1)
-      (λ e one. (stay e.1 one).0) heads sound
+  AreAlone-stay : (places : Places) → AreAlone slots places → AreAlone slots' places
+  AreAlone-stay places sound =
+      All-weaker (λ (e : List ℕ × ℕ). IsAlone slots e.1) (λ (e : List ℕ × ℕ). IsAlone slots' e.1)
+      (λ e one. (stay e.1 one).0) places sound
 
-  -- one more head comes
-  module _ (heads : List (List ℕ × Head)) (sound : AreSoundHeads slots nodes heads) (key value : List ℕ) (head : Head) where
-    pub chains_of-pushed : (left more all : List (List ℕ × List ℕ)) → left ≡ (key, value) ∷ more → chain_of slots' head ≡ first_chain value
-        → chains_of slots heads ++ first_chains left ≡ first_chains all → chains_of slots' (heads ++ (key, head) ∷ []) ++ first_chains more
+  -- one more place comes
+  module _ (places : Places) (sound : AreAlone slots places) (key value : List ℕ) (place : ℕ) where
+    pub chains_of-pushed : (left more all : List (List ℕ × List ℕ)) → left ≡ (key, value) ∷ more → chain_of slots' place ≡ first_chain value
+        → chains_of slots places ++ first_chains left ≡ first_chains all → chains_of slots' (places ++ (key, place) ∷ []) ++ first_chains more
         ≡ first_chains all
     chains_of-pushed left more all step chain so_far =
-        ap (λ chains. chains ++ first_chains more) (map-append _ heads ((key, head) ∷ []))
-        ∙ append_assoc (chains_of slots' heads) ((key, chain_of slots' head) ∷ []) (first_chains more)
-        ∙ (λ i. chains_of-stay heads sound i ++ (key, chain i) ∷ first_chains more)
-        ∙ ap (λ pairs. chains_of slots heads ++ first_chains pairs) (sym step)
+        ap (λ chains. chains ++ first_chains more) (map-append _ places ((key, place) ∷ []))
+        ∙ append_assoc (chains_of slots' places) ((key, chain_of slots' place) ∷ []) (first_chains more)
+        ∙ (λ i. chains_of-stay places sound i ++ (key, chain i) ∷ first_chains more)
+        ∙ ap (λ pairs. chains_of slots places ++ first_chains pairs) (sym step)
         ∙ so_far
 
-    pub AreSoundHeads-pushed : IsSoundHead slots' nodes' 1 head → AreSoundHeads slots' nodes' (heads ++ (key, head) ∷ [])
-    AreSoundHeads-pushed one =
-        All-append (λ (e : List ℕ × Head). IsSoundHead slots' nodes' 1 e.1) heads ((key, head) ∷ []) (AreSoundHeads-stay heads sound)
-        (All-cons (λ (e : List ℕ × Head). IsSoundHead slots' nodes' 1 e.1) (key, head) [] one (All-nil _))
+    pub AreAlone-pushed : IsAlone slots' place → AreAlone slots' (places ++ (key, place) ∷ [])
+    AreAlone-pushed one =
+        All-append (λ (e : List ℕ × ℕ). IsAlone slots' e.1) places ((key, place) ∷ []) (AreAlone-stay places sound)
+        (All-cons (λ (e : List ℕ × ℕ). IsAlone slots' e.1) (key, place) [] one (All-nil _))
 
 module _ {X Y : Type 0} (g : X → Y) (q : List ℕ) where
   -- what a list gives a key, with each value mapped
@@ -132,25 +188,40 @@ unfolding holding
 holding-first None = refl
 holding-first (Some value) = refl
 
--- a tree that was collected of the heads of these pairs
-module _ (slots : Slots) (pairs : List (List ℕ × List ℕ)) (heads : List (List ℕ × Head)) (tree : BTreeMap (List ℕ) Head)
-    (made : IsFromIterResult key_cmp heads tree) (chains : chains_of slots heads ≡ first_chains pairs) where
-  pub Sound-loaded : (nodes : ℕ) → AreSoundHeads slots nodes heads → Sound slots nodes 1 tree.entries
-  Sound-loaded nodes sound = record {
+-- a tree that was collected of the places of pairs: no two keys have the same place
+module _ (left : List Pair) (tree : BTreeMap (List ℕ) ℕ) (made : IsFromIterResult key_cmp (places_from 0 left) tree) where
+  key_at-collected : (key : List ℕ) → IfSome (place_of tree.entries key) (λ place. key_at left place ≡ key)
+  key_at-collected key =
+      let Is : ℕ → Type 0 = λ place. key_at left place ≡ key in
+      subst (λ o. IfSome o Is) (sym (made.0 key))
+      (IfSome-update_all (eq_by_cmp key_cmp) Is key (λ _. None) (places_from 0 left) tt
+      (All-weaker (λ e. (0 ≤ e.1) × (key_at left (e.1 - 0) ≡ e.0)) (λ e. eq_by_cmp key_cmp e.0 key ≡ true → Is e.1)
+      (λ e stands same.
+      let whole : e.1 ≡ e.1 - 0 = omega arith in
+      ap (key_at left) whole ∙ stands.1 ∙ tells_apart exact_bytes e.0 key same) (places_from 0 left) (key_at-places_from 0 left)))
+
+  pub Sound-loaded : (slots : Slots) (nodes : ℕ) → AreAlone slots (places_from 0 left) → Sound slots nodes 1 tree.entries
+  Sound-loaded slots nodes alone = record {
     rising = made.1;
-    heads_sound =
-        λ key. subst (λ o. IfSome o (IsSoundHead slots nodes 1)) (sym (made.0 key))
-        (IfSome-update_all (eq_by_cmp key_cmp) (IsSoundHead slots nodes 1) key (λ _. None) heads tt
-        (All-weaker (λ (e : List ℕ × Head). IsSoundHead slots nodes 1 e.1)
-        (λ (e : List ℕ × Head). eq_by_cmp key_cmp e.0 key ≡ true → IsSoundHead slots nodes 1 e.1) (λ e one _. one) heads sound));
+    places_sound =
+        λ key. subst (λ o. IfSome o (IsSoundPlace tree.entries slots nodes 1)) (sym (made.0 key))
+        (IfSome-update_all (eq_by_cmp key_cmp) (IsSoundPlace tree.entries slots nodes 1) key (λ _. None) (places_from 0 left) tt
+        (All-weaker (λ e. IsAlone slots e.1) (λ e. eq_by_cmp key_cmp e.0 key ≡ true → IsSoundPlace tree.entries slots nodes 1 e.1)
+        (λ e one _. IsSoundPlace-alone tree.entries slots nodes e.1 one) (places_from 0 left) alone));
+    apart =
+        λ a b place one other. sym (subst (λ o. IfSome o (λ p. key_at left p ≡ a)) one (key_at-collected a))
+        ∙ subst (λ o. IfSome o (λ p. key_at left p ≡ b)) other (key_at-collected b);
   }
 
+-- a tree that was collected of these places, with the chains of these pairs
+module _ (slots : Slots) (pairs : List (List ℕ × List ℕ)) (places : Places) (tree : BTreeMap (List ℕ) ℕ)
+    (made : IsFromIterResult key_cmp places tree) (chains : chains_of slots places ≡ first_chains pairs) where
   -- what the pairs give a key is its chain
   chain_of-loaded : (q : List ℕ)
-      → option_map (chain_of slots) (head_of tree.entries q) ≡ option_map first_chain (update_all (eq_by_cmp key_cmp) (λ _. None) pairs q)
+      → option_map (chain_of slots) (place_of tree.entries q) ≡ option_map first_chain (update_all (eq_by_cmp key_cmp) (λ _. None) pairs q)
   chain_of-loaded q =
       ap (option_map (chain_of slots)) (made.0 q)
-      ∙ update_all-mapped (chain_of slots) q (λ _. None) heads
+      ∙ update_all-mapped (chain_of slots) q (λ _. None) places
       ∙ ap (λ given. update_all (eq_by_cmp key_cmp) (λ _. None) given q) chains
       ∙ sym (update_all-mapped first_chain q (λ _. None) pairs)
 
@@ -159,7 +230,7 @@ module _ (slots : Slots) (pairs : List (List ℕ × List ℕ)) (heads : List (Li
       ≡ option_and_then (holding version) (option_map first_chain (update_all (eq_by_cmp key_cmp) (λ _. None) pairs q))
   get-loaded version q =
       get-database_of slots version tree.entries q made.1
-      ∙ sym (and_then-chain_of slots version (head_of tree.entries q))
+      ∙ sym (and_then-chain_of slots version (place_of tree.entries q))
       ∙ ap (option_and_then (holding version)) (chain_of-loaded q)
 
   -- at version 0 there is nothing

@@ -1,4 +1,4 @@
--- A step of a loop over heads: what is present among those that are left.
+-- A step of a loop over places: what is present among those that are left.
 use Rattle.std.proofs.Common.{◌≡◌, ℕ, Bool, true, false, cond, List, [], ◌∷◌, ◌++◌, Option, Some, None, refl, sym, ap, ◌∙◌}
 use Rattle.std.proofs.lemmas.List.{map-append, append-nil}
 use Rattle.std.proofs.lemmas.List.Elements.{filter_map-append}
@@ -11,39 +11,38 @@ use Rattle.std.specs.FinMap.{entries, get}
 use Rattle.key_bytes.specs.Keys.{key_cmp}
 use Rattle.key_map.specs.Ends.{last}
 use Rattle.key_map.proofs.Spans.{last-append}
-use Rattle.version_store.specs.declared.chains.Head.{Head}
-use Rattle.version_store.specs.Chains.{Slots, chain_of, chains_of, head_of, database_of}
-use Rattle.version_store.specs.Versions.{holding, present}
+use Rattle.version_store.specs.Chains.{Slots, Places, chain_of, chains_of, database_of}
+use Rattle.version_store.specs.Versions.{holding, place_of, present}
 use Rattle.version_store.proofs.Present.{with_present, present-filter, entries-database_at, get-database_at}
 
--- what is present of the keys of these heads
-abbrev pub present_of : ℕ → Slots → List (List ℕ × Head) → List (List ℕ × List ℕ)
-present_of version slots heads = present version (chains_of slots heads)
+-- what is present of the keys of these places
+abbrev pub present_of : ℕ → Slots → Places → List (List ℕ × List ℕ)
+present_of version slots places = present version (chains_of slots places)
 
-module _ (version : ℕ) (slots : Slots) (left more : List (List ℕ × Head)) (key : List ℕ) (head : Head) where
+module _ (version : ℕ) (slots : Slots) (left more : Places) (key : List ℕ) (place : ℕ) where
   -- the first holds something
-  pub present_of-here : (value : List ℕ) → left ≡ (key, head) ∷ more → Some value ≡ holding version (chain_of slots head)
+  pub present_of-here : (value : List ℕ) → left ≡ (key, place) ∷ more → Some value ≡ holding version (chain_of slots place)
       → present_of version slots left ≡ (key, value) ∷ present_of version slots more
   unfolding present
   present_of-here value step here =
       ap (present_of version slots) step ∙ ap (λ o. with_present key o (present_of version slots more)) (sym here)
 
   -- the first holds nothing
-  pub present_of-passed : left ≡ (key, head) ∷ more → None ≡ holding version (chain_of slots head)
+  pub present_of-passed : left ≡ (key, place) ∷ more → None ≡ holding version (chain_of slots place)
       → present_of version slots left ≡ present_of version slots more
   unfolding present
   present_of-passed step gone = ap (present_of version slots) step ∙ ap (λ o. with_present key o (present_of version slots more)) (sym gone)
 
-  present_of-append : left ≡ more ++ (key, head) ∷ []
-      → present_of version slots left ≡ present_of version slots more ++ present_of version slots ((key, head) ∷ [])
+  present_of-append : left ≡ more ++ (key, place) ∷ []
+      → present_of version slots left ≡ present_of version slots more ++ present_of version slots ((key, place) ∷ [])
   unfolding present
   present_of-append step =
       ap (present_of version slots) step
-      ∙ ap (present version) (map-append _ more ((key, head) ∷ []))
-      ∙ filter_map-append _ (chains_of slots more) (chains_of slots ((key, head) ∷ []))
+      ∙ ap (present version) (map-append _ more ((key, place) ∷ []))
+      ∙ filter_map-append _ (chains_of slots more) (chains_of slots ((key, place) ∷ []))
 
   -- the last holds something
-  pub last-present_of : (value : List ℕ) → left ≡ more ++ (key, head) ∷ [] → Some value ≡ holding version (chain_of slots head)
+  pub last-present_of : (value : List ℕ) → left ≡ more ++ (key, place) ∷ [] → Some value ≡ holding version (chain_of slots place)
       → last (present_of version slots left) ≡ Some (key, value)
   unfolding present
   last-present_of value step here =
@@ -51,7 +50,7 @@ module _ (version : ℕ) (slots : Slots) (left more : List (List ℕ × Head)) (
       ∙ last-append (present_of version slots more) (key, value)
 
   -- the last holds nothing
-  pub present_of-passed_last : left ≡ more ++ (key, head) ∷ [] → None ≡ holding version (chain_of slots head)
+  pub present_of-passed_last : left ≡ more ++ (key, place) ∷ [] → None ≡ holding version (chain_of slots place)
       → present_of version slots left ≡ present_of version slots more
   unfolding present
   present_of-passed_last step gone =
@@ -59,40 +58,40 @@ module _ (version : ℕ) (slots : Slots) (left more : List (List ℕ × Head)) (
       ∙ append-nil (present_of version slots more)
 
 module _ (slots : Slots) where
-  keys_of-chains_of : (heads : List (List ℕ × Head)) → keys_of (chains_of slots heads) ≡ keys_of heads
+  keys_of-chains_of : (places : Places) → keys_of (chains_of slots places) ≡ keys_of places
   keys_of-chains_of [] = refl
   keys_of-chains_of (e ∷ es) = ap (λ ks. e.0 ∷ ks) (keys_of-chains_of es)
 
-  rising-chains_of : (heads : List (List ℕ × Head)) → IsStrictlySortedBy key_cmp (keys_of heads)
-      → IsStrictlySortedBy key_cmp (keys_of (chains_of slots heads))
-  rising-chains_of heads rising = rw keys_of-chains_of rising
+  rising-chains_of : (places : Places) → IsStrictlySortedBy key_cmp (keys_of places)
+      → IsStrictlySortedBy key_cmp (keys_of (chains_of slots places))
+  rising-chains_of places rising = rw keys_of-chains_of rising
 
   -- the entries of the database
-  pub entries-database_of : (version : ℕ) (heads : List (List ℕ × Head)) → IsStrictlySortedBy key_cmp (keys_of heads)
-      → entries (database_of version slots heads) ≡ present_of version slots heads
-  entries-database_of version heads rising = entries-database_at version (chains_of slots heads) (rising-chains_of heads rising)
+  pub entries-database_of : (version : ℕ) (places : Places) → IsStrictlySortedBy key_cmp (keys_of places)
+      → entries (database_of version slots places) ≡ present_of version slots places
+  entries-database_of version places rising = entries-database_at version (chains_of slots places) (rising-chains_of places rising)
 
-  pub and_then-chain_of : (version : ℕ) (o : Option Head)
+  pub and_then-chain_of : (version : ℕ) (o : Option ℕ)
       → option_and_then (holding version) (option_map (chain_of slots) o)
-      ≡ option_and_then (λ head. holding version (chain_of slots head)) o
+      ≡ option_and_then (λ place. holding version (chain_of slots place)) o
   and_then-chain_of version None = refl
-  and_then-chain_of version (Some head) = refl
+  and_then-chain_of version (Some place) = refl
 
   -- what the database has at a key
-  pub get-database_of : (version : ℕ) (heads : List (List ℕ × Head)) (key : List ℕ) → IsStrictlySortedBy key_cmp (keys_of heads)
-      → get (database_of version slots heads) key ≡ option_and_then (λ head. holding version (chain_of slots head)) (head_of heads key)
-  get-database_of version heads key rising =
-      get-database_at version (chains_of slots heads) key (rising-chains_of heads rising)
-      ∙ ap (option_and_then (holding version)) (lookup-map_values (chain_of slots) _ heads)
-      ∙ and_then-chain_of version (head_of heads key)
+  pub get-database_of : (version : ℕ) (places : Places) (key : List ℕ) → IsStrictlySortedBy key_cmp (keys_of places)
+      → get (database_of version slots places) key ≡ option_and_then (λ place. holding version (chain_of slots place)) (place_of places key)
+  get-database_of version places key rising =
+      get-database_at version (chains_of slots places) key (rising-chains_of places rising)
+      ∙ ap (option_and_then (holding version)) (lookup-map_values (chain_of slots) _ places)
+      ∙ and_then-chain_of version (place_of places key)
 
   -- a test of the keys may come first
-  pub filter-present_of : (version : ℕ) (p : List ℕ → Bool) (heads : List (List ℕ × Head))
-      → filter (λ e. p e.0) (present_of version slots heads) ≡ present_of version slots (filter (λ e. p e.0) heads)
-  filter-present_of version p heads = present-filter version p (chains_of slots heads) ∙ ap (present version) (filter-chains_of heads)
+  pub filter-present_of : (version : ℕ) (p : List ℕ → Bool) (places : Places)
+      → filter (λ e. p e.0) (present_of version slots places) ≡ present_of version slots (filter (λ e. p e.0) places)
+  filter-present_of version p places = present-filter version p (chains_of slots places) ∙ ap (present version) (filter-chains_of places)
     where
-      filter-chains_of : (heads : List (List ℕ × Head))
-          → filter (λ e. p e.0) (chains_of slots heads) ≡ chains_of slots (filter (λ e. p e.0) heads)
+      filter-chains_of : (places : Places)
+          → filter (λ e. p e.0) (chains_of slots places) ≡ chains_of slots (filter (λ e. p e.0) places)
       filter-chains_of [] = refl
       filter-chains_of (e ∷ es) =
           elim (p e.0)

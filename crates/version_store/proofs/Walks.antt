@@ -1,7 +1,7 @@
--- One step of the walk along a chain: what is left of it holds what its first node or the rest holds.
+-- The walk along a chain: what is left of it holds what its first node or the rest holds.
 use Rattle.std.proofs.Common.{◌≡◌, ℕ, zero, suc, ◌-◌, ◌<◌, ◌≤◌, Some, None, cond, slice_index_or, nat_lt, refl, sym, ap, ◌∙◌, arith, lt-ltb, le-ltb}
 use Rattle.version_store.specs.declared.chains.Node.{Node}
-use Rattle.version_store.specs.Chains.{Slots, before_older, spelled}
+use Rattle.version_store.specs.Chains.{Slots, before_older, chain_from, chain_of, spelled}
 use Rattle.version_store.specs.Versions.{holding}
 
 -- no node is left
@@ -44,3 +44,25 @@ pub holding-spelled_here : (version left : ℕ) (slots : Slots) (place : ℕ) (n
 holding-spelled_here version left slots place node some is here =
     holding-spelled_node version left slots place node some is
     ∙ ap (λ b. cond b (holding version (spelled (left - 1) slots node.older)) node.value) (le-ltb version node.version here)
+
+-- no node is at the place of the chain
+pub holding-chain_of_none : (version : ℕ) (slots : Slots) (place : ℕ) → None ≡ slice_index_or slots place None
+    → holding version (chain_of slots place) ≡ None
+unfolding holding
+holding-chain_of_none version slots place none = ap (λ o. holding version (chain_from slots o)) (sym none)
+
+-- the newest node holds it
+pub holding-chain_of_newest : (version : ℕ) (slots : Slots) (place : ℕ) (node : Node) → Some node ≡ slice_index_or slots place None
+    → node.version ≤ version → holding version (chain_of slots place) ≡ node.value
+unfolding holding
+holding-chain_of_newest version slots place node is here =
+    ap (λ o. holding version (chain_from slots o)) (sym is)
+    ∙ ap (λ b. cond b (holding version (spelled node.left slots node.older)) node.value) (le-ltb version node.version here)
+
+-- the newest node is too new
+pub holding-chain_of_behind : (version : ℕ) (slots : Slots) (place : ℕ) (node : Node) → Some node ≡ slice_index_or slots place None
+    → version < node.version → holding version (chain_of slots place) ≡ holding version (spelled node.left slots node.older)
+unfolding holding
+holding-chain_of_behind version slots place node is newer =
+    ap (λ o. holding version (chain_from slots o)) (sym is)
+    ∙ ap (λ b. cond b (holding version (spelled node.left slots node.older)) node.value) (lt-ltb version node.version newer)

@@ -1,9 +1,9 @@
 -- What a load makes of pairs: each value is the whole chain of its key.
-use Rattle.std.specs.Prelude.{ℕ, ◌+◌, List, [], ◌∷◌, Some, map}
+use Rattle.std.specs.Prelude.{◌≡◌, ℕ, ◌+◌, List, [], ◌∷◌, None, Some, slice_index_or, map}
 use Rattle.std.specs.List.{All}
+use Rattle.std.specs.Option.{IsSomeAnd}
 use Rattle.key_bytes.specs.declared.pairs.Pair.{Pair}
-use Rattle.version_store.specs.declared.chains.Head.{Head}
-use Rattle.version_store.specs.Chains.{Slots, IsSoundHead}
+use Rattle.version_store.specs.Chains.{Slots, Places}
 use Rattle.version_store.specs.Versions.{Chain}
 
 -- the chain of a key that was given one value, at version 1
@@ -14,15 +14,15 @@ first_chain value = (1, Some value) ∷ []
 abbrev pub first_chains : List (List ℕ × List ℕ) → List (List ℕ × Chain)
 first_chains pairs = map (λ pair. (pair.0, first_chain pair.1)) pairs
 
--- each head is sound in a store of version 1 with so many nodes
-abbrev pub AreSoundHeads : Slots → ℕ → List (List ℕ × Head) → Type 0
-AreSoundHeads slots nodes heads = All (λ e. IsSoundHead slots nodes 1 e.1) heads
+-- a node of version 1 is there, and none is behind it
+abbrev pub IsAlone : Slots → ℕ → Type 0
+IsAlone slots place = IsSomeAnd (slice_index_or slots place None) (λ node. (node.version ≡ 1) × (node.left ≡ 0))
 
--- the head of a value that was loaded, by the place of its node
-abbrev pub first_head : ℕ → Head
-first_head place = record { newest = place; len = 1 }
+-- a node of version 1 is at each place, and none is behind it
+abbrev pub AreAlone : Slots → Places → Type 0
+AreAlone slots places = All (λ e. IsAlone slots e.1) places
 
--- each key with its head, where the first one's node is at a place, and the others follow
-abbrev pub heads_from : ℕ → List Pair → List (List ℕ × Head)
-heads_from place [] = []
-heads_from place (pair ∷ pairs) = (pair.key, first_head place) ∷ heads_from (place + 1) pairs
+-- each key with its place, where the first one's is given, and the others follow
+abbrev pub places_from : ℕ → List Pair → Places
+places_from place [] = []
+places_from place (pair ∷ pairs) = (pair.key, place) ∷ places_from (place + 1) pairs

@@ -1,8 +1,8 @@
 -- What contracts see of a store: the database at each version.
-use Rattle.std.specs.Prelude.{◌≡◌, ℕ, ◌<◌, ◌≤◌, List, [], ◌∷◌, length, Option, None, IsSome, if◌then◌else◌, nat_lt}
+use Rattle.std.specs.Prelude.{◌≡◌, ℕ, ◌<◌, ◌≤◌, List, [], ◌∷◌, length, Option, Some, None, if◌then◌else◌, nat_lt}
 use Rattle.std.specs.BTreeMap.{is_at}
 use Rattle.std.specs.FinMap as finite
-use Rattle.std.specs.List.{All, filter_map}
+use Rattle.std.specs.List.{AllZip, filter_map}
 use Rattle.std.specs.Map.{lookup}
 use Rattle.std.specs.Option.{option_map}
 use Rattle.key_bytes.specs.Keys.{key_cmp}
@@ -14,12 +14,14 @@ use Rattle.version_store.specs.declared.fault.VersionFault.TheVariants.{TooOld, 
 abbrev pub Chain : Type 0
 Chain = List (ℕ × Option (List ℕ))
 
--- The last version, the chain of each key in the order of the keys, and how many changes there is room for.
--- Contracts cite the words below, and no field.
+-- The last version, the chain of each key in the order of the keys, how many changes there is room for, the place of each
+-- key, and the places that were reserved. Contracts cite the words below, and no field.
 pub record Versions : Type 0 where
   pub last : ℕ
   pub chains : List (List ℕ × Chain)
   pub room : ℕ
+  pub places : List (List ℕ × ℕ)
+  pub reserved : List ℕ
 
 -- what a chain holds at a version: what was given last up to this version
 unfoldable pub holding : ℕ → Chain → Option (List ℕ)
@@ -46,13 +48,18 @@ last_of versions = versions.last
 unfoldable pub oldest_of : Versions → ℕ
 oldest_of versions = 0
 
--- the key of a change has a chain, which may be empty
-abbrev pub HasKey : List (List ℕ × Chain) → List ℕ → Type 0
-HasKey chains key = IsSome (lookup (is_at (key_cmp key)) chains)
+-- the place of a key, if it has one
+abbrev pub place_of : List (List ℕ × ℕ) → List ℕ → Option ℕ
+place_of places key = lookup (is_at (key_cmp key)) places
 
--- these changes can be installed without memory: there is room for each, and each key has its chain
+-- these are the places of the changes' keys, in their order
+abbrev pub ArePlacesOf : List (List ℕ × ℕ) → List (List ℕ × Option (List ℕ)) → List ℕ → Type 0
+ArePlacesOf places changes reserved = AllZip (λ change place. place_of places change.0 ≡ Some place) changes reserved
+
+-- these changes can be installed without memory and with no search: there is room for each, and what was reserved are the
+-- places of their keys
 unfoldable pub IsReadyFor : Versions → List (List ℕ × Option (List ℕ)) → Type 0
-IsReadyFor versions changes = (length changes ≤ versions.room) × All (λ change. HasKey versions.chains change.0) changes
+IsReadyFor versions changes = (length changes ≤ versions.room) × ArePlacesOf versions.places changes versions.reserved
 
 -- why a version can't be read: the fault says which version can
 abbrev pub IsFaultAt : Versions → ℕ → VersionFault → Type 0

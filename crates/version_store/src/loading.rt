@@ -1,6 +1,6 @@
 //! Loading pairs as the first version.
 
-ghost use Rattle.std.specs.Prelude.{◌≡◌, ◌+◌, ◌^◌, ◌<◌, [], length, IfOk, OnOk};
+ghost use Rattle.std.specs.Prelude.{◌≡◌, ℕ, ◌+◌, ◌^◌, ◌<◌, [], length, IfOk, OnOk};
 ghost use Rattle.std.specs.BTreeMap.{IsFromIterResult};
 ghost use Rattle.std.specs.FinMap as finite;
 ghost use Rattle.std.specs.Iterator.{YieldsFirst, item_count};
@@ -9,11 +9,10 @@ ghost use Rattle.key_bytes.specs.Keys.{key_cmp};
 ghost use Rattle.database_rules.specs.Databases.{do_all};
 ghost use Rattle.database_rules.specs.Histories.{loaded};
 ghost use Rattle.slab.specs.Slab.{slab_len};
-ghost use Rattle.version_store.specs.declared.chains.Head.{Head};
-ghost use Rattle.version_store.specs.Chains.{chain_of, chains_of, database_of, IsSoundHead, Sound};
-ghost use Rattle.version_store.specs.Loading.{first_chain, first_chains, first_head, heads_from, AreSoundHeads};
+ghost use Rattle.version_store.specs.Chains.{chain_of, chains_of, database_of, Sound};
+ghost use Rattle.version_store.specs.Loading.{first_chain, first_chains, places_from, AreAlone, IsAlone};
 
-use crate::chains::{Head, MOST_NODES, Node};
+use crate::chains::{MOST_NODES, Node};
 use key_bytes::{Bytes, Pair, Pairs};
 use slab::Slab;
 use std::alloc::{AllocError, Global};
@@ -22,13 +21,13 @@ use std::marker::Model;
 use std::mem;
 use std::vec::IntoIter;
 
-// The head of each key: of two values of one key the later is its chain. The values move first, and then the keys, so
+// The place of each key: of two values of one key the later is its chain. The values move first, and then the keys, so
 // that no list stands between the pairs and the tree but the one that the tree is made of.
-pub(crate) fn load_heads(
+pub(crate) fn load_places(
     alloc: Global,
     nodes: &mut Slab<Node>,
     pairs: Pairs,
-) -> Result<BTreeMap<Bytes, Head>, AllocError>
+) -> Result<BTreeMap<Bytes, u32>, AllocError>
     ensures sound { IfOk result (λ tree. Sound nodes.new.slots (slab_len nodes.new) 1 tree.entries) }
     ensures empty { IfOk result (λ tree. database_of 0 nodes.new.slots tree.entries ≡ finite.empty) }
     ensures first { IfOk result (λ tree. database_of 1 nodes.new.slots tree.entries
@@ -45,8 +44,8 @@ pub(crate) fn load_heads(
 // Moves each value into the nodes, as a chain of its own: that of the pair at a place goes to the same place.
 fn place_all(alloc: Global, nodes: &mut Slab<Node>, pairs: &mut [Pair]) -> Result<(), AllocError>
     ensures len { length pairs.new ≡ length pairs.old }
-    ensures chains { OnOk result (chains_of nodes.new.slots (heads_from 0 pairs.new) ≡ first_chains (entries_of pairs.old)) }
-    ensures sound { OnOk result (AreSoundHeads nodes.new.slots (slab_len nodes.new) (heads_from 0 pairs.new)) }
+    ensures chains { OnOk result (chains_of nodes.new.slots (places_from 0 pairs.new) ≡ first_chains (entries_of pairs.old)) }
+    ensures alone { OnOk result (AreAlone nodes.new.slots (places_from 0 pairs.new)) }
 {
     for place in 0..pairs.len() {
         let value = take_value(alloc, &mut pairs[place]);
@@ -66,16 +65,17 @@ fn take_value(alloc: Global, pair: &mut Pair) -> Bytes
 // Puts a value into the nodes at this place, as a chain of its own. A place that isn't the next one is refused like want
 // of memory.
 fn place_at(nodes: &mut Slab<Node>, place: usize, value: Bytes) -> Result<(), AllocError>
-    ensures chain { OnOk result (chain_of nodes.new.slots (first_head place) ≡ first_chain value) }
-    ensures sound { OnOk result (IsSoundHead nodes.new.slots (slab_len nodes.new) 1 (first_head place)) }
-    ensures others { OnOk result ((head : Head) → IsSoundHead nodes.old.slots (slab_len nodes.old) 1 head
-        → IsSoundHead nodes.new.slots (slab_len nodes.new) 1 head
-        × (chain_of nodes.new.slots head ≡ chain_of nodes.old.slots head)) }
+    ensures chain { OnOk result (chain_of nodes.new.slots place ≡ first_chain value) }
+    ensures alone { OnOk result (IsAlone nodes.new.slots place) }
+    ensures others { OnOk result ((other : ℕ) → IsAlone nodes.old.slots other
+        → IsAlone nodes.new.slots other
+        × (chain_of nodes.new.slots other ≡ chain_of nodes.old.slots other)) }
 {
     let newest = nodes.insert(Node {
         version: 1,
         value: Some(value),
         older: 0,
+        left: 0,
     })?;
     if newest != place {
         return Err(AllocError);
@@ -83,51 +83,50 @@ fn place_at(nodes: &mut Slab<Node>, place: usize, value: Bytes) -> Result<(), Al
     Ok(())
 }
 
-// The last head of each key, where the value of the pair at a place is at the same place of the nodes.
-fn sorted(alloc: Global, pairs: Vec<Pair>) -> Result<BTreeMap<Bytes, Head>, AllocError>
+// The last place of each key, where the value of the pair at a place is at the same place of the nodes.
+fn sorted(alloc: Global, pairs: Vec<Pair>) -> Result<BTreeMap<Bytes, u32>, AllocError>
     requires { length pairs.items < 2 ^ 32 }
-    ensures { IfOk result (IsFromIterResult key_cmp (heads_from 0 pairs.items)) }
+    ensures { IfOk result (IsFromIterResult key_cmp (places_from 0 pairs.items)) }
 {
-    let heads = Heads {
+    let places = Places {
         left: pairs.into_iter(),
         place: 0,
     };
-    heads.collect(alloc)
+    places.collect(alloc)
 }
 
-// The keys of pairs with their heads, where the first one's value is at a place, and the others follow.
+// The keys of pairs with the places of their values, where the first one's is given, and the others follow.
 #[derive(Drop)]
-struct Heads {
+struct Places {
     left: IntoIter<Pair>,
     place: u32,
 }
 
-impl Model for Heads {
+impl Model for Places {
     ghost use Rattle.std.specs.Prelude.{◌≡◌, ℕ, ◌+◌, ◌^◌, ◌<◌, List, length};
     ghost use Rattle.std.specs.Vec.Iter.{into_iter_items, into_iter_len};
-    ghost use Rattle.version_store.specs.declared.chains.Head.{Head};
-    ghost use Rattle.version_store.specs.Loading.{heads_from};
+    ghost use Rattle.version_store.specs.Loading.{places_from};
 
-    ghost Value = { List (List ℕ × Head) };
+    ghost Value = { List (List ℕ × ℕ) };
 
-    ghost view = { λ heads. heads_from heads.place (into_iter_items heads.left) };
+    ghost view = { λ places. places_from places.place (into_iter_items places.left) };
 
-    ghost invariant = { λ heads. (into_iter_len heads.left ≡ length (into_iter_items heads.left))
-        × (heads.place + into_iter_len heads.left < 2 ^ 32) };
+    ghost invariant = { λ places. (into_iter_len places.left ≡ length (into_iter_items places.left))
+        × (places.place + into_iter_len places.left < 2 ^ 32) };
 }
 
-impl Iterator for Heads {
-    type Item = (Bytes, Head);
+impl Iterator for Places {
+    type Item = (Bytes, u32);
 
     ghost next_gives = { YieldsFirst (λ rest. rest) };
 
     ghost remaining = { item_count (λ rest. rest) };
 
-    fn next(&mut self) -> Option<(Bytes, Head)> {
+    fn next(&mut self) -> Option<(Bytes, u32)> {
         let pair = self.left.next()?;
-        let newest = self.place;
+        let place = self.place;
         self.place += 1;
-        Some((pair.key, Head { newest, len: 1 }))
+        Some((pair.key, place))
     }
 
     fn size_hint(&self) -> (usize, Option<usize>) {

@@ -6,7 +6,7 @@ ghost use Rattle.std.specs.Map.Iter.{TakesFirst, deref_pair};
 ghost use Rattle.version_store.specs.Chains.{chains_of};
 ghost use Rattle.version_store.specs.Versions.{present};
 
-use crate::chains::{Head, Node, value_at};
+use crate::chains::{Node, value_at};
 use key_bytes::{Bytes, Key, Pair, Pairs};
 use slab::Slab;
 use std::alloc::{AllocError, Global};
@@ -19,7 +19,7 @@ use std::marker::Model;
 #[derive(Drop)]
 pub struct PairsLeft<'a> {
     nodes: &'a Slab<Node>,
-    span: Range<'a, Bytes, Head>,
+    span: Range<'a, Bytes, u32>,
     version: u64,
 }
 
@@ -37,7 +37,7 @@ impl<'a> PairsLeft<'a> {
     // The pairs that the keys of a span make at a version.
     pub(crate) fn new(
         nodes: &'a Slab<Node>,
-        span: Range<'a, Bytes, Head>,
+        span: Range<'a, Bytes, u32>,
         version: u64,
     ) -> PairsLeft<'a>
         ensures { result ≡ present version (chains_of nodes.now.slots span.entry) }
@@ -59,8 +59,8 @@ impl<'a> Iterator for PairsLeft<'a> {
 
     /// The first pair that is left, which it takes. It takes no memory.
     fn next(&mut self) -> Option<(&'a Key, &'a Bytes)> {
-        while let Some((key, head)) = self.span.next() {
-            if let Some(value) = value_at(self.nodes, *head, self.version) {
+        while let Some((key, place)) = self.span.next() {
+            if let Some(value) = value_at(self.nodes, *place, self.version) {
                 return Some((key, value));
             }
         }

@@ -12,10 +12,10 @@ ghost use Rattle.database_rules.specs.Histories.{loaded};
 ghost use Rattle.version_store.specs.Versions.{at, last_of, oldest_of, IsReadable, IsFaultAt, IsReadyFor};
 ghost use Rattle.version_store.specs.Changed.{changed};
 
-use crate::chains::{Head, Node, add_keys, add_room, last_present, put_changes, value_at};
+use crate::chains::{Node, add_keys, add_room, last_present, put_changes, value_at};
 use crate::changes::Changes;
 use crate::fault::VersionFault;
-use crate::loading::load_heads;
+use crate::loading::load_places;
 use crate::pairs_left::{PairsLeft, copied};
 use key_bytes::{Bytes, Key, Pairs};
 use slab::Slab;
@@ -27,9 +27,12 @@ use std::marker::Model;
 #[derive(Drop)]
 pub struct Store {
     alloc: Global,
-    tree: BTreeMap<Bytes, Head>,
+    // The place of each key's newest node, which stays.
+    tree: BTreeMap<Bytes, u32>,
     nodes: Slab<Node>,
     last: u64,
+    // The places of the keys of the changes that were reserved last, in their order.
+    reserved: Vec<u32>,
 }
 
 impl Model for Store {
@@ -43,6 +46,8 @@ impl Model for Store {
       last = store.last;
       chains = chains_of store.nodes.slots store.tree.entries;
       room = room_of store.nodes;
+      places = store.tree.entries;
+      reserved = store.reserved.items;
     } };
 
     ghost invariant = { λ store. Sound store.nodes.slots (slab_len store.nodes) store.last store.tree.entries };
@@ -61,6 +66,7 @@ impl Store {
             tree: BTreeMap::new(alloc),
             nodes: Slab::new(alloc),
             last: 0,
+            reserved: Vec::new(alloc),
         }
     }
 
@@ -78,12 +84,13 @@ impl Store {
         // gives memory for a page of it when the page is first written.
         let room = pairs.len().saturating_add(pairs.len() / 2);
         let mut nodes = Slab::with_capacity(alloc, room)?;
-        let tree = load_heads(alloc, &mut nodes, pairs)?;
+        let tree = load_places(alloc, &mut nodes, pairs)?;
         Ok(Store {
             alloc,
             tree,
             nodes,
             last: 1,
+            reserved: Vec::new(alloc),
         })
     }
 
@@ -126,10 +133,10 @@ impl Store {
         ensures err { IfErr result (IsFaultAt self.now version) }
     {
         self.check(version)?;
-        let Some(head) = self.tree.get(key) else {
+        let Some(place) = self.tree.get(key) else {
             return Ok(None);
         };
-        match value_at(&self.nodes, *head, version) {
+        match value_at(&self.nodes, *place, version) {
             Some(value) => Ok(Some(value.as_slice())),
             None => Ok(None),
         }
@@ -190,20 +197,30 @@ impl Store {
         Ok(last_present(&self.nodes, self.tree.range(..key), version))
     }
 
-    /// Takes the memory that installing these changes needs. Reads are as before, also after a refusal. More nodes than
-    /// 32 bits count are refused like want of memory.
+    /// Takes the memory that installing these changes needs, and searches for each key, so that installing doesn't. Reads
+    /// are as before, also after a refusal. More nodes than 32 bits count are refused like want of memory.
     pub fn reserve(&mut self, changes: &Changes) -> Result<(), AllocError>
         ensures last { last_of self.new ≡ last_of self.old }
         ensures oldest { oldest_of self.new ≡ oldest_of self.old }
         ensures reads { (version : ℕ) → at self.new version ≡ at self.old version }
         ensures ready { OnOk result (IsReadyFor self.new changes.now) }
     {
+        self.reserved.clear();
+        // For the keys that are new.
         add_room(&mut self.nodes, changes.len())?;
-        add_keys(&mut self.tree, changes.as_slice())
+        add_keys(
+            &mut self.tree,
+            &mut self.nodes,
+            self.last,
+            changes.as_slice(),
+            &mut self.reserved,
+        )?;
+        // For what is installed.
+        add_room(&mut self.nodes, changes.len())
     }
 
     /// Adds one version: the database before, after these changes. They were reserved, and nothing was installed since.
-    /// It takes no memory.
+    /// It takes no memory, and no search.
     pub fn install(&mut self, changes: Changes)
         requires ready { IsReadyFor self.old changes }
         requires next { last_of self.old + 1 < 2 ^ 64 }
@@ -215,7 +232,13 @@ impl Store {
             ≡ changed changes (at self.old (last_of self.old)) }
     {
         let version = self.last + 1;
-        put_changes(&mut self.tree, &mut self.nodes, version, changes.into_vec());
+        put_changes(
+            &self.tree,
+            &mut self.nodes,
+            version,
+            self.reserved.as_slice(),
+            changes.into_vec(),
+        );
         self.last = version;
     }
 

@@ -1,18 +1,21 @@
-use Rattle.std.proofs.Common.{IsSome, subst, rules}
-use Rattle.std.proofs.lemmas.List.Elements.{All-more, All-weaker}
+use Rattle.std.proofs.Common.{◌≡◌, ◌+◌, ◌-◌, ◌<◌, length, take, Some, subst, sym, ◌∙◌, rules, arith}
 use Rattle.version_store.specs.declared.changes.Change.{Change}
-use Rattle.version_store.specs.Chains.{head_of}
-use Rattle.version_store.proofs.Adds.{AddsKeys-trans, IsSome-added}
+use Rattle.version_store.specs.Changed.{changes_of}
+use Rattle.version_store.specs.Versions.{place_of, ArePlacesOf}
+use Rattle.version_store.proofs.Noted.{ArePlacesOf-kept, ArePlacesOf-more}
 use Rattle.version_store.proofs.chains.add_keys.Goals as goal
 
 pub loop-change-preserved : goal.loop-change-preserved
 loop-change-preserved c =
     let before = c.loop-change.tree.entries in let now = c.add_key.new.tree.entries in
-    let adds = c.in_ok-add_key.ensures.adds in (
-      c.in_ok-add_key.ensures.rising,
-      AddsKeys-trans c.args.tree.now.entries before c.loop-change.invariant.1 now adds,
-      All-more (λ change. IsSome (head_of now change.key)) c.args.changes.now c.loop-change.change-index c.change-item.result (search rules)
-          (All-weaker (λ change. IsSome (head_of before change.key)) (λ change. IsSome (head_of now change.key))
-          (λ change. IsSome-added before now adds change.key) _ c.loop-change.invariant.2)
-          (subst (λ (change : Change). IsSome (head_of now change.key)) c.change-item.is c.in_ok-add_key.ensures.added),
+    let changes = c.args.changes.now in let i = c.loop-change.change-index in let place = c.in_ok-place.place in
+    let added = c.in_ok-place.ensures {u = tt} in
+    let inside : i < length changes = search rules in (
+      added.sound,
+      omega (arith, inside, added.room (length changes - (i + 1)) (omega (arith, inside, c.loop-change.invariant.1))),
+      λ version. added.reads version ∙ c.loop-change.invariant.2 version,
+      subst (ArePlacesOf now (changes_of (take (i + 1) changes))) (sym (c.in_ok-push.ensures {u = tt}).items)
+          (ArePlacesOf-more now changes i c.change-item.result c.loop-change.places.items place inside
+          (ArePlacesOf-kept before now added.keeps (changes_of (take i changes)) c.loop-change.places.items c.loop-change.invariant.3)
+          (subst (λ (change : Change). place_of now change.key ≡ Some place) c.change-item.is added.place)),
     )

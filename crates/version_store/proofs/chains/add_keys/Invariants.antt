@@ -1,10 +1,14 @@
-use Rattle.std.proofs.Common.{take}
-use Rattle.std.specs.BTreeMap.{IsOrdered}
-use Rattle.key_bytes.specs.Keys.{key_cmp}
-use Rattle.version_store.specs.Chains.{AddsKeys, HaveHeads}
+use Rattle.std.proofs.Common.{◌≡◌, ℕ, ◌+◌, ◌≤◌, length, take}
+use Rattle.slab.specs.Slab.{slab_len}
+use Rattle.version_store.specs.Changed.{changes_of}
+use Rattle.version_store.specs.Chains.{database_of, room_of, Sound}
+use Rattle.version_store.specs.Versions.{ArePlacesOf}
 use Rattle.version_store.proofs.chains.add_keys.Given as goal
 
--- keys were added, and among them those of the changes so far
+-- no database has changed, there is room for the keys that are left, and the places of those so far are noted
 abbrev pub invariant-loop-change : goal.invariant-loop-change
 invariant-loop-change l =
-    IsOrdered key_cmp l.tree × AddsKeys l.fn.tree.entries l.tree.entries × HaveHeads l.tree.entries (take l.change-index l.changes)
+    Sound l.nodes.slots (slab_len l.nodes) l.last l.tree.entries
+    × (length l.changes ≤ l.change-index + room_of l.nodes)
+    × ((version : ℕ) → database_of version l.nodes.slots l.tree.entries ≡ database_of version l.fn.nodes.slots l.fn.tree.entries)
+    × ArePlacesOf l.tree.entries (changes_of (take l.change-index l.changes)) l.places.items

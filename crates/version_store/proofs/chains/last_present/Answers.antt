@@ -7,7 +7,7 @@ use Rattle.version_store.proofs.chains.last_present.Goals as goal
 pub returns-in-Some-value_at : goal.returns-in-Some-value_at
 returns-in-Some-value_at c =
     sym
-    (last-present_of c.args.version c.args.nodes.now.slots _ _ c.in-Some.key.now c.in-Some.head.now c.in-Some-value_at.value.now
+    (last-present_of c.args.version c.args.nodes.now.slots _ _ c.in-Some.key.now c.in-Some.place.now c.in-Some-value_at.value.now
     (c.in-Some.ensures {u = tt}).steps (c.in-Some-value_at.ensures {u = tt}))
     ∙ c.loop-key.invariant
 
@@ -15,7 +15,7 @@ pub loop-key-preserved : goal.loop-key-preserved
 loop-key-preserved c =
     sym
     (ap last
-    (present_of-passed_last c.args.version c.args.nodes.now.slots _ _ c.in-Some.key.now c.in-Some.head.now
+    (present_of-passed_last c.args.version c.args.nodes.now.slots _ _ c.in-Some.key.now c.in-Some.place.now
     (c.in-Some.ensures {u = tt}).steps (c.in_default-value_at.ensures {u = tt})))
     ∙ c.loop-key.invariant
 

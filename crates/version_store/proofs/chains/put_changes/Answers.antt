@@ -1,31 +1,52 @@
-use Rattle.std.proofs.Common.{length, IsSome, sym, ap, ◌∙◌, arith}
-use Rattle.std.proofs.lemmas.List.Elements.{All-head, All-rest, All-same, All-weaker}
+use Rattle.std.proofs.Common.{length, sym, ap, subst, ◌∙◌, arith}
+use Rattle.std.specs.Option.{IfSome}
 use Rattle.std.specs.Vec.Iter.{into_iter_items}
-use Rattle.version_store.specs.declared.changes.Change.{Change}
+use Rattle.slab.specs.Slab.{slab_len}
 use Rattle.version_store.specs.Changed.{changes_of, changed}
-use Rattle.version_store.specs.Chains.{head_of, database_of}
-use Rattle.version_store.proofs.Rooms.{room_of-filled}
+use Rattle.version_store.specs.Chains.{database_of, IsSoundPlace}
+use Rattle.version_store.proofs.Noted.{some-ArePlacesOf, first-ArePlacesOf}
+use Rattle.version_store.proofs.Puts.{Sound-given, database_of-given, database_of-before_given}
+use Rattle.version_store.proofs.Stays.{short-IsSoundPlace}
 use Rattle.version_store.proofs.chains.put_changes.Goals as goal
 
-pub put_change-requires-clause-known : goal.put_change-requires-clause-known
-put_change-requires-clause-known c =
-    let known : Change → Type 0 = λ change. IsSome (head_of c.loop-change.tree.entries change.key) in
-    All-head known c.in-Some.change _ (All-same known _ _ (sym (c.in-Some.ensures {u = tt}).steps.0) c.loop-change.invariant.3)
+pub unwrap-requires : goal.unwrap-requires
+unwrap-requires c =
+    c.split_first.ensures.variant.1
+    (some-ArePlacesOf c.args._tree.now.entries _ _ c.in-Some.change c.loop-change.places.now (c.in-Some.ensures {u = tt}).steps.0
+    c.loop-change.invariant.3)
+
+pub put_at-requires-clause-there : goal.put_at-requires-clause-there
+put_at-requires-clause-there c =
+    let places = c.args._tree.now.entries in let nodes = c.loop-change.nodes in
+    let here =
+    first-ArePlacesOf places _ _ c.in-Some.change c.loop-change.places.now c.split_first.result c.unwrap.result
+    (c.in-Some.ensures {u = tt}).steps.0 c.loop-change.invariant.3 c.split_first.ensures.cases c.unwrap.ensures in
+    short-IsSoundPlace places nodes.slots (slab_len nodes) c.args.version c.unwrap.result.0.now
+    (subst (λ o. IfSome o (IsSoundPlace places nodes.slots (slab_len nodes) c.args.version)) here.0
+    (c.loop-change.invariant.0.places_sound c.in-Some.change.key))
 
 pub loop-change-preserved : goal.loop-change-preserved
 loop-change-preserved c =
+    let places = c.args._tree.now.entries in let nodes = c.loop-change.nodes in let new = c.put_at.new.nodes in
+    let change = c.in-Some.change in let place = c.unwrap.result.0.now in let more = into_iter_items c.next.new.self in
     let step = (c.in-Some.ensures {u = tt}).steps in
     let shorter = ap length step.0 in
-    let known : Change → Type 0 = λ change. IsSome (head_of c.loop-change.tree.entries change.key) in
-    let now = database_of c.args.version c.loop-change.nodes.slots c.loop-change.tree.entries in (
-      c.put_change.ensures.sound,
+    let here =
+    first-ArePlacesOf places _ _ change c.loop-change.places.now c.split_first.result c.unwrap.result step.0 c.loop-change.invariant.3
+    c.split_first.ensures.cases c.unwrap.ensures in
+    let sound = c.loop-change.invariant.0 in
+    let gives = c.put_at.ensures.gives places change.key here.0 sound in (
+      Sound-given places nodes.slots new.slots (slab_len nodes) (slab_len new) c.args.version place change.key change.value sound here.0
+          gives,
       omega (arith, shorter, step.1, c.loop-change.invariant.1),
-      room_of-filled c.loop-change.nodes c.put_change.new.nodes (length (into_iter_items c.next.new.self))
-          (omega (arith, shorter, c.loop-change.invariant.2)) c.put_change.ensures.capacity c.put_change.ensures.len,
-      All-weaker known (λ change. IsSome (head_of c.put_change.new.tree.entries change.key))
-          (λ change. c.put_change.ensures.keys change.key) _ (All-rest known c.in-Some.change _ _ step.0 c.loop-change.invariant.3),
-      ap (changed (changes_of (into_iter_items c.next.new.self))) c.put_change.ensures.now
-          ∙ sym (ap (λ left. changed (changes_of left) now) step.0)
+      c.put_at.ensures.room (length more) (omega (arith, shorter, c.loop-change.invariant.2)),
+      here.1,
+      ap (changed (changes_of more))
+          (database_of-given places nodes.slots new.slots (slab_len nodes) (slab_len new) c.args.version place change.key change.value sound
+          here.0 gives)
+          ∙ sym (ap (λ left. changed (changes_of left) (database_of c.args.version nodes.slots places)) step.0)
           ∙ c.loop-change.invariant.4,
-      λ v earlier. c.put_change.ensures.before v earlier ∙ c.loop-change.invariant.5 v earlier,
+      λ v earlier. database_of-before_given places nodes.slots new.slots (slab_len nodes) (slab_len new) c.args.version place change.key
+          change.value sound here.0 gives v earlier
+          ∙ c.loop-change.invariant.5 v earlier,
     )

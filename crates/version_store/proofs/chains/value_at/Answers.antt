@@ -1,31 +1,22 @@
-use Rattle.std.proofs.Common.{◌∙◌, option_copied, sym, ap, arith, rules}
-use Rattle.version_store.proofs.Walks.{holding-spelled_end, holding-spelled_none, holding-spelled_here, holding-spelled_newer}
+use Rattle.std.proofs.Common.{option_copied, sym, ap, ◌∙◌, arith}
+use Rattle.version_store.proofs.Walks.{holding-chain_of_none, holding-chain_of_newest, holding-chain_of_behind}
 use Rattle.version_store.proofs.chains.value_at.Goals as goal
 
-pub returns-in_err-node : goal.returns-in_err-node
-returns-in_err-node c =
+pub returns-in_err-newest : goal.returns-in_err-newest
+returns-in_err-newest c =
     ap option_copied c.from_residual.ensures
-    ∙ sym
-    (holding-spelled_none c.args.version c.loop-left.left c.args.nodes.now.slots c.loop-left.place (search rules)
-    (c.in_err-node.ensures {u = tt}))
-    ∙ c.loop-left.invariant
+    ∙ sym (holding-chain_of_none c.args.version c.args.nodes.now.slots c.args.place (c.in_err-newest.ensures {u = tt}))
 
-pub returns-then-node-version : goal.returns-then-node-version
-returns-then-node-version c =
+pub returns-then-newest-version : goal.returns-then-newest-version
+returns-then-newest-version c =
     c.as_ref.ensures.value
     ∙ sym
-    (holding-spelled_here c.args.version c.loop-left.left c.args.nodes.now.slots c.loop-left.place c.in_ok-node.node.now (search rules)
-    c.in_ok-node.ensures c.if-node-version.true)
-    ∙ c.loop-left.invariant
-
-pub loop-left-preserved : goal.loop-left-preserved
-loop-left-preserved c =
-    sym
-    (holding-spelled_newer c.args.version c.loop-left.left c.args.nodes.now.slots c.loop-left.place c.in_ok-node.node.now (search rules)
-    c.in_ok-node.ensures (omega (arith, c.if-node-version.false)))
-    ∙ c.loop-left.invariant
+    (holding-chain_of_newest c.args.version c.args.nodes.now.slots c.args.place c.in_ok-newest.newest.now c.in_ok-newest.ensures
+    c.if-newest-version.true)
 
 pub returns : goal.returns
 returns c =
-    sym (holding-spelled_end c.args.version c.loop-left.left c.args.nodes.now.slots c.loop-left.place c.loop-left-test.false)
-    ∙ c.loop-left.invariant
+    c.value_behind.ensures
+    ∙ sym
+    (holding-chain_of_behind c.args.version c.args.nodes.now.slots c.args.place c.in_ok-newest.newest.now c.in_ok-newest.ensures
+    (omega (arith, c.if-newest-version.false)))

@@ -10,7 +10,7 @@ taken : (c : In-Some-value_at)
     c.next.new.self
 taken c =
     sym c.loop-key.invariant
-    ∙ present_of-here c.loop-key.self-inside.version c.loop-key.self-inside.nodes.now.slots _ _ c.in-Some.key.now c.in-Some.head.now
+    ∙ present_of-here c.loop-key.self-inside.version c.loop-key.self-inside.nodes.now.slots _ _ c.in-Some.key.now c.in-Some.place.now
     c.in-Some-value_at.value.now (c.in-Some.ensures {u = tt}).steps (c.in-Some-value_at.ensures {u = tt})
 
 pub returns-in-Some-value_at-clause-steps : goal.returns-in-Some-value_at-clause-steps
@@ -24,7 +24,7 @@ returns-in-Some-value_at-clause-goes c =
 pub loop-key-preserved : goal.loop-key-preserved
 loop-key-preserved c =
     sym
-    (present_of-passed c.loop-key.self-inside.version c.loop-key.self-inside.nodes.now.slots _ _ c.in-Some.key.now c.in-Some.head.now
+    (present_of-passed c.loop-key.self-inside.version c.loop-key.self-inside.nodes.now.slots _ _ c.in-Some.key.now c.in-Some.place.now
     (c.in-Some.ensures {u = tt}).steps (c.in_default-value_at.ensures {u = tt}))
     ∙ c.loop-key.invariant
 

@@ -1,10 +1,10 @@
 use Rattle.std.proofs.Common.{◌+◌, ◌≤◌, length, refl, sym, ap, subst, ◌∙◌, arith}
 use Rattle.std.proofs.lemmas.List.{length-map}
-use Rattle.std.specs.List.{All}
+use Rattle.slab.specs.Slab.{slab_len}
 use Rattle.version_store.specs.Changed.{change_of, changes_of, changed}
-use Rattle.version_store.specs.Chains.{chains_of, database_of, room_of}
-use Rattle.version_store.specs.Versions.{Versions, at, last_of, oldest_of, IsReadyFor, HasKey}
-use Rattle.version_store.proofs.Installed.{database_of-later, HaveHeads-from_keys}
+use Rattle.version_store.specs.Chains.{database_of, room_of}
+use Rattle.version_store.specs.Versions.{Versions, at, last_of, oldest_of, IsReadyFor, ArePlacesOf}
+use Rattle.version_store.proofs.Installed.{database_of-later, Sound-later}
 use Rattle.version_store.proofs.store.Store.install.Goals as goal
 use Rattle.version_store.proofs.store.Store.install.Goals.{After-into_vec}
 
@@ -14,7 +14,7 @@ overflow_add-version c = let same = ap last_of c.self.view_is in omega (arith, s
 
 -- what was reserved, over the parts
 ready : (c : After-into_vec) → (length (changes_of c.into_vec.result.items) ≤ room_of c.self.inside.nodes)
-    × All (λ change. HasKey (chains_of c.self.inside.nodes.slots c.self.inside.tree.entries) change.0) (changes_of c.into_vec.result.items)
+    × ArePlacesOf c.self.inside.tree.entries (changes_of c.into_vec.result.items) c.self.inside.reserved.items
 unfolding IsReadyFor
 ready c =
     let P : Versions → Type 0 = λ versions. IsReadyFor versions (changes_of c.into_vec.result.items) in
@@ -23,9 +23,13 @@ ready c =
 pub put_changes-requires-clause-room : goal.put_changes-requires-clause-room
 put_changes-requires-clause-room c = omega (arith, (ready c).0, length-map c.into_vec.result.items change_of)
 
-pub put_changes-requires-clause-known : goal.put_changes-requires-clause-known
-put_changes-requires-clause-known c =
-    HaveHeads-from_keys c.self.inside.nodes.slots c.self.inside.tree.entries c.into_vec.result.items (ready c).1
+pub put_changes-requires-clause-places : goal.put_changes-requires-clause-places
+put_changes-requires-clause-places c =
+    subst (ArePlacesOf c.self.inside.tree.entries (changes_of c.into_vec.result.items)) (sym c.as_slice.ensures.value) (ready c).1
+
+pub put_changes-requires-clause-sound : goal.put_changes-requires-clause-sound
+put_changes-requires-clause-sound c =
+    let store = c.self.inside in Sound-later store.nodes.slots store.tree.entries (slab_len store.nodes) store.last c.self.invariant
 
 pub returns-clause-last : goal.returns-clause-last
 unfolding last_of
@@ -45,7 +49,7 @@ pub returns-clause-after : goal.returns-clause-after
 unfolding at last_of
 returns-clause-after c =
     let store = c.self.inside in let new = c.put_changes.new in
-    ap (λ last. database_of (last + 1) new.nodes.slots new.tree.entries) (sym (ap last_of c.self.view_is))
+    ap (λ last. database_of (last + 1) new.nodes.slots store.tree.entries) (sym (ap last_of c.self.view_is))
     ∙ c.put_changes.ensures.now
     ∙ ap (changed (changes_of c.into_vec.result.items))
     (database_of-later store.nodes.slots store.tree.entries _ store.last c.self.invariant)

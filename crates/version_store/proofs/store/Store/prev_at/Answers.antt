@@ -13,7 +13,7 @@ unfolding at
 returns-clause-ok c = (
   c.in_ok-check.ensures.ok,
   c.last_present.ensures
-      ∙ ap (λ heads. last (present_of c.args.version c.self.inside.nodes.slots heads)) (c.range.ensures.between tt)
+      ∙ ap (λ places. last (present_of c.args.version c.self.inside.nodes.slots places)) (c.range.ensures.between tt)
       ∙ ap last
       (present_of-below c.args.version c.self.inside.nodes.slots c.self.inside.tree.entries c.self.invariant.rising c.args.key.now)
       ∙ ap (λ versions. last (filter (λ e. key_lt e.0 c.args.key.now) (entries (at versions c.args.version)))) c.self.view_is,

@@ -6,13 +6,13 @@ use Rattle.key_bytes.specs.Entries.{entries_of}
 use Rattle.key_bytes.specs.Keys.{key_cmp}
 use Rattle.slab.specs.Slab.{slab_len}
 use Rattle.version_store.specs.Chains.{chains_of}
-use Rattle.version_store.specs.Loading.{first_chains, heads_from}
+use Rattle.version_store.specs.Loading.{first_chains, places_from}
 use Rattle.version_store.proofs.Loads.{Sound-loaded, database_of-before_first, database_of-first}
-use Rattle.version_store.proofs.loading.load_heads.Goals as goal
-use Rattle.version_store.proofs.loading.load_heads.Goals.{After-sorted}
+use Rattle.version_store.proofs.loading.load_places.Goals as goal
+use Rattle.version_store.proofs.loading.load_places.Goals.{After-sorted}
 
 -- what was placed, over the pairs that came in
-chains : (c : After-sorted) → chains_of c.place_all.new.nodes.slots (heads_from 0 c.place_all.new.pairs) ≡ first_chains c.args.pairs
+chains : (c : After-sorted) → chains_of c.place_all.new.nodes.slots (places_from 0 c.place_all.new.pairs) ≡ first_chains c.args.pairs
 chains c =
     c.in_ok-place_all.ensures.chains
     ∙ ap (λ pairs. first_chains (entries_of pairs)) c.as_mut_slice.ensures.value
@@ -27,27 +27,26 @@ left c =
     let same : length pairs ≡ len = c.in_ok-place_all.ensures.len ∙ c.as_mut_slice.ensures.len in
     take-append-le len pairs _ (omega (arith, same)) ∙ take_all len pairs (omega (arith, same))
 
--- the tree is that of the heads
-collected : (c : After-sorted) → IfOk c.sorted.result (IsFromIterResult key_cmp (heads_from 0 c.place_all.new.pairs))
-collected c = subst (λ pairs. IfOk c.sorted.result (IsFromIterResult key_cmp (heads_from 0 pairs))) (left c) c.sorted.ensures
+-- the tree is that of the places
+collected : (c : After-sorted) → IfOk c.sorted.result (IsFromIterResult key_cmp (places_from 0 c.place_all.new.pairs))
+collected c = subst (λ pairs. IfOk c.sorted.result (IsFromIterResult key_cmp (places_from 0 pairs))) (left c) c.sorted.ensures
 
 pub returns-clause-sound : goal.returns-clause-sound
 returns-clause-sound c =
     let nodes = c.place_all.new.nodes in
     IfOk-weaker c.sorted.result _ _
-    (λ tree made. Sound-loaded nodes.slots c.args.pairs (heads_from 0 c.place_all.new.pairs) tree made (chains c) (slab_len nodes)
-    c.in_ok-place_all.ensures.sound)
+    (λ tree made. Sound-loaded c.place_all.new.pairs tree made nodes.slots (slab_len nodes) c.in_ok-place_all.ensures.alone)
     (collected c)
 
 pub returns-clause-empty : goal.returns-clause-empty
 returns-clause-empty c =
     IfOk-weaker c.sorted.result _ _
-    (λ tree made. database_of-before_first c.place_all.new.nodes.slots c.args.pairs (heads_from 0 c.place_all.new.pairs) tree made
+    (λ tree made. database_of-before_first c.place_all.new.nodes.slots c.args.pairs (places_from 0 c.place_all.new.pairs) tree made
     (chains c))
     (collected c)
 
 pub returns-clause-first : goal.returns-clause-first
 returns-clause-first c =
     IfOk-weaker c.sorted.result _ _
-    (λ tree made. database_of-first c.place_all.new.nodes.slots c.args.pairs (heads_from 0 c.place_all.new.pairs) tree made (chains c))
+    (λ tree made. database_of-first c.place_all.new.nodes.slots c.args.pairs (places_from 0 c.place_all.new.pairs) tree made (chains c))
     (collected c)
