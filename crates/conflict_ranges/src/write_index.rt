@@ -1,6 +1,6 @@
 //! Which version last declared each key.
 
-ghost use Rattle.std.specs.Prelude.{◌≡◌, ◌≤◌, ◌⊎◌, ℕ, List, [], true, if◌then◌else◌, MatchBool, OnOk};
+ghost use Rattle.std.specs.Prelude.{◌≡◌, ◌≤◌, ◌⊎◌, ℕ, List, [], true, max, if◌then◌else◌, MatchBool, OnOk};
 ghost use Rattle.std.specs.FinMap as finite;
 ghost use Rattle.key_bytes.specs.Keys.{within};
 ghost use Rattle.key_bytes.specs.Ranges.{has};
@@ -57,6 +57,14 @@ impl WriteIndex {
         }
     }
 
+    /// The newest version that was installed; 0 where none was. No key has a newer one. It takes no memory.
+    pub fn newest(&self) -> u64
+        ensures is { result ≡ self.now.newest }
+        ensures above { (key : List ℕ) → newest_at self.now key ≤ result }
+    {
+        self.newest
+    }
+
     /// The newest version that a key of the range has; 0 where the range is empty. It takes no memory. For one key it takes two
     /// searches, and else four, and one step for each key and each edge in the range.
     pub fn newest_in(&self, range: &KeyRange) -> u64
@@ -104,6 +112,7 @@ impl WriteIndex {
     /// any other range. Each key keeps its version, after a refusal too.
     pub fn reserve(&mut self, ranges: &RangeSet, version: u64) -> Result<(), AllocError>
         ensures same { (key : List ℕ) → newest_at self.new key ≡ newest_at self.old key }
+        ensures newest { self.new.newest ≡ self.old.newest }
         ensures ready { OnOk result (IsReadyFor self.new version ranges.now) }
     {
         for (begin, end) in ranges.ranges() {
@@ -115,6 +124,7 @@ impl WriteIndex {
     /// The same for `install_all`: the ranges may meet, and be empty.
     pub fn reserve_all(&mut self, ranges: &[KeyRange], version: u64) -> Result<(), AllocError>
         ensures same { (key : List ℕ) → newest_at self.new key ≡ newest_at self.old key }
+        ensures newest { self.new.newest ≡ self.old.newest }
         ensures ready { OnOk result (IsReadyFor self.new version ranges.now) }
     {
         for range in ranges {
@@ -126,6 +136,7 @@ impl WriteIndex {
     // Makes room for one range.
     fn make_room(&mut self, begin: &Key, end: &Key, version: u64) -> Result<(), AllocError>
         ensures same { (key : List ℕ) → newest_at self.new key ≡ newest_at self.old key }
+        ensures newest { self.new.newest ≡ self.old.newest }
         ensures kept { KeepsRoom version self.old self.new }
         ensures room { OnOk result (HasRoomFor self.new version (range_from begin.now end.now)) }
     {
@@ -149,8 +160,9 @@ impl WriteIndex {
     /// one write for each edge in it; where a greater version is known, one step for each key besides.
     pub fn install(&mut self, ranges: RangeSet, version: u64)
         requires { IsReadyFor self.old version ranges }
-        ensures { (key : List ℕ) → newest_at self.new key
+        ensures given { (key : List ℕ) → newest_at self.new key
             ≡ (if covers ranges key then version else newest_at self.old key) }
+        ensures newest { self.new.newest ≡ max self.old.newest version }
     {
         self.newest = self.newest.max(version);
         for (begin, end) in ranges.ranges() {
@@ -161,8 +173,9 @@ impl WriteIndex {
     /// The same for a list of ranges, which may meet, and be empty.
     pub fn install_all(&mut self, ranges: &[KeyRange], version: u64)
         requires { IsReadyFor self.old version ranges.now }
-        ensures { (key : List ℕ) → newest_at self.new key
+        ensures given { (key : List ℕ) → newest_at self.new key
             ≡ (if covers ranges.now key then version else newest_at self.old key) }
+        ensures newest { self.new.newest ≡ max self.old.newest version }
     {
         self.newest = self.newest.max(version);
         for range in ranges {

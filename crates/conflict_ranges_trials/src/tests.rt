@@ -232,7 +232,7 @@ trait Versions {
 
     fn give_all(&mut self, ranges: &[KeyRange], version: u64) -> Result<(), AllocError>;
 
-    fn newest(&self, range: &KeyRange) -> u64;
+    fn newest_of_range(&self, range: &KeyRange) -> u64;
 
     // The same, by the two ends.
     fn newest_by_ends(&self, range: &KeyRange) -> u64;
@@ -251,7 +251,7 @@ impl Versions for WriteIndex {
         Ok(())
     }
 
-    fn newest(&self, range: &KeyRange) -> u64 {
+    fn newest_of_range(&self, range: &KeyRange) -> u64 {
         self.newest_in(range)
     }
 
@@ -285,23 +285,23 @@ fn write_two<V: Versions>(alloc: Global, index: &mut V) -> Result<(), AllocError
 
 // The newest versions from `a` to `b`, from `b` to `c` and from `x` to `y`.
 fn newest_in_three<V: Versions>(alloc: Global, index: &V) -> Result<[u64; 3], AllocError> {
-    let first = index.newest(&range_of(alloc, b"a", b"b")?);
-    let second = index.newest(&range_of(alloc, b"b", b"c")?);
+    let first = index.newest_of_range(&range_of(alloc, b"a", b"b")?);
+    let second = index.newest_of_range(&range_of(alloc, b"b", b"c")?);
     let third = index.newest_by_ends(&range_of(alloc, b"x", b"y")?);
     Ok([first, second, third])
 }
 
 // The newest versions from `a` to `b`, from `b` to `c` and from `x` to `y`, where `a` to `c` was written at 2, and `b` to
-// `d` at 5.
-fn newest_of_three(alloc: Global) -> Result<[u64; 3], AllocError> {
+// `d` at 5; and the newest version of all.
+fn newest_of_three(alloc: Global) -> Result<([u64; 3], u64), AllocError> {
     let mut index = WriteIndex::new(alloc);
     write_two(alloc, &mut index)?;
-    newest_in_three(alloc, &index)
+    Ok((newest_in_three(alloc, &index)?, index.newest()))
 }
 
 #[test]
 fn finds_the_newest(rt: HostRuntime) -> Result<(), Fail> {
-    assert_eq!(rt; newest_of_three(rt.alloc())?, [2, 5, 0]);
+    assert_eq!(rt; newest_of_three(rt.alloc())?, ([2, 5, 0], 5));
     Ok(())
 }
 
@@ -322,9 +322,9 @@ fn four_ranges(alloc: Global) -> Result<[KeyRange; 4], AllocError> {
 
 // The newest versions of `b`, of `c` and from `a` to `z`.
 fn newest_of_keys<V: Versions>(alloc: Global, index: &V) -> Result<[u64; 3], AllocError> {
-    let first = index.newest(&range_of(alloc, b"b", b"b\0")?);
-    let second = index.newest(&range_of(alloc, b"c", b"c\0")?);
-    let third = index.newest(&range_of(alloc, b"a", b"z")?);
+    let first = index.newest_of_range(&range_of(alloc, b"b", b"b\0")?);
+    let second = index.newest_of_range(&range_of(alloc, b"c", b"c\0")?);
+    let third = index.newest_of_range(&range_of(alloc, b"a", b"z")?);
     Ok([first, second, third])
 }
 
@@ -359,7 +359,7 @@ fn write_large<V: Versions>(alloc: Global, index: &mut V) -> Result<(), AllocErr
 // The first key that has another version than that of its commit.
 fn first_other_in_large<V: Versions>(alloc: Global, index: &V) -> Result<Option<u64>, AllocError> {
     for number in 0..LARGE {
-        if index.newest(&one_key(alloc, number)?) != number + 2 {
+        if index.newest_of_range(&one_key(alloc, number)?) != number + 2 {
             return Ok(Some(number));
         }
     }
@@ -558,7 +558,7 @@ fn is_index_alike<V: Versions>(
 ) -> Result<bool, AllocError> {
     for _ in 0..8 {
         let (begin, end, range) = roll_range(alloc, dice)?;
-        if index.newest(&range) != greatest_plain(plain, begin, end) {
+        if index.newest_of_range(&range) != greatest_plain(plain, begin, end) {
             return Ok(false);
         }
     }

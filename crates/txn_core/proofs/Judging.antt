@@ -1,5 +1,7 @@
 -- The checks of a commit come to the same for what is kept and for each transaction that it stands for.
-use Rattle.std.proofs.Common.{◌≡◌, ◌⊎◌, inl, inr, ◌≤◌, ◌||◌, ℕ, Bool, true, List, [], ◌∷◌, None, nat_lt, refl, sym, ap, subst, ◌∙◌}
+use Rattle.std.proofs.Common.{◌≡◌, ◌⊎◌, inl, inr, ◌≤◌, ◌||◌, ℕ, Bool, true, false, List, [], ◌∷◌, None, nat_lt, refl, sym, ap, subst, ◌∙◌, arith}
+use Rattle.std.proofs.lemmas.Bool.{both_ways, ltb-true}
+use Rattle.std.proofs.lemmas.Bool.Decides.{same_from_decides}
 use Rattle.std.specs.Prelude.{IsTrue}
 use Rattle.key_bytes.specs.declared.range.KeyRange.{KeyRange}
 use Rattle.key_bytes.specs.Keys.{within}
@@ -7,7 +9,7 @@ use Rattle.key_bytes.specs.Ranges.{has}
 use Rattle.database_rules.specs.States.{range_from}
 use Rattle.database_rules.specs.Histories.{History, conflicts}
 use Rattle.database_rules.specs.Newest.{newest_of, IsNewestIn}
-use Rattle.database_rules.proofs.Conflicts.{conflicts-append, conflicts_by_keys, judged_by_newest}
+use Rattle.database_rules.proofs.Conflicts.{conflicts-append, conflicts_by_keys, conflicts_decides, judged_by_newest}
 use Rattle.conflict_ranges.specs.Writes.{newest_at, Index}
 use Rattle.database_rules.specs.declared.Phase.{Phase}
 use Rattle.database_rules.specs.declared.Phase.TheVariants as phase
@@ -48,6 +50,17 @@ newest_in index history begin end newest same above reached = record {
         → (newest ≡ 0) ⊎ ((key : List ℕ) × IsTrue (has (range_from begin end) key) × (newest_of history key ≡ newest))
     by_key (inl none) = inl none
     by_key (inr at) = inr (at.0, at.1, sym (same at.0) ∙ at.2)
+
+-- where no key has a newer version, where the index is that of the history, nothing conflicts
+pub none_newer : (index : Index) (history : History) (version newest : ℕ) (reads : List KeyRange)
+    → ((key : List ℕ) → newest_at index key ≡ newest_of history key)
+    → ((key : List ℕ) → newest_at index key ≤ newest) → newest ≤ version
+    → conflicts history version reads ≡ false
+none_newer index history version newest reads same above old =
+    same_from_decides (conflicts history version reads) false (conflicts_decides history version reads)
+    (λ never. absurd (both_ways false refl never), λ newer.
+        let less = ltb-true version (newest_of history newer.0) newer.2 in let most = above newer.0 in let is = same newer.0 in
+        absurd (omega (arith, less, most, is, old)))
 
 -- the first of some ranges is judged by its newest commit
 pub judged_first : (history : History) (version : ℕ) (range : KeyRange) (left : List KeyRange) (newest : ℕ) → IsNewestIn history range newest

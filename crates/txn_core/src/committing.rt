@@ -31,11 +31,15 @@ impl Txn {
         self.edits.is_empty() && self.write_ranges.is_empty()
     }
 
-    // Whether a commit after a version declared a key that the transaction rests on. It takes no memory.
+    // Whether a commit after a version declared a key that the transaction rests on. It takes no memory, and no search where no
+    // commit came after that version.
     fn has_conflict(&self, index: &WriteIndex, version: u64) -> bool
         ensures { (store : Versions) (setting : Setting) → Keeps store index.now setting
             → result ≡ conflicts setting.history version self.now.read_ranges }
     {
+        if index.newest() <= version {
+            return false;
+        }
         for (begin, end) in self.read_ranges.ranges() {
             if version < index.newest_between(begin, end) {
                 return true;

@@ -34,10 +34,13 @@ fn undecided(edits: &WriteMap, interval: &[KeyRange]) -> Result<Option<Vec<KeyRa
     Ok(Some(pieces))
 }
 
-// Whether a key of ranges is unreadable.
+// Whether a key of ranges is unreadable: it takes no search where no mutation has a versionstamp.
 fn is_hidden(edits: &WriteMap, interval: &[KeyRange]) -> bool
     ensures { result ≡ any_meet interval.now (unreadable edits.now.mutations) }
 {
+    if !edits.has_stamps() {
+        return false;
+    }
     for range in interval {
         if hides(edits, range) {
             return true;

@@ -1,4 +1,4 @@
-use Rattle.std.proofs.Common.{◌≤◌, arith, cond, sym, ap, subst, ◌∙◌}
+use Rattle.std.proofs.Common.{cond, max, sym, ap, subst, ◌∙◌}
 use Rattle.database_rules.specs.States.{covers}
 use Rattle.conflict_ranges.specs.Segments.{range_between}
 use Rattle.conflict_ranges.specs.Writes.{newest_at, Index, IsReadyFor}
@@ -13,7 +13,7 @@ loop-begin-init c =
     let asked = subst (λ (old : Index). IsReadyFor old version ranges) (sym c.self.view_is) c.requires in
     let now : Index = record { keys = inside.keys; ranges = inside.ranges; newest = newest } in
     record {
-      newest = let is = c.max-self-inside.ensures in omega (arith, is);
+      newest = c.max-self-inside.ensures ∙ ap (λ (old : Index). max old.newest version) c.self.view_is;
       ready = subst (IsReadyFor now version) (sym items)
           (subst (λ newest. IsReadyFor (record { keys = inside.keys; ranges = inside.ranges; newest = newest }) version ranges)
           (sym c.max-self-inside.ensures) (ready_raised version ranges _ asked));
@@ -29,7 +29,7 @@ loop-begin-preserved c =
     let steps = (c.in-Some.ensures {u = tt}).steps in
     let ready = subst (IsReadyFor now version) steps c.loop-begin.invariant.ready in
     record {
-      newest = subst (λ newest. version ≤ newest) (sym c.give.ensures.newest) c.loop-begin.invariant.newest;
+      newest = c.give.ensures.newest ∙ c.loop-begin.invariant.newest;
       ready = ready_kept version left now new c.give.ensures.kept ready.1;
       given = λ key.
           given_first range left version now new c.give.ensures.given key

@@ -1,4 +1,4 @@
-use Rattle.std.proofs.Common.{◌+◌, ◌<◌, ◌≤◌, arith, cond, length, drop, sym, ap, subst, ◌∙◌}
+use Rattle.std.proofs.Common.{◌+◌, ◌<◌, arith, cond, max, length, drop, sym, ap, subst, ◌∙◌}
 use Rattle.database_rules.specs.States.{covers}
 use Rattle.conflict_ranges.specs.Writes.{newest_at, Index, IsReadyFor}
 use Rattle.conflict_ranges.proofs.Rooms.{given_first, ready_kept, ready_raised}
@@ -11,7 +11,7 @@ loop-range-init c =
     let newest = c.max-self-inside.result in
     let asked = subst (λ (old : Index). IsReadyFor old version ranges) (sym c.self.view_is) c.requires in
     record {
-      newest = let is = c.max-self-inside.ensures in omega (arith, is);
+      newest = c.max-self-inside.ensures ∙ ap (λ (old : Index). max old.newest version) c.self.view_is;
       ready =
           subst (λ newest. IsReadyFor (record { keys = inside.keys; ranges = inside.ranges; newest = newest }) version ranges)
           (sym c.max-self-inside.ensures) (ready_raised version ranges _ asked);
@@ -27,7 +27,7 @@ loop-range-preserved c =
     let first = next_left ranges index range more c.range-item.is in
     let ready = subst (IsReadyFor now version) first c.loop-range.invariant.ready in
     record {
-      newest = subst (λ newest. version ≤ newest) (sym c.give.ensures.newest) c.loop-range.invariant.newest;
+      newest = c.give.ensures.newest ∙ c.loop-range.invariant.newest;
       ready = ready_kept version left now new c.give.ensures.kept ready.1;
       given = λ key.
           given_first range left version now new c.give.ensures.given key

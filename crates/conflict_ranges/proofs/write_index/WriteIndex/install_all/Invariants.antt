@@ -1,4 +1,4 @@
-use Rattle.std.proofs.Common.{◌≡◌, ◌≤◌, ℕ, if◌then◌else◌, List, drop}
+use Rattle.std.proofs.Common.{◌≡◌, ℕ, max, if◌then◌else◌, List, drop}
 use Rattle.database_rules.specs.States.{covers}
 use Rattle.conflict_ranges.specs.Writes.{newest_at, IsReadyFor}
 use Rattle.conflict_ranges.proofs.write_index.WriteIndex.install_all.Given as goal
@@ -6,7 +6,7 @@ use Rattle.conflict_ranges.proofs.write_index.WriteIndex.install_all.Given as go
 -- the ranges that are left have room, and with them the keys are given what all give
 abbrev pub invariant-loop-range : goal.invariant-loop-range
 invariant-loop-range l = record {
-  newest : l.version ≤ l.self.newest;
+  newest : l.self.newest ≡ max l.fn.self.newest l.version;
   ready : IsReadyFor l.self l.version (drop l.range-index l.ranges);
   given : (key : List ℕ) → (if covers (drop l.range-index l.ranges) key then l.version else newest_at l.self key)
       ≡ (if covers l.ranges key then l.version else newest_at l.fn.self key);

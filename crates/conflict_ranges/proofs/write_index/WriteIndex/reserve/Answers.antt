@@ -10,6 +10,7 @@ loop-begin-preserved c =
     let now = c.loop-begin.self in
     record {
       same = λ key. c.in_ok-make_room.ensures.same key ∙ c.loop-begin.invariant.same key;
+      newest = c.in_ok-make_room.ensures.newest ∙ c.loop-begin.invariant.newest;
       room =
           gives_room version range c.next.new.self all now c.make_room.new.self c.in_ok-make_room.ensures.kept c.in_ok-make_room.ensures.room
           (subst (λ left. GivesRoom now version left all) (c.in-Some.ensures {u = tt}).steps c.loop-begin.invariant.room);

@@ -3,9 +3,10 @@ use Rattle.conflict_ranges.specs.Writes.{newest_at}
 use Rattle.conflict_ranges.proofs.Rooms.{GivesRoom}
 use Rattle.conflict_ranges.proofs.write_index.WriteIndex.reserve.Given as goal
 
--- no key has another version, and where the ranges that are left have room all have
+-- no version is another, and where the ranges that are left have room all have
 abbrev pub invariant-loop-begin : goal.invariant-loop-begin
 invariant-loop-begin l = record {
   same : (key : List ℕ) → newest_at l.self key ≡ newest_at l.fn.self key;
+  newest : l.self.newest ≡ l.fn.self.newest;
   room : GivesRoom l.self l.version l.begin-iterator l.ranges;
 }

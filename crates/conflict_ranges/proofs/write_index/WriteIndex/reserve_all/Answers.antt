@@ -12,6 +12,7 @@ loop-range-preserved c =
     let more : index < length ranges = omega arith in
     record {
       same = λ key. c.in_ok-make_room.ensures.same key ∙ c.loop-range.invariant.same key;
+      newest = c.in_ok-make_room.ensures.newest ∙ c.loop-range.invariant.newest;
       room =
           gives_room version range (drop (index + 1) ranges) ranges now c.make_room.new.self c.in_ok-make_room.ensures.kept
           c.in_ok-make_room.ensures.room

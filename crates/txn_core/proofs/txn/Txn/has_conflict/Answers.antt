@@ -1,9 +1,15 @@
-use Rattle.std.proofs.Common.{rules, ◌≡◌, ◌||◌, true, false, nat_lt, sym, ap, ◌∙◌}
+use Rattle.std.proofs.Common.{rules, ◌≡◌, ◌||◌, ◌≤◌, true, false, nat_lt, sym, ap, ◌∙◌}
 use Rattle.database_rules.specs.Histories.{conflicts}
 use Rattle.database_rules.specs.States.{range_from}
 use Rattle.database_rules.proofs.Conflicts.{conflicts_none}
-use Rattle.txn_core.proofs.Judging.{newest_in, judged_first}
+use Rattle.txn_core.proofs.Judging.{newest_in, none_newer, judged_first}
 use Rattle.txn_core.proofs.txn.Txn.has_conflict.Goals as goal
+
+pub returns-then-newest-version : goal.returns-then-newest-version
+returns-then-newest-version c store setting keeps =
+    let old : c.newest.result ≤ c.args.version = search rules in
+    sym (none_newer c.args.index.now setting.history c.args.version c.newest.result c.args.self.now.read_ranges keeps.newest_is
+    c.newest.ensures.above old)
 
 pub returns-then-version-newest_between : goal.returns-then-version-newest_between
 returns-then-version-newest_between c store setting keeps =

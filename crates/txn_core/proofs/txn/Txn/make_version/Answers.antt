@@ -37,5 +37,5 @@ returns-clause-ok c setting t stands keeps =
           (λ key.
           let declared = ap (λ ranges. covers ranges key) (c.deref-2.ensures.value ∙ (c.in_ok-declared.ensures {u = tt})) ∙ ap (λ s. covers (declared_in s kept) key) stamp
           ∙ stands.declared (stamp_of (next_version setting)) key ten in
-          c.install_all.ensures key ∙ (λ i. if declared i then made i else newest_at c.reserve_all.new.self key)),
+          c.install_all.ensures.given key ∙ (λ i. if declared i then made i else newest_at c.reserve_all.new.self key)),
     )
