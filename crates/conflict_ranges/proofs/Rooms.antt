@@ -1,10 +1,14 @@
 -- Room for the ranges of a commit: what keeps it, and ranges that are given their version one by one.
-use Rattle.std.proofs.Common.{◌≡◌, inl, inr, ℕ, max, arith, Bool, true, false, cond, ◌||◌, List, [], ◌∷◌, refl, ap, ◌∙◌}
+use Rattle.std.proofs.Common.{◌≡◌, inl, inr, ℕ, max, ◌≤◌, arith, Bool, true, false, cond, ◌||◌, List, [], ◌∷◌, refl, sym, ap, subst, ◌∙◌}
+use Rattle.std.specs.FinMap as finite
 use Rattle.key_bytes.specs.declared.range.KeyRange.{KeyRange}
 use Rattle.key_bytes.specs.Keys.{within}
 use Rattle.key_bytes.specs.Ranges.{has}
-use Rattle.database_rules.specs.States.{covers}
-use Rattle.conflict_ranges.specs.Writes.{newest_at, Index, Keeps, KeepsRoom, GoesAsRange, HasRoomFor, IsReadyFor}
+use Rattle.database_rules.specs.States.{covers, range_from}
+use Rattle.edge_map.specs.Edges.{Edges}
+use Rattle.conflict_ranges.specs.Ends.{IsSplitAt}
+use Rattle.conflict_ranges.specs.Writes.{newest_at, version_in, Index, IsBounded, Keeps, KeepsRoom, GoesAlone, GoesAsRange, HasRoomFor, IsReadyFor}
+use Rattle.conflict_ranges.proofs.Splits.{IsLike}
 
 pub room_kept : (version : ℕ) (range : KeyRange) (old new : Index) → Keeps old new → HasRoomFor old version range → HasRoomFor new version range
 room_kept version range old new kept room = record {
@@ -15,6 +19,30 @@ room_kept version range old new kept room = record {
     still : GoesAsRange new version range.begin range.end → GoesAsRange old version range.begin range.end
     still (inl longer) = inl longer
     still (inr above) = let newest = kept.newest in inr (omega (arith, newest, above))
+
+module _ (version : ℕ) (index : Index) (ranges : Edges ℕ) where
+  -- no more than edges came in
+  pub like_kept : IsLike index.ranges ranges → KeepsRoom version index (record index { ranges = ranges })
+  like_kept like range = room_kept version range index (record index { ranges = ranges })
+      (record { newest = refl; keys = λ key there. there; edges = like.kept })
+
+  pub like_same : IsLike index.ranges ranges → (key : List ℕ) → newest_at (record index { ranges = ranges }) key ≡ newest_at index key
+  like_same like key = ap (max (version_in (finite.get index.keys key))) (like.same key)
+
+  pub like_bounded : IsLike index.ranges ranges → IsBounded index → IsBounded (record index { ranges = ranges })
+  like_bounded like bounded = record {
+    keys = bounded.keys;
+    ranges = λ key. subst (λ newest. newest ≤ index.newest) (sym (like.same key)) (bounded.ranges key);
+  }
+
+  -- the ends of a range became edges
+  pub room_made : (begin end : List ℕ) → GoesAsRange index version begin end → IsSplitAt begin end index.ranges ranges
+      → HasRoomFor (record index { ranges = ranges }) version (range_from begin end)
+  room_made begin end as_range split = record { alone = λ alone. absurd (other as_range alone); as_range = λ _. (split.begins, split.ends) }
+    where
+      other : GoesAsRange index version begin end → GoesAlone index version begin end → ⊥
+      other (inl longer) alone = longer alone.0
+      other (inr above) alone = let below = alone.1 in omega (arith, above, below)
 
 pub ready_kept : (version : ℕ) (ranges : List KeyRange) (old new : Index) → KeepsRoom version old new → IsReadyFor old version ranges
     → IsReadyFor new version ranges

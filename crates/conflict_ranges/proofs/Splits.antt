@@ -1,9 +1,8 @@
 -- Edges at the ends of ranges: no key has anything else. And ranges whose keys are given something.
-use Rattle.std.proofs.Common.{◌≡◌, ℕ, suc, ◌+◌, ◌<◌, ◌≤◌, arith, Bool, true, false, cond, not, ◌||◌, List, [], ◌∷◌, length, get_or, drop, refl, sym, ap, subst, ◌∙◌}
+use Rattle.std.proofs.Common.{◌≡◌, ℕ, suc, ◌+◌, ◌<◌, ◌≤◌, arith, Bool, true, false, cond, ◌||◌, List, [], ◌∷◌, length, get_or, drop, Result, Ok, Err, OnOk, OnErr, refl, sym, ap, subst, ◌∙◌}
 use Rattle.std.proofs.lemmas.List.{at_drop_more}
 use Rattle.std.specs.BTreeMap.{insert_entry}
 use Rattle.std.specs.List.Sorted.{IsStrictlySortedBy}
-use Rattle.std.specs.Map.{keys_of}
 use Rattle.std.specs.Ordering.{match_ordering}
 use Rattle.std.specs.declared.cmp.Ordering.{Ordering}
 use Rattle.std.specs.declared.cmp.Ordering.TheVariants.{Less, Equal, Greater}
@@ -11,26 +10,13 @@ use Rattle.key_bytes.specs.declared.range.KeyRange.{KeyRange}
 use Rattle.key_bytes.specs.Keys.{key_cmp, within}
 use Rattle.key_bytes.specs.Ranges.{has}
 use Rattle.database_rules.specs.States.{covers}
-use Rattle.edge_map.specs.Edges.{Edges, held, edges_of, is_edge, with_edge, without_edge, changed, changed_entries}
-use Rattle.edge_map.proofs.Edged.{edge_made, edge_kept, edge_changed, without_new, with_edge-there}
+use Rattle.edge_map.specs.Edges.{Edges, held, edges_of, is_edge, with_edge, split_at, split_both, changed, changed_entries}
+use Rattle.edge_map.proofs.Edged.{begin_made, end_made, edge_kept, edge_changed}
 use Rattle.edge_map.proofs.Held.{IsRising, held-with_edge, held-changed}
+use Rattle.edge_map.proofs.Lined.{keys_of-changed}
 use Rattle.conflict_ranges.specs.Ends.{IsSplitAt, HasRoom}
 
 module _ {X : Type 0} where
-  -- a key is made an edge, and gets what is spread of what it had
-  abbrev pub split_at : (X → X) → List ℕ → Edges X → Edges X
-  split_at spread key edges = with_edge key (spread (held edges key)) edges
-
-  -- a key that was made an edge is none again
-  pub joined : (spread : X → X) (key : List ℕ) (old half new : Edges X) (is_new : Bool) → is_new ≡ not (is_edge key old)
-      → half ≡ split_at spread key old → new ≡ cond is_new (without_edge key half) half → new ≡ old
-  joined spread key old half new is_new was split is =
-      is ∙ (λ i. cond (was i) (without_edge key (split i)) (split i)) ∙ by_edge (is_edge key old) refl
-    where
-      by_edge : (t : Bool) → is_edge key old ≡ t → cond (not t) (without_edge key (split_at spread key old)) (split_at spread key old) ≡ old
-      by_edge true there = with_edge-there key (spread (held old key)) old there
-      by_edge false new = without_new key (spread (held old key)) old new
-
   length-inserted : (key : List ℕ) (x : X) (es : List (List ℕ × X)) → length (insert_entry key_cmp es key x) ≤ length es + 1
   length-inserted key x [] = omega arith
   length-inserted key x (e ∷ es) =
@@ -50,27 +36,43 @@ module _ {X : Type 0} where
         | false ↦ length-inserted key x edges.entries
       ]
 
-  module _ (spread : X → X) (all : (x : X) → spread x ≡ x) where
-    split_same : (key : List ℕ) (edges : Edges X) (k : List ℕ) → held (split_at spread key edges) k ≡ held edges k
-    split_same key edges k = held-with_edge key (spread (held edges key)) edges k (λ _. all (held edges key))
+  abbrev shared : X → X
+  shared x = x
 
-    pub is_split_at : (begin end : List ℕ) (old new : Edges X) → new ≡ split_at spread end (split_at spread begin old)
-        → IsSplitAt begin end old new
-    is_split_at begin end old new is =
-        let half = split_at spread begin old in
-        record {
-          same = λ k. ap (λ edges. held edges k) is ∙ split_same end half k ∙ split_same begin old k;
-          kept = λ q there. ap (is_edge q) is
-              ∙ edge_kept q end (spread (held half end)) half (edge_kept q begin (spread (held old begin)) old there);
-          begins = ap (is_edge begin) is
-              ∙ edge_kept begin end (spread (held half end)) half (edge_made begin (spread (held old begin)) old);
-          ends = ap (is_edge end) is ∙ edge_made end (spread (held half end)) half;
-          few =
-              let all = ap (λ edges. length edges.entries) is in
-              let one = one_more begin (spread (held old begin)) old in
-              let two = one_more end (spread (held half end)) half in
-              omega (arith, all, one, two);
-        }
+  key_same : (key : List ℕ) (edges : Edges X) (k : List ℕ) → held (split_at shared key edges) k ≡ held edges k
+  key_same key edges k = held-with_edge key (held edges key) edges k (λ _. refl)
+
+  -- where a new edge gets what its key had, two keys are made edges so that no key has anything else
+  pub split_same : (begin end : List ℕ) (old new : Edges X) → new ≡ split_both (λ x. x) begin end old → IsSplitAt begin end old new
+  split_same begin end old new is =
+      let half = split_at shared begin old in
+      record {
+        same = λ k. ap (λ edges. held edges k) is ∙ key_same end half k ∙ key_same begin old k;
+        kept = λ q there. ap (is_edge q) is
+            ∙ edge_kept q end (held half end) half (edge_kept q begin (held old begin) old there);
+        begins = ap (is_edge begin) is ∙ begin_made shared begin end old;
+        ends = ap (is_edge end) is ∙ end_made shared begin end old;
+        few =
+            let all = ap (λ edges. length edges.entries) is in
+            let one = one_more begin (held old begin) old in
+            let two = one_more end (held half end) half in
+            omega (arith, all, one, two);
+      }
+
+-- no key has anything else, and each edge still is one
+pub record IsLike {X : Type 0} (old new : Edges X) : Type 0 where
+  pub same : (key : List ℕ) → held new key ≡ held old key
+  pub kept : (edge : List ℕ) → is_edge edge old ≡ true → is_edge edge new ≡ true
+
+-- two keys were made edges, or that was refused
+pub split_like : {X A E : Type 0} (begin end : List ℕ) (old new : Edges X) (result : Result A E)
+    → OnOk result (new ≡ split_both (λ x. x) begin end old) → OnErr result (new ≡ old) → IsLike old new
+split_like begin end old new (Ok x) split refused =
+    let split = split_same begin end old new split in record { same = split.same; kept = split.kept }
+split_like begin end old new (Err e) split refused = record {
+  same = λ key. ap (λ edges. held edges key) refused;
+  kept = λ edge there. ap (is_edge edge) refused ∙ there;
+}
 
 -- ---- the keys of a range are given something
 
@@ -93,10 +95,6 @@ module _ {X : Type 0} where
   pub edge_given : (p : List ℕ → Bool) (x : X) (old new : Edges X) → new ≡ changed p (λ _. x) old → (edge : List ℕ)
       → is_edge edge new ≡ is_edge edge old
   edge_given p x old new is edge = ap (is_edge edge) is ∙ edge_changed edge p (λ _. x) old
-
-  keys_of-changed : (p : List ℕ → Bool) (f : X → X) (es : List (List ℕ × X)) → keys_of (changed_entries p f es) ≡ keys_of es
-  keys_of-changed p f [] = refl
-  keys_of-changed p f (e ∷ es) = ap (λ keys. e.0 ∷ keys) (keys_of-changed p f es)
 
   pub rising_given : (p : List ℕ → Bool) (x : X) (old new : Edges X) → new ≡ changed p (λ _. x) old → IsRising old.entries
       → IsRising new.entries

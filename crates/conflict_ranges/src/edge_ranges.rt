@@ -82,8 +82,8 @@ impl EdgeRanges {
         self.ranges().next().is_none()
     }
 
-    // Adds the keys of a range. It searches the edges six times at most, and writes once for each edge in the range. After
-    // a refusal the set is as it was (API reference, "Transaction": conflict ranges).
+    // Adds the keys of a range. It takes two walks along a few edges, or six searches of more at most, and writes once for each
+    // edge in the range. After a refusal the set is as it was (API reference, "Transaction": conflict ranges).
     pub(crate) fn add(&mut self, range: &KeyRange) -> Result<(), AllocError>
         ensures ok { OnOk result ((key : List ℕ)
             → covers self.new key ≡ (covers self.old key || has range.now key)) }
@@ -93,8 +93,8 @@ impl EdgeRanges {
         put(&mut self.members, range, Membership(true))
     }
 
-    // Takes the keys of a range away. It searches the edges six times at most, and writes once for each edge in the
-    // range. After a refusal the set is as it was (API reference, "Transaction": conflict ranges).
+    // Takes the keys of a range away. It takes two walks along a few edges, or six searches of more at most, and writes once for
+    // each edge in the range. After a refusal the set is as it was (API reference, "Transaction": conflict ranges).
     pub(crate) fn subtract(&mut self, range: &KeyRange) -> Result<(), AllocError>
         ensures ok { OnOk result ((key : List ℕ)
             → covers self.new key ≡ (covers self.old key && not (has range.now key))) }

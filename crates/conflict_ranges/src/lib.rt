@@ -19,7 +19,7 @@ mod membership;
 mod newest;
 mod range_set;
 mod ranges_left;
-mod splitting;
+mod walking;
 mod write_index;
 
 pub use range_set::RangeSet;

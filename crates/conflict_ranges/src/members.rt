@@ -6,14 +6,23 @@ ghost use Rattle.key_bytes.specs.Keys.{key_cmp, within};
 ghost use Rattle.key_bytes.specs.Ranges.{has};
 ghost use Rattle.database_rules.specs.States.{covers};
 ghost use Rattle.edge_map.specs.Edges.{changed, edges_of, held};
-ghost use Rattle.conflict_ranges.specs.Ends.{HasRoom};
+ghost use Rattle.conflict_ranges.specs.Ends.{HasRoom, IsSplitAt};
 ghost use Rattle.conflict_ranges.specs.Segments.{IsSound};
 
 use crate::membership::Membership;
-use crate::splitting::{around_within, split_both};
+use crate::walking::around_within;
 use edge_map::EdgeMap;
 use key_bytes::KeyRange;
 use std::alloc::AllocError;
+
+// Makes the ends of a range edges, which changes what no key has. After a refusal the edges are as they were.
+fn split(members: &mut EdgeMap<Membership>, range: &KeyRange) -> Result<(), AllocError>
+    ensures ok { OnOk result (IsSplitAt range.now.begin range.now.end members.old members.new) }
+    ensures err { OnErr result (members.new ≡ members.old) }
+    ensures rising { OnOk result (IsStrictlySortedBy key_cmp (edges_of members.new)) }
+{
+    members.split_both(&range.begin, &range.end)
+}
 
 // Gives each edge of a range a membership.
 fn give(members: &mut EdgeMap<Membership>, range: &KeyRange, membership: Membership)
@@ -40,7 +49,7 @@ pub(crate) fn put(
     if range.is_empty() {
         return Ok(());
     }
-    split_both(members, &range.begin, &range.end)?;
+    split(members, range)?;
     give(members, range, membership);
     Ok(())
 }
@@ -56,7 +65,7 @@ pub(crate) fn split_all(
     ensures room { OnOk result (HasRoom members.new ranges.now) }
 {
     for range in ranges {
-        split_both(members, &range.begin, &range.end)?;
+        split(members, range)?;
     }
     Ok(())
 }

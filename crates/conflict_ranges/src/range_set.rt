@@ -94,8 +94,9 @@ impl RangeSet {
     }
 
     /// Adds the keys of a range. The first one is kept in place, with no search. A second one makes edges of the ends of
-    /// both, unless the first has all its keys; from then on it searches the edges six times at most, and writes once for
-    /// each edge in the range. After a refusal the set is as it was (API reference, "Transaction": conflict ranges).
+    /// both, unless the first has all its keys; from then on it takes two walks along a few edges, or six searches of more at
+    /// most, and writes once for each edge in the range. After a refusal the set is as it was (API reference, "Transaction":
+    /// conflict ranges).
     pub fn add(&mut self, range: &KeyRange) -> Result<(), AllocError>
         ensures ok { OnOk result ((key : List ℕ)
             → covers self.new key ≡ (covers self.old key || has range.now key)) }
@@ -116,9 +117,9 @@ impl RangeSet {
         Ok(())
     }
 
-    /// Takes the keys of a range away. It makes edges of the ends of a range in place, searches the edges six times at most,
-    /// and writes once for each edge in the range. After a refusal the set is as it was (API reference, "Transaction":
-    /// conflict ranges).
+    /// Takes the keys of a range away. It makes edges of the ends of a range in place, takes two walks along a few edges, or six
+    /// searches of more at most, and writes once for each edge in the range. After a refusal the set is as it was (API reference,
+    /// "Transaction": conflict ranges).
     pub fn subtract(&mut self, range: &KeyRange) -> Result<(), AllocError>
         ensures ok { OnOk result ((key : List ℕ)
             → covers self.new key ≡ (covers self.old key && not (has range.now key))) }

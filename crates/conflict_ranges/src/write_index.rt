@@ -10,7 +10,6 @@ ghost use Rattle.conflict_ranges.specs.Writes.{newest_at, GoesAlone, GoesAsRange
 
 use crate::newest::{Written, is_after, newest_of_keys, newest_of_ranges};
 use crate::range_set::RangeSet;
-use crate::splitting::split_both;
 use edge_map::EdgeMap;
 use key_bytes::{Key, KeyRange};
 use key_map::KeyMap;
@@ -108,8 +107,8 @@ impl WriteIndex {
         self.newest <= version && is_after(begin, end)
     }
 
-    /// Takes the memory that `install` of these ranges at this version needs: one search for a range of one key, and five at most for
-    /// any other range. Each key keeps its version, after a refusal too.
+    /// Takes the memory that `install` of these ranges at this version needs: one search for a range of one key, and for any other
+    /// range one walk along a few edges, or five searches of more at most. Each key keeps its version, after a refusal too.
     pub fn reserve(&mut self, ranges: &RangeSet, version: u64) -> Result<(), AllocError>
         ensures same { (key : List ℕ) → newest_at self.new key ≡ newest_at self.old key }
         ensures newest { self.new.newest ≡ self.old.newest }
@@ -143,7 +142,7 @@ impl WriteIndex {
         if self.goes_alone(begin, end, version) {
             return self.add_key(begin);
         }
-        split_both(&mut self.ranges, begin, end)
+        self.ranges.split_both(begin, end)
     }
 
     // Makes a key known, which was declared alone at no version yet.

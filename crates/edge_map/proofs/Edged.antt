@@ -13,7 +13,7 @@ use Rattle.std.specs.declared.cmp.Ordering.{Ordering}
 use Rattle.std.specs.declared.cmp.Ordering.TheVariants.{Less, Equal, Greater}
 use Rattle.key_bytes.specs.Keys.{key_cmp, key_lt, within, after}
 use Rattle.key_bytes.proofs.Orders.{lt_le, lt_after}
-use Rattle.edge_map.specs.Edges.{Edges, held_from, held, is_edge, with_edge, without_edge, changed_entries, changed}
+use Rattle.edge_map.specs.Edges.{Edges, held_from, held, is_edge, with_edge, without_edge, split_at, split_both, changed_entries, changed}
 use Rattle.edge_map.proofs.Held.{IsBelow, IsRising, is_among, rising_below, rising_rest, held-at, held-changed}
 
 module _ {X : Type 0} where
@@ -79,7 +79,7 @@ module _ {X : Type 0} where
           ap (λ t. is_some (cond t (Some e.1) (lookup (is_at (key_cmp q)) (insert_entry key_cmp es key x)))) is
           ∙ rest (first false is)
 
-  removed_inserted : (key : List ℕ) (x : X) (es : List (List ℕ × X)) → is_among key es ≡ false
+  pub removed_inserted : (key : List ℕ) (x : X) (es : List (List ℕ × X)) → is_among key es ≡ false
       → remove_entry (is_at (key_cmp key)) (insert_entry key_cmp es key x) ≡ es
   removed_inserted key x [] new = ap (λ t. cond t [] ((key, x) ∷ [])) (at_itself key)
   removed_inserted key x (e ∷ es) new = by_order (key_cmp key e.0) refl (removed_inserted key x es)
@@ -120,6 +120,33 @@ module _ {X : Type 0} where
   without_new key x edges new =
       ap (without_edge key) (with_edge-new key x edges new)
       ∙ ap (λ entries. record edges { entries = entries }) (removed_inserted key x edges.entries new)
+
+  -- a key that was made an edge is none again
+  pub joined : (spread : X → X) (key : List ℕ) (old half new : Edges X) (is_new : Bool) → is_new ≡ not (is_edge key old)
+      → half ≡ split_at spread key old → new ≡ cond is_new (without_edge key half) half → new ≡ old
+  joined spread key old half new is_new was split is =
+      is ∙ (λ i. cond (was i) (without_edge key (split i)) (split i)) ∙ by_edge (is_edge key old) refl
+    where
+      by_edge : (t : Bool) → is_edge key old ≡ t → cond (not t) (without_edge key (split_at spread key old)) (split_at spread key old) ≡ old
+      by_edge true there = with_edge-there key (spread (held old key)) old there
+      by_edge false new = without_new key (spread (held old key)) old new
+
+  -- ---- two keys are made edges
+
+  module _ (spread : X → X) (begin end : List ℕ) (edges : Edges X) where
+    pub begin_made : is_edge begin (split_both spread begin end edges) ≡ true
+    begin_made =
+        let half = split_at spread begin edges in
+        edge_kept begin end (spread (held half end)) half (edge_made begin (spread (held edges begin)) edges)
+
+    pub end_made : is_edge end (split_both spread begin end edges) ≡ true
+    end_made = let half = split_at spread begin edges in edge_made end (spread (held half end)) half
+
+    -- where both are edges nothing changes
+    pub split_both-there : is_edge begin edges ≡ true → is_edge end edges ≡ true → edges ≡ split_both spread begin end edges
+    split_both-there begins ends = sym
+        (ap (split_at spread end) (with_edge-there begin (spread (held edges begin)) edges begins)
+        ∙ with_edge-there end (spread (held edges end)) edges ends)
 
   -- a new edge leaves what the keys below all edges have
   pub base-with_edge : (key : List ℕ) (x : X) (edges : Edges X) → (with_edge key x edges).base ≡ edges.base

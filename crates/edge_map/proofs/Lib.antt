@@ -8,3 +8,4 @@ pub mod Neighbours
 pub mod Placed
 pub mod Searched
 pub mod Spans
+pub mod Walked

@@ -1,5 +1,5 @@
 -- Edges in a row, where one comes in, goes, or has something else: what is done at its place.
-use Rattle.std.proofs.Common.{◌≡◌, ℕ, zero, suc, ◌+◌, ◌-◌, ◌<◌, ◌≤◌, Bool, true, false, cond, not, ◌&&◌, List, [], ◌∷◌, ◌++◌, length, get_or, take, drop, Some, is_some, refl, sym, ap, subst, ◌∙◌, arith, true≢false}
+use Rattle.std.proofs.Common.{◌≡◌, ℕ, zero, suc, ◌<◌, ◌≤◌, Bool, true, false, cond, not, ◌&&◌, List, [], ◌∷◌, ◌++◌, length, get_or, take, drop, Some, is_some, refl, sym, ap, subst, ◌∙◌, arith, true≢false}
 use Rattle.std.proofs.Math.ListN.{set}
 use Rattle.std.proofs.lemmas.Bool.{false≢true}
 use Rattle.std.proofs.lemmas.Map.Lookups.{exact_bytes}
@@ -85,7 +85,8 @@ module _ {X : Type 0} where
         (rising_removed test es (rising_rest e.0 e.1 es rising))
   ]
 
-  keys_of-changed : (p : List ℕ → Bool) (f : X → X) (es : List (List ℕ × X)) → keys_of (changed_entries p f es) ≡ keys_of es
+  -- a change of what edges have leaves their keys
+  pub keys_of-changed : (p : List ℕ → Bool) (f : X → X) (es : List (List ℕ × X)) → keys_of (changed_entries p f es) ≡ keys_of es
   keys_of-changed p f [] = refl
   keys_of-changed p f (e ∷ es) = ap (λ ks. e.0 ∷ ks) (keys_of-changed p f es)
 

@@ -1,12 +1,11 @@
 -- What the places of edges in a row tell.
-use Rattle.std.proofs.Common.{◌≡◌, ℕ, zero, suc, ◌+◌, ◌-◌, ◌<◌, ◌≤◌, Bool, true, false, cond, not, ◌&&◌, bytes_eq, List, [], ◌∷◌, length, get_or, take, drop, Some, None, is_some, refl, sym, ap, subst, ◌∙◌, arith, true≢false}
+use Rattle.std.proofs.Common.{◌≡◌, ℕ, zero, suc, ◌+◌, ◌-◌, ◌<◌, ◌≤◌, Bool, true, false, cond, not, bytes_eq, List, [], ◌∷◌, length, get_or, take, drop, Some, None, is_some, refl, sym, ap, subst, ◌∙◌, arith, true≢false}
 use Rattle.std.proofs.lemmas.Bool.{false≢true}
 use Rattle.std.proofs.lemmas.List.{drop_more, take_rest}
 use Rattle.std.proofs.lemmas.Map.Lookups.{exact_bytes}
 use Rattle.std.proofs.lemmas.Map.Text.{is_eq-slice_cmp}
 use Rattle.std.proofs.lemmas.Map.Views.{tells_apart}
 use Rattle.std.specs.Cmp.{eq_by_cmp_equiv}
-use Rattle.edge_map.specs.FirstTwo.{are_first_two}
 use Rattle.std.specs.BTreeMap.{is_at}
 use Rattle.std.specs.Cmp.Lexicographic.{nat_list_cmp_total}
 use Rattle.std.specs.List.{filter}
@@ -212,25 +211,6 @@ module _ {X : Type 0} where
 -- a key compares as equal to an edge that has the same text
 pub same_text : (key edge : List ℕ) → is_at (key_cmp key) edge ≡ bytes_eq edge key
 same_text key edge = (eq_by_cmp_equiv nat_list_cmp_total).symm key edge ∙ is_eq-slice_cmp edge key
-
--- the first two of so many edges
-module _ {X : Type 0} (begin end : List ℕ) where
-  two_places : (es : List (List ℕ × X)) (d f : List ℕ × X) → 2 ≤ length es
-      → are_first_two begin end es ≡ (is_at (key_cmp begin) (get_or es 0 d).0 && is_at (key_cmp end) (get_or es 1 f).0)
-  two_places [] d f two = absurd (omega (arith, two))
-  two_places (e ∷ []) d f two = absurd (omega (arith, two))
-  two_places (e ∷ g ∷ es) d f two = refl
-
-  module _ (es : List (List ℕ × X)) (d f : List ℕ × X) (two : 2 ≤ length es) where
-    pub first_differs : false ≡ bytes_eq (get_or es 0 d).0 begin → false ≡ are_first_two begin end es
-    first_differs other =
-        ap (λ t. t && is_at (key_cmp end) (get_or es 1 f).0) (other ∙ sym (same_text begin (get_or es 0 d).0)) ∙ sym (two_places es d f two)
-
-    pub first_same : true ≡ bytes_eq (get_or es 0 d).0 begin → bytes_eq (get_or es 1 f).0 end ≡ are_first_two begin end es
-    first_same same =
-        sym (same_text end (get_or es 1 f).0)
-        ∙ ap (λ t. t && is_at (key_cmp end) (get_or es 1 f).0) (same ∙ sym (same_text begin (get_or es 0 d).0))
-        ∙ sym (two_places es d f two)
 
 -- what stands at a place is the first of what is left from there on
 pub left_from : {X : Type 0} (items all : List X) (at : ℕ) (e : X) → items ≡ all → at < length items → e ≡ get_or items at e

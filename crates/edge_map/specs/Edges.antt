@@ -10,6 +10,10 @@ pub record Edges (X : Type 0) : Type 0 where
   pub entries : List (List ℕ × X)
 
 module _ {X : Type 0} where
+  -- edges, and what the keys below them have
+  abbrev pub with_base : X → List (List ℕ × X) → Edges X
+  with_base base entries = record { base = base; entries = entries }
+
   -- what a key has, where d is had below the first of these edges
   abbrev pub held_from : X → List (List ℕ × X) → List ℕ → X
   held_from d [] key = d
@@ -30,6 +34,14 @@ module _ {X : Type 0} where
   -- with an edge more, which has x; a key that is an edge stays as it is
   abbrev pub with_edge : List ℕ → X → Edges X → Edges X
   with_edge key x edges = if is_edge key edges then edges else record edges { entries = insert_entry key_cmp edges.entries key x }
+
+  -- with a key as an edge, which gets what is spread of what the key had
+  abbrev pub split_at : (X → X) → List ℕ → Edges X → Edges X
+  split_at spread key edges = with_edge key (spread (held edges key)) edges
+
+  -- with two keys as edges, one after the other
+  abbrev pub split_both : (X → X) → List ℕ → List ℕ → Edges X → Edges X
+  split_both spread begin end edges = split_at spread end (split_at spread begin edges)
 
   -- each edge that passes a test has what f makes of what it had
   abbrev pub changed_entries : (List ℕ → Bool) → (X → X) → List (List ℕ × X) → List (List ℕ × X)

@@ -47,8 +47,7 @@ impl<T> Model for EdgeMap<T> {
 }
 
 impl<T> EdgeMap<T> {
-    ghost use Rattle.edge_map.specs.Edges.{changed, edges_of, held, is_edge, with_edge, without_edge};
-    ghost use Rattle.edge_map.specs.FirstTwo.{are_first_two};
+    ghost use Rattle.edge_map.specs.Edges.{changed, edges_of, held, is_edge, split_both, with_edge, without_edge};
 
     /// The map without an edge: each key has `base`. It takes no memory.
     pub fn new(alloc: Global, base: T) -> EdgeMap<T>
@@ -78,17 +77,6 @@ impl<T> EdgeMap<T> {
             return self.tree.has_edge(key);
         }
         self.row.has_edge(key)
-    }
-
-    /// Whether `begin` is an edge and `end` is the next one: that the first two edges from `begin` on are these two. One search
-    /// of the edges; it takes no memory.
-    pub fn has_neighbours(&self, begin: &Key, end: &Key) -> bool
-        ensures { result ≡ are_first_two begin.now end.now (filter (λ e. key_le begin.now e.0) self.now.entries) }
-    {
-        if self.row.is_empty() {
-            return self.tree.has_neighbours(begin, end);
-        }
-        self.row.has_neighbours(begin, end)
     }
 
     /// The first edge above a key, if there is one. It takes no memory.
@@ -166,6 +154,47 @@ impl<T> EdgeMap<T> {
         }
         self.tree.fill(&mut self.row)?;
         self.tree.split(key)
+    }
+
+    /// Makes two keys edges, `begin` and then `end`, as `split` does. Among a few edges it takes one walk where `begin` is below
+    /// `end`, and else two; among more one search where the two are edges with none between, and else five at most. After a
+    /// refusal the map is as it was.
+    pub fn split_both(&mut self, begin: &Key, end: &Key) -> Result<(), AllocError>
+    where
+        T: Spread + Drop,
+        ensures ok { OnOk result (self.new ≡ split_both T.spread begin.now end.now self.old) }
+        ensures err { OnErr result (self.new ≡ self.old) }
+        ensures rising { OnOk result (IsStrictlySortedBy key_cmp (edges_of self.new)) }
+    {
+        if self.row.is_empty() && !self.tree.is_empty() {
+            return self.tree.split_both(begin, end);
+        }
+        if self.row.len() < FEW - 1 {
+            self.row.split_both(self.tree.base(), begin, end)?;
+            return Ok(());
+        }
+        self.tree.fill(&mut self.row)?;
+        self.tree.split_both(begin, end)
+    }
+
+    /// Makes two keys edges as `split_both` does, gives `key` something else, and answers what it had: among a few edges by the
+    /// same walk where `key` is below `next`, and else by one search more. After a refusal the map is as it was.
+    pub fn put(&mut self, key: &Key, next: &Key, level: T) -> Result<T, AllocError>
+    where
+        T: Spread + Drop,
+        ensures before { IfOk result (λ before. before ≡ held (split_both T.spread key.now next.now self.old) key.now) }
+        ensures ok { OnOk result (self.new
+            ≡ changed (is_at (key_cmp key.now)) (λ _. level) (split_both T.spread key.now next.now self.old)) }
+        ensures err { OnErr result (self.new ≡ self.old) }
+    {
+        if self.row.is_empty() && !self.tree.is_empty() {
+            return self.tree.put(key, next, level);
+        }
+        if self.row.len() < FEW - 1 {
+            return self.row.put(self.tree.base(), key, next, level);
+        }
+        self.tree.fill(&mut self.row)?;
+        self.tree.put(key, next, level)
     }
 
     /// Takes an edge away: keys from it on have what those before it have. It takes no memory.

@@ -9,8 +9,7 @@ ghost use Rattle.std.specs.Option.{option_map};
 ghost use Rattle.std.specs.Vec.{vec_capacity};
 ghost use Rattle.key_bytes.specs.Keys.{key_cmp, key_le, key_lt, within};
 ghost use Rattle.key_map.specs.Ends.{first, last};
-ghost use Rattle.edge_map.specs.Edges.{changed_entries, held_from};
-ghost use Rattle.edge_map.specs.FirstTwo.{are_first_two};
+ghost use Rattle.edge_map.specs.Edges.{changed, changed_entries, held, held_from, split_both, with_base};
 ghost use Rattle.edge_map.specs.Halves.{count_while, is_nil};
 
 use crate::change::Change;
@@ -100,7 +99,18 @@ impl<T> Row<T> {
         ensures is_edge { result.1 ≡ is_some (lookup (is_at (key_cmp key.now)) self.now) }
         ensures rising { IsStrictlySortedBy key_cmp (keys_of self.now) }
     {
-        let mut at = 0;
+        self.spot_from(0, key)
+    }
+
+    // The same, where so many edges are below the key for certain: the walk begins behind these.
+    fn spot_from(&self, from: usize, key: &Key) -> (usize, bool)
+        requires { from ≤ count_while (λ edge. key_lt edge key.now) self.now }
+        ensures inside { result.0 ≤ length self.now }
+        ensures count { result.0 ≡ count_while (λ edge. key_le edge key.now) self.now }
+        ensures is_edge { result.1 ≡ is_some (lookup (is_at (key_cmp key.now)) self.now) }
+        ensures rising { IsStrictlySortedBy key_cmp (keys_of self.now) }
+    {
+        let mut at = from;
         while at < self.edges.len() {
             let order = self.edges[at].0.cmp(key);
             if order.is_eq() {
@@ -148,16 +158,6 @@ impl<T> Row<T> {
         ensures { result ≡ is_some (lookup (is_at (key_cmp key.now)) self.now) }
     {
         self.spot(key).1
-    }
-
-    // Whether the first two edges from `begin` on are `begin` and `end`.
-    pub(crate) fn has_neighbours(&self, begin: &Key, end: &Key) -> bool
-        ensures { result ≡ are_first_two begin.now end.now (filter (λ e. key_le begin.now e.0) self.now) }
-    {
-        match self.from(begin) {
-            [(edge, _), (next, _), ..] => edge == begin && next == end,
-            _ => false,
-        }
     }
 
     // The first edge above a key, if there is one.
@@ -224,13 +224,95 @@ impl<T> Row<T> {
         ensures err { OnErr result (self.new ≡ self.old) }
         ensures new { IfOk result (λ is_new. is_new ≡ not (is_some (lookup (is_at (key_cmp key.now)) self.old))) }
     {
-        let (up_to, is_edge) = self.spot(key);
+        let (_, is_new) = self.split_from(base, 0, key)?;
+        Ok(is_new)
+    }
+
+    // The same, where so many edges are below the key for certain: the walk begins behind these. It answers too how many edges are
+    // not above the key then.
+    fn split_from(&mut self, base: &T, from: usize, key: &Key) -> Result<(usize, bool), AllocError>
+    where
+        T: Spread + Drop,
+        requires { from ≤ count_while (λ edge. key_lt edge key.now) self.old }
+        ensures ok { OnOk result (self.new ≡ (if is_some (lookup (is_at (key_cmp key.now)) self.old) then self.old
+            else insert_entry key_cmp self.old key.now (T.spread (held_from base.now self.old key.now)))) }
+        ensures err { OnErr result (self.new ≡ self.old) }
+        ensures new { IfOk result (λ found. found.1 ≡ not (is_some (lookup (is_at (key_cmp key.now)) self.old))) }
+        ensures count { IfOk result (λ found. found.0 ≡ count_while (λ edge. key_le edge key.now) self.new) }
+        ensures rising { IsStrictlySortedBy key_cmp (keys_of self.new) }
+    {
+        let (up_to, is_edge) = self.spot_from(from, key);
         if is_edge {
-            return Ok(false);
+            return Ok((up_to, false));
         }
         let level = self.last_of(base, up_to).spread();
         self.edges.insert(up_to, (key.copy()?, level))?;
-        Ok(true)
+        Ok((up_to + 1, true))
+    }
+
+    // How many edges are below `end` for certain, where so many are not above `begin`: these, if `begin` is below `end`.
+    fn start_for(&self, end: &Key, begin: &Key, up_to: usize) -> usize
+        requires { up_to ≡ count_while (λ edge. key_le edge begin.now) self.now }
+        ensures { result ≤ count_while (λ edge. key_lt edge end.now) self.now }
+    {
+        if begin.cmp(end).is_lt() { up_to } else { 0 }
+    }
+
+    // Takes an edge away again that was none before.
+    fn join(&mut self, key: &Key, is_new: bool)
+    where
+        T: Drop,
+        ensures { self.new ≡ (if is_new then remove_entry (is_at (key_cmp key.now)) self.old else self.old) }
+    {
+        if is_new {
+            self.remove_edge(key);
+        }
+    }
+
+    // Makes two keys edges, where `base` is had below the first edge, and answers how many edges are not above `begin` then,
+    // if it is below `end`: one walk along the row where it is, and else two. After a refusal the row is as it was.
+    pub(crate) fn split_both(
+        &mut self,
+        base: &T,
+        begin: &Key,
+        end: &Key,
+    ) -> Result<usize, AllocError>
+    where
+        T: Spread + Drop,
+        ensures ok { OnOk result (with_base base.now self.new
+            ≡ split_both T.spread begin.now end.now (with_base base.now self.old)) }
+        ensures err { OnErr result (self.new ≡ self.old) }
+        ensures count { IfOk result (λ up_to. key_lt begin.now end.now ≡ true
+            → up_to ≡ count_while (λ edge. key_le edge begin.now) self.new) }
+        ensures rising { OnOk result (IsStrictlySortedBy key_cmp (keys_of self.new)) }
+    {
+        let (up_to, is_new) = self.split_from(base, 0, begin)?;
+        let from = self.start_for(end, begin, up_to);
+        match self.split_from(base, from, end) {
+            Ok(_) => Ok(up_to),
+            Err(error) => {
+                self.join(begin, is_new);
+                Err(error)
+            }
+        }
+    }
+
+    // Makes two keys edges as `split_both` does, gives the first something else, and answers what it had. After a refusal the
+    // row is as it was.
+    pub(crate) fn put(&mut self, base: &T, key: &Key, next: &Key, level: T) -> Result<T, AllocError>
+    where
+        T: Spread + Drop,
+        ensures before { IfOk result (λ before. before
+            ≡ held (split_both T.spread key.now next.now (with_base base.now self.old)) key.now) }
+        ensures ok { OnOk result (with_base base.now self.new ≡ changed (is_at (key_cmp key.now)) (λ _. level)
+            (split_both T.spread key.now next.now (with_base base.now self.old))) }
+        ensures err { OnErr result (self.new ≡ self.old) }
+    {
+        let up_to = self.split_both(base, key, next)?;
+        if key.cmp(next).is_lt() {
+            return Ok(self.replace_last_of(up_to, level));
+        }
+        Ok(self.replace(key, level))
     }
 
     // Takes an edge away.
@@ -261,6 +343,19 @@ impl<T> Row<T> {
         ensures after { self.new ≡ changed_entries (is_at (key_cmp key.now)) (λ _. level) self.old }
     {
         let (up_to, _) = self.spot(key);
+        self.replace_last_of(up_to, level)
+    }
+
+    // Gives the last of so many edges something else, and answers what it had.
+    fn replace_last_of(&mut self, up_to: usize, level: T) -> T
+        requires some { 1 ≤ up_to }
+        requires inside { up_to ≤ length self.old }
+        ensures before { (base : T) (key : List ℕ) → up_to ≡ count_while (λ edge. key_le edge key) self.old
+            → result ≡ held_from base self.old key }
+        ensures after { (key : List ℕ) → is_some (lookup (is_at (key_cmp key)) self.old) ≡ true
+            → up_to ≡ count_while (λ edge. key_le edge key) self.old
+            → self.new ≡ changed_entries (is_at (key_cmp key)) (λ _. level) self.old }
+    {
         mem::replace(&mut self.edges[up_to - 1].1, level)
     }
 

@@ -1,6 +1,6 @@
 //! Many edges, in a tree.
 
-ghost use Rattle.std.specs.Prelude.{◌≡◌, true, false, not, [], IsTrue, MatchOption, IfOk, OnOk, OnErr};
+ghost use Rattle.std.specs.Prelude.{◌≡◌, true, false, not, if◌then◌else◌, [], IsTrue, MatchOption, IfOk, OnOk, OnErr};
 ghost use Rattle.std.specs.BTreeMap.{is_at};
 ghost use Rattle.std.specs.List.{filter};
 ghost use Rattle.std.specs.List.Sorted.{IsStrictlySortedBy};
@@ -72,7 +72,7 @@ fn places_of<T>(alloc: Global, edges: &[(Bytes, T)]) -> Result<BTreeMap<Bytes, u
 }
 
 impl<T> Tree<T> {
-    ghost use Rattle.edge_map.specs.Edges.{changed, edges_of, held, is_edge, with_edge, without_edge};
+    ghost use Rattle.edge_map.specs.Edges.{changed, edges_of, held, is_edge, split_both, with_edge, without_edge};
     ghost use Rattle.edge_map.specs.FirstTwo.{are_first_two};
     ghost use Rattle.edge_map.specs.Halves.{is_nil};
 
@@ -226,6 +226,57 @@ impl<T> Tree<T> {
         self.places.insert(key.copy()?, self.levels.len())?;
         self.levels.push(level).unwrap();
         Ok(true)
+    }
+
+    // Takes an edge away again that was none before. It takes no memory.
+    fn join(&mut self, key: &Key, is_new: bool)
+    where
+        T: Drop,
+        ensures { self.new ≡ (if is_new then without_edge key.now self.old else self.old) }
+    {
+        if is_new {
+            self.remove_edge(key);
+        }
+    }
+
+    // Makes two keys edges, one after the other: one search where they are edges with none between, and else five at most.
+    // After a refusal the map is as it was.
+    pub(crate) fn split_both(&mut self, begin: &Key, end: &Key) -> Result<(), AllocError>
+    where
+        T: Spread + Drop,
+        ensures ok { OnOk result (self.new ≡ split_both T.spread begin.now end.now self.old) }
+        ensures err { OnErr result (self.new ≡ self.old) }
+        ensures rising { OnOk result (IsStrictlySortedBy key_cmp (edges_of self.new)) }
+    {
+        if self.has_neighbours(begin, end) {
+            self.shows_rising();
+            return Ok(());
+        }
+        let is_new = self.split(begin)?;
+        match self.split(end) {
+            Ok(_) => {
+                self.shows_rising();
+                Ok(())
+            }
+            Err(error) => {
+                self.join(begin, is_new);
+                Err(error)
+            }
+        }
+    }
+
+    // Makes two keys edges as `split_both` does, gives the first something else, and answers what it had. After a refusal the
+    // map is as it was.
+    pub(crate) fn put(&mut self, key: &Key, next: &Key, level: T) -> Result<T, AllocError>
+    where
+        T: Spread + Drop,
+        ensures before { IfOk result (λ before. before ≡ held (split_both T.spread key.now next.now self.old) key.now) }
+        ensures ok { OnOk result (self.new
+            ≡ changed (is_at (key_cmp key.now)) (λ _. level) (split_both T.spread key.now next.now self.old)) }
+        ensures err { OnErr result (self.new ≡ self.old) }
+    {
+        self.split_both(key, next)?;
+        Ok(self.replace(key, level))
     }
 
     // Takes an edge away: keys from it on have what those before it have. It takes no memory.

@@ -92,21 +92,6 @@ fn raises_ranges(rt: HostRuntime) -> Result<(), Fail> {
     Ok(())
 }
 
-// Whether two keys are edges next to each other.
-fn are_neighbours(alloc: Global, begin: &[u8], end: &[u8]) -> Result<bool, AllocError> {
-    let map = raised(alloc)?;
-    let (begin, end) = (key_of(alloc, begin)?, key_of(alloc, end)?);
-    Ok(map.has_neighbours(&begin, &end))
-}
-
-#[test]
-fn knows_neighbours(rt: HostRuntime) -> Result<(), Fail> {
-    assert!(rt; are_neighbours(rt.alloc(), b"b", b"c")?);
-    assert!(rt; !are_neighbours(rt.alloc(), b"b", b"d")?);
-    assert!(rt; !are_neighbours(rt.alloc(), b"ab", b"b")?);
-    Ok(())
-}
-
 // The edges of a walk as text: each with the lowest byte of what it has.
 fn walked(alloc: Global, edges: EdgesLeft<'_, u64>) -> Result<Bytes, AllocError> {
     let mut text = Bytes::new(alloc);
@@ -147,6 +132,35 @@ fn split_twice(alloc: Global, text: &[u8]) -> Result<[bool; 2], AllocError> {
 #[test]
 fn answers_whether_an_edge_is_new(rt: HostRuntime) -> Result<(), Fail> {
     assert_eq!(rt; split_twice(rt.alloc(), b"bb")?, [true, false]);
+    Ok(())
+}
+
+// Whether a key and the one above it are edges after both were made edges, and what a key between them has.
+fn split_both(alloc: Global) -> Result<(bool, bool, u64), AllocError> {
+    let mut map = raised(alloc)?;
+    let (begin, end) = (key_of(alloc, b"ab")?, key_of(alloc, b"cc")?);
+    map.split_both(&begin, &end)?;
+    let between = *map.at(&key_of(alloc, b"b")?);
+    Ok((map.has_edge(&begin), map.has_edge(&end), between))
+}
+
+#[test]
+fn makes_two_keys_edges(rt: HostRuntime) -> Result<(), Fail> {
+    assert_eq!(rt; split_both(rt.alloc())?, (true, true, 5));
+    Ok(())
+}
+
+// What a key had that was made an edge, up to another, and given 7, and what it and the other have then.
+fn put_up_to(alloc: Global) -> Result<[u64; 3], AllocError> {
+    let mut map = raised(alloc)?;
+    let (key, next) = (key_of(alloc, b"ab")?, key_of(alloc, b"ac")?);
+    let before = map.put(&key, &next, 7)?;
+    Ok([before, *map.at(&key), *map.at(&next)])
+}
+
+#[test]
+fn puts_between_two_edges(rt: HostRuntime) -> Result<(), Fail> {
+    assert_eq!(rt; put_up_to(rt.alloc())?, [2, 7, 2]);
     Ok(())
 }
 

@@ -3,14 +3,15 @@ use Rattle.std.proofs.Common.{◌≡◌, ℕ, Bool, true, false, cond, List, [],
 use Rattle.std.proofs.lemmas.Bool.{false≢true}
 use Rattle.std.specs.BTreeMap.{is_at}
 use Rattle.std.specs.List.Sorted.{IsStrictlySortedBy}
-use Rattle.std.specs.Map.{keys_of, lookup}
+use Rattle.std.specs.Map.{lookup}
 use Rattle.std.specs.Option.{option_map}
 use Rattle.key_bytes.specs.Keys.{key_cmp, after}
 use Rattle.database_rules.specs.declared.AtomicOp.{AtomicOp}
 use Rattle.database_rules.specs.States.{after_atomic}
-use Rattle.edge_map.specs.Edges.{Edges, held, is_edge, changed, changed_entries}
+use Rattle.edge_map.specs.Edges.{Edges, held, edges_of, is_edge, changed, changed_entries}
 use Rattle.edge_map.proofs.Edged.{changed_back, changed_twice}
 use Rattle.edge_map.proofs.Held.{IsRising, held-at}
+use Rattle.edge_map.proofs.Lined.{keys_of-changed}
 use Rattle.write_map.specs.declared.level.Level.{Level}
 use Rattle.write_map.specs.declared.level.State.{State}
 use Rattle.write_map.specs.Pending.{is_single_state}
@@ -62,33 +63,41 @@ module _ (key : List ℕ) where
   some_given x None there = absurd (false≢true there)
   some_given x (Some y) there = refl
 
-  keys_given : {X : Type 0} (x : X) (es : List (List ℕ × X)) → keys_of (changed_entries (is_at (key_cmp key)) (λ _. x) es) ≡ keys_of es
-  keys_given x [] = refl
-  keys_given x (e ∷ es) = ap (λ keys. e.0 ∷ keys) (keys_given x es)
+  -- what edges have may change, and the edges still rise that rose before
+  pub rising_before : (x : Level) (old new : Edges Level) → new ≡ changed (is_at (key_cmp key)) (λ _. x) old → IsRising new.entries
+      → IsRising old.entries
+  rising_before x old new is rising =
+      subst (IsStrictlySortedBy key_cmp) (ap edges_of is ∙ keys_of-changed (is_at (key_cmp key)) (λ _. x) old.entries) rising
 
   -- an edge has what it is given
-  held_given : (level : Level) (levels : Edges Level) → IsRising levels.entries → is_edge key levels ≡ true
-      → held (changed (is_at (key_cmp key)) (λ _. level) levels) key ≡ level
-  held_given level levels rising there =
-      held-at levels.base level (changed_entries (is_at (key_cmp key)) (λ _. level) levels.entries) key
-      (subst (IsStrictlySortedBy key_cmp) (sym (keys_given level levels.entries)) rising)
-      (found_given level levels.entries ∙ some_given level (lookup (is_at (key_cmp key)) levels.entries) there)
+  held_given : (level : Level) (old new : Edges Level) → new ≡ changed (is_at (key_cmp key)) (λ _. level) old → IsRising new.entries
+      → is_edge key old ≡ true → held new key ≡ level
+  held_given level old new is rising there =
+      ap (λ levels. held levels key) is
+      ∙ held-at old.base level (changed_entries (is_at (key_cmp key)) (λ _. level) old.entries) key
+      (subst (λ levels. IsRising levels.entries) is rising)
+      (found_given level old.entries ∙ some_given level (lookup (is_at (key_cmp key)) old.entries) there)
 
-  -- an unreadable edge that was given a state is made unreadable again
-  pub hidden_again : (state : State) (old given back new : Edges Level) (level before taken last : Level) → IsRising old.entries
+  -- an edge is made unreadable again, by what it had in between
+  pub hidden_back : (old back new : Edges Level) (before taken last : Level) → back ≡ changed (is_at (key_cmp key)) (λ _. before) old
+      → taken ≡ held old key → new ≡ changed (is_at (key_cmp key)) (λ _. last) back → last ≡ hidden taken
+      → new ≡ changed (is_at (key_cmp key)) (λ _. hidden (held old key)) old
+  hidden_back old back new before taken last out was back_in made =
+      back_in
+      ∙ ap (changed (is_at (key_cmp key)) (λ _. last)) out
+      ∙ changed_twice (is_at (key_cmp key)) before last old
+      ∙ ap (λ level. changed (is_at (key_cmp key)) (λ _. level) old) (made ∙ ap hidden was)
+
+  -- an unreadable edge that was given a state has the state, and is unreadable, once it is made so again
+  pub hidden_again : (state : State) (old given new : Edges Level) (level before : Level) → IsRising given.entries
       → is_edge key old ≡ true → level ≡ record { state = state; is_unreadable = false }
-      → given ≡ changed (is_at (key_cmp key)) (λ _. level) old → before ≡ held old key
-      → back ≡ changed (is_at (key_cmp key)) (λ _. before) given → taken ≡ held given key
-      → new ≡ changed (is_at (key_cmp key)) (λ _. last) back → last ≡ hidden taken → before.is_unreadable ≡ true
+      → given ≡ changed (is_at (key_cmp key)) (λ _. level) old → before ≡ held old key → before.is_unreadable ≡ true
+      → new ≡ changed (is_at (key_cmp key)) (λ _. hidden (held given key)) given
       → new ≡ changed (is_at (key_cmp key)) (λ _. with_state state (held old key)) old
-  hidden_again state old given back new level before taken last rising there is first was second took third made hides =
-      let now : taken ≡ level = took ∙ ap (λ levels. held levels key) first ∙ held_given level old rising there in
-      third
-      ∙ ap (changed (is_at (key_cmp key)) (λ _. last)) second
-      ∙ changed_twice (is_at (key_cmp key)) before last given
-      ∙ ap (changed (is_at (key_cmp key)) (λ _. last)) first
-      ∙ changed_twice (is_at (key_cmp key)) level last old
+  hidden_again state old given new level before rising there is first was hides second =
+      second
+      ∙ ap (changed (is_at (key_cmp key)) (λ _. hidden (held given key))) first
+      ∙ changed_twice (is_at (key_cmp key)) level (hidden (held given key)) old
       ∙ ap (λ level. changed (is_at (key_cmp key)) (λ _. level) old)
-      (made
-      ∙ ap hidden (now ∙ is)
+      (ap hidden (held_given level old given first rising there ∙ is)
       ∙ ap (λ (flag : Bool). record { state = state; is_unreadable = flag }) (sym (sym (ap (λ level. level.is_unreadable) was) ∙ hides)))

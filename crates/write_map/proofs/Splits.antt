@@ -1,14 +1,14 @@
 -- Two keys are made edges: no key has anything else.
-use Rattle.std.proofs.Common.{◌≡◌, ℕ, Bool, true, false, cond, not, List, Some, None, refl, sym, ap, ◌∙◌, true≢false}
+use Rattle.std.proofs.Common.{◌≡◌, ℕ, true, false, List, Some, None, refl, sym, ap, ◌∙◌, true≢false}
 use Rattle.key_bytes.specs.Keys.{after}
-use Rattle.edge_map.specs.Edges.{Edges, held, is_edge, without_edge}
-use Rattle.edge_map.proofs.Edged.{edge_made, edge_kept, base-with_edge, without_new, with_edge-there}
+use Rattle.edge_map.specs.Edges.{Edges, held, is_edge, split_at, split_both}
+use Rattle.edge_map.proofs.Edged.{edge_made, edge_kept, base-with_edge}
 use Rattle.edge_map.proofs.Held.{held-with_edge}
 use Rattle.write_map.specs.declared.level.Level.{Level}
 use Rattle.write_map.specs.declared.level.State.{State}
 use Rattle.write_map.specs.declared.level.State.TheVariants as kept
 use Rattle.write_map.specs.Pending.{is_single_state}
-use Rattle.write_map.specs.Levels.{state_of, spread_state, spread, split_at, AreSingle}
+use Rattle.write_map.specs.Levels.{state_of, spread_state, spread, AreSingle}
 
 -- what is of more keys than one is what it leaves for a new edge
 spread_shared : (level : Level) → is_single_state (state_of level.state) ≡ false → spread level ≡ level
@@ -38,22 +38,22 @@ pub record IsSplit (begin end : List ℕ) (old new : Edges Level) : Type 0 where
   pub begins : is_edge begin new ≡ true
   pub ends : is_edge end new ≡ true
 
-split_same : (key : List ℕ) (levels : Edges Level) → AreSingle levels → (k : List ℕ) → held (split_at key levels) k ≡ held levels k
+split_same : (key : List ℕ) (levels : Edges Level) → AreSingle levels → (k : List ℕ) → held (split_at spread key levels) k ≡ held levels k
 split_same key levels single k =
     held-with_edge key (spread (held levels key)) levels k (λ new. spread_shared (held levels key) (shared_between levels single key new))
 
-split_kept : (q key : List ℕ) (levels : Edges Level) → is_edge q levels ≡ true → is_edge q (split_at key levels) ≡ true
+split_kept : (q key : List ℕ) (levels : Edges Level) → is_edge q levels ≡ true → is_edge q (split_at spread key levels) ≡ true
 split_kept q key levels = edge_kept q key (spread (held levels key)) levels
 
-split_single : (key : List ℕ) (levels : Edges Level) → AreSingle levels → AreSingle (split_at key levels)
+split_single : (key : List ℕ) (levels : Edges Level) → AreSingle levels → AreSingle (split_at spread key levels)
 split_single key levels single k is =
     let edges = single k (sym (ap (λ level. is_single_state (state_of level.state)) (split_same key levels single k)) ∙ is) in
     (split_kept k key levels edges.0, split_kept (after k) key levels edges.1)
 
-pub is_split : (begin end : List ℕ) (old new : Edges Level) → AreSingle old → new ≡ split_at end (split_at begin old)
+pub is_split : (begin end : List ℕ) (old new : Edges Level) → AreSingle old → new ≡ split_both spread begin end old
     → IsSplit begin end old new
 is_split begin end old new single is =
-    let half = split_at begin old in
+    let half = split_at spread begin old in
     let half_single = split_single begin old single in
     record {
       base =
@@ -64,12 +64,3 @@ is_split begin end old new single is =
       begins = ap (is_edge begin) is ∙ split_kept begin end half (edge_made begin (spread (held old begin)) old);
       ends = ap (is_edge end) is ∙ edge_made end (spread (held half end)) half;
     }
-
--- a key that was made an edge is none again
-pub joined : (key : List ℕ) (old : Edges Level)
-    → cond (not (is_edge key old)) (without_edge key (split_at key old)) (split_at key old) ≡ old
-joined key old = by_edge (is_edge key old) refl
-  where
-    by_edge : (t : Bool) → is_edge key old ≡ t → cond (not t) (without_edge key (split_at key old)) (split_at key old) ≡ old
-    by_edge true there = with_edge-there key (spread (held old key)) old there
-    by_edge false new = without_new key (spread (held old key)) old new

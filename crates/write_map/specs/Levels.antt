@@ -4,7 +4,7 @@ use Rattle.std.specs.Option.{option_map}
 use Rattle.std.specs.List.{All, list_any}
 use Rattle.std.specs.BTreeMap.{is_at}
 use Rattle.key_bytes.specs.Keys.{key_cmp, after}
-use Rattle.edge_map.specs.Edges.{Edges, held, is_edge, with_edge, changed}
+use Rattle.edge_map.specs.Edges.{Edges, held, is_edge, changed}
 use Rattle.database_rules.specs.declared.AtomicOp.{AtomicOp}
 use Rattle.database_rules.specs.Databases.{Mutation}
 use Rattle.database_rules.specs.States.{KeyState, Unmodified, Decided, Depends, after_atomic, covers, state_under, unreadable}
@@ -33,10 +33,6 @@ spread_state (kept.Depends edits) = kept.Decided None
 
 abbrev pub spread : Level → Level
 spread level = record level { state = spread_state level.state }
-
--- with a key as an edge, which has what the key had
-abbrev pub split_at : List ℕ → Edges Level → Edges Level
-split_at key levels = with_edge key (spread (held levels key)) levels
 
 -- an edge has a state in place of its own
 abbrev pub with_state : State → Level → Level

@@ -1,11 +1,11 @@
 //! Changes of the levels.
 
-ghost use Rattle.std.specs.Prelude.{◌≡◌, true, if◌then◌else◌, IsTrue, OnOk, OnErr};
+ghost use Rattle.std.specs.Prelude.{◌≡◌, true, IsTrue, OnOk, OnErr};
 ghost use Rattle.std.specs.BTreeMap.{is_at};
 ghost use Rattle.std.specs.List.Sorted.{IsStrictlySortedBy};
 ghost use Rattle.key_bytes.specs.Keys.{key_cmp};
-ghost use Rattle.edge_map.specs.Edges.{changed, edges_of, held, is_edge, without_edge};
-ghost use Rattle.write_map.specs.Levels.{cleared, hidden, is_list, split_at, with_state, IsEdited};
+ghost use Rattle.edge_map.specs.Edges.{changed, edges_of, held, is_edge, split_both};
+ghost use Rattle.write_map.specs.Levels.{cleared, hidden, is_list, spread, with_state, IsEdited};
 
 use crate::edits::AtomicEdit;
 use crate::level::{Level, State};
@@ -39,60 +39,41 @@ impl Change<Level> for HideKeys {
     }
 }
 
-// Takes an edge away again that was none before.
-fn join(levels: &mut EdgeMap<Level>, key: &Key, is_new: bool)
-    ensures { levels.new ≡ (if is_new then without_edge key.now levels.old else levels.old) }
-{
-    if is_new {
-        levels.remove_edge(key);
-    }
-}
-
-// Makes two keys edges: one search where they are edges with none between, and else three or more. After a refusal the levels
-// are as they were.
-pub(crate) fn split_both(
+// Makes a key and the one above it edges, and gives the key another state: one call of `put`, and two searches more where the key
+// is unreadable, and stays so. After a refusal the levels are as they were.
+pub(crate) fn put_state(
     levels: &mut EdgeMap<Level>,
-    begin: &Key,
-    end: &Key,
+    key: &Key,
+    next: &Key,
+    state: State,
 ) -> Result<(), AllocError>
-    ensures ok { OnOk result (levels.new ≡ split_at end.now (split_at begin.now levels.old)) }
+    ensures ok { OnOk result (let split = split_both spread key.now next.now levels.old in
+        levels.new ≡ changed (is_at (key_cmp key.now)) (λ _. with_state state (held split key.now)) split) }
     ensures err { OnErr result (levels.new ≡ levels.old) }
     ensures rising { OnOk result (IsStrictlySortedBy key_cmp (edges_of levels.new)) }
 {
-    if levels.has_neighbours(begin, end) {
-        levels.shows_rising();
-        return Ok(());
-    }
-    let is_new = levels.split(begin)?;
-    match levels.split(end) {
-        Ok(_) => {
-            levels.shows_rising();
-            Ok(())
-        }
-        Err(error) => {
-            join(levels, begin, is_new);
-            Err(error)
-        }
-    }
-}
-
-// Gives an edge another state: one search of the edges, and two more where it is unreadable, and stays so.
-pub(crate) fn set_state(levels: &mut EdgeMap<Level>, key: &Key, state: State)
-    requires { IsTrue (is_edge key.now levels.old) }
-    ensures { levels.new
-        ≡ changed (is_at (key_cmp key.now)) (λ _. with_state state (held levels.old key.now)) levels.old }
-{
-    levels.shows_rising();
     let level = Level {
         state,
         is_unreadable: false,
     };
-    let before = levels.replace(key, level);
+    let before = levels.put(key, next, level)?;
+    levels.shows_rising();
     if before.is_unreadable {
-        let mut taken = levels.replace(key, before);
-        taken.is_unreadable = true;
-        let _before = levels.replace(key, taken);
+        hide_again(levels, key, before);
     }
+    Ok(())
+}
+
+// Makes an edge unreadable again that was so before it got another state: `before` is what it had.
+fn hide_again(levels: &mut EdgeMap<Level>, key: &Key, before: Level)
+    requires { IsTrue (is_edge key.now levels.old) }
+    ensures given { levels.new ≡ changed (is_at (key_cmp key.now)) (λ _. hidden (held levels.old key.now)) levels.old }
+    ensures rising { IsStrictlySortedBy key_cmp (edges_of levels.new) }
+{
+    let mut taken = levels.replace(key, before);
+    taken.is_unreadable = true;
+    let _before = levels.replace(key, taken);
+    levels.shows_rising();
 }
 
 // Adds an operation to the list of operations that an edge has. After a refusal the levels are as they were.

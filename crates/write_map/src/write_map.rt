@@ -14,7 +14,7 @@ ghost use Rattle.write_map.specs.Pending.{AreAlike, IsBare, IsBelowEdge, IsDepen
 ghost use Rattle.write_map.specs.Stamps.{is_stamped, HasRoom};
 ghost use Rattle.write_map.specs.Answers.{IsStateUnder};
 
-use crate::changing::{ClearKeys, HideKeys, push_edit, set_state, split_both};
+use crate::changing::{ClearKeys, HideKeys, push_edit, put_state};
 use crate::edits::AtomicEdit;
 use crate::level::{Level, State};
 use crate::mutation::Mutation;
@@ -170,8 +170,8 @@ impl WriteMap {
         }
     }
 
-    // Adds a mutation of one key, after which it has this state. It searches the edges six times at most, and twice more
-    // where the key is unreadable. After a refusal the map is as it was.
+    // Adds a mutation of one key, after which it has this state. It takes one walk along a few edges, or six searches of more at
+    // most, and two more where the key is unreadable. After a refusal the map is as it was.
     fn put(&mut self, mutation: Mutation, key: &Key, state: State) -> Result<(), AllocError>
         requires one { IsOn key.now (mutation_of mutation) }
         requires state { state_of state ≡ state_after (mutation_of mutation) key.now (state_under self.old.mutations key.now) }
@@ -181,8 +181,7 @@ impl WriteMap {
     {
         let end = key.after()?;
         self.log.reserve(1)?;
-        split_both(&mut self.levels, key, &end)?;
-        set_state(&mut self.levels, key, state);
+        put_state(&mut self.levels, key, &end, state)?;
         self.log.push(mutation).unwrap();
         Ok(())
     }
@@ -212,8 +211,9 @@ impl WriteMap {
         self.put(Mutation::Clear { key: own }, &key, State::Decided(None))
     }
 
-    /// Clears the keys of a range: one mutation more. It searches the edges six times at most, and writes once for each edge
-    /// in the range. After a refusal the map is as it was (API reference, "fdb_transaction_clear_range").
+    /// Clears the keys of a range: one mutation more. It takes two walks along a few edges, or six searches of more at most,
+    /// and writes once for each edge in the range. After a refusal the map is as it was (API reference,
+    /// "fdb_transaction_clear_range").
     pub fn clear_range(&mut self, range: &KeyRange) -> Result<(), AllocError>
         ensures added { OnOk result (self.new.mutations
             ≡ self.old.mutations ++ rules.ClearRange range.now.begin range.now.end ∷ []) }
@@ -222,7 +222,7 @@ impl WriteMap {
         let begin = range.begin.copy()?;
         let end = range.end.copy()?;
         self.log.reserve(1)?;
-        split_both(&mut self.levels, &begin, &end)?;
+        self.levels.split_both(&begin, &end)?;
         self.levels.change(&begin, &end, &ClearKeys);
         let range = KeyRange { begin, end };
         self.log.push(Mutation::ClearRange { range }).unwrap();
@@ -275,7 +275,7 @@ impl WriteMap {
         ensures unchanged { OnErr result (self.new ≡ self.old) }
     {
         self.log.reserve(1)?;
-        split_both(&mut self.levels, &keys.begin, &keys.end)?;
+        self.levels.split_both(&keys.begin, &keys.end)?;
         self.levels.change(&keys.begin, &keys.end, &HideKeys);
         self.log.push(mutation).unwrap();
         self.is_stamped = true;

@@ -17,19 +17,19 @@ returns-then-is_empty-clause-ok c key =
 pub returns-clause-ok : goal.returns-clause-ok
 returns-clause-ok c =
     let range = c.args.range.now in
-    put_at range.begin range.end c.args.membership c.args.members.now c.split_both.new.edges c.give.new.members
-    c.in_ok-split_both.ensures.ok c.in_ok-split_both.ensures.rising c.give.ensures.given
+    put_at range.begin range.end c.args.membership c.args.members.now c.split.new.members c.give.new.members
+    c.in_ok-split.ensures.ok c.in_ok-split.ensures.rising c.give.ensures.given
 
 pub returns-clause-sound : goal.returns-clause-sound
 returns-clause-sound c sound =
     let range = c.args.range.now in
-    let split = c.in_ok-split_both.ensures.ok in
-    sound_given range c.args.membership c.split_both.new.edges c.give.new.members split.begins split.ends
+    let split = c.in_ok-split.ensures.ok in
+    sound_given range c.args.membership c.split.new.members c.give.new.members split.begins split.ends
     c.give.ensures.given
-    (sound_split range.begin range.end c.args.members.now c.split_both.new.edges split c.in_ok-split_both.ensures.rising sound)
+    (sound_split range.begin range.end c.args.members.now c.split.new.members split c.in_ok-split.ensures.rising sound)
 
 pub returns-clause-few : goal.returns-clause-few
 returns-clause-few c =
-    let given = length_given _ c.args.membership c.split_both.new.edges c.give.new.members c.give.ensures.given in
-    let more = c.in_ok-split_both.ensures.ok.few in
+    let given = length_given _ c.args.membership c.split.new.members c.give.new.members c.give.ensures.given in
+    let more = c.in_ok-split.ensures.ok.few in
     omega (arith, given, more)

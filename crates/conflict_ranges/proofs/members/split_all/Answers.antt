@@ -8,12 +8,12 @@ use Rattle.conflict_ranges.proofs.members.split_all.Goals as goal
 pub loop-range-preserved : goal.loop-range-preserved
 loop-range-preserved c =
     let ranges = c.args.ranges.now in let index = c.loop-range.range-index in let range = c.range-item.result in
-    let now = c.loop-range.members in let new = c.split_both.new.edges in
-    let split = c.in_ok-split_both.ensures.ok in
+    let now = c.loop-range.members in let new = c.split.new.members in
+    let split = c.in_ok-split.ensures.ok in
     let more : index < length ranges = omega arith in
     record {
       same = λ key. split.same key ∙ c.loop-range.invariant.same key;
-      sound = λ sound. sound_split range.begin range.end now new split c.in_ok-split_both.ensures.rising (c.loop-range.invariant.sound sound);
+      sound = λ sound. sound_split range.begin range.end now new split c.in_ok-split.ensures.rising (c.loop-range.invariant.sound sound);
       few = let more = split.few in omega (arith, more, c.loop-range.invariant.few);
       room =
           gives_room-split range (drop (index + 1) ranges) ranges now new split

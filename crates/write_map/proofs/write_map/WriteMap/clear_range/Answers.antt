@@ -15,7 +15,7 @@ invariant_of-self-2 c =
     let begin = c.in_ok-begin.begin in
     let end = c.in_ok-end.end in
     let old = c.self.inside.levels in
-    let split = c.split_both.new.levels in
+    let split = c.split_both.new.self in
     let log = mutations_of c.self.inside.log.items in
     subst (λ mutations. IsKept mutations c.change.new.self c.self.inside.is_stamped)
     (sym (log_added c.self.inside.log.items c.reserve.new.self.items c.push.new.self.items _ c.push.result c.unwrap.result

@@ -14,7 +14,7 @@ invariant_of-self-2 c =
     let begin = c.args.keys.now.begin in
     let end = c.args.keys.now.end in
     let old = c.self.inside.levels in
-    let split = c.split_both.new.levels in
+    let split = c.split_both.new.self in
     let mutation = mutation_of c.args.mutation in
     let log = mutations_of c.self.inside.log.items in
     subst (λ mutations. IsKept mutations c.change.new.self true)

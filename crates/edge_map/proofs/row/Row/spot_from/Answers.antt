@@ -1,8 +1,16 @@
 use Rattle.std.proofs.Common.{◌+◌, ◌<◌, length, drop, is_gt, is_eq, refl, sym, ap, subst, ◌∙◌, arith}
 use Rattle.key_bytes.specs.Keys.{key_cmp}
 use Rattle.edge_map.proofs.Held.{IsRising, rising_rest}
+use Rattle.edge_map.proofs.Lined.{rising_drop}
 use Rattle.edge_map.proofs.Searched.{left_from, spot_here, spot_past, spot_before}
-use Rattle.edge_map.proofs.row.Row.spot.Goals as goal
+use Rattle.edge_map.proofs.Walked.{walk_on}
+use Rattle.edge_map.proofs.row.Row.spot_from.Goals as goal
+
+pub loop-at-init : goal.loop-at-init
+loop-at-init g c =
+    let all = c.args.self.now in let from = c.args.from in
+    let left = walk_on c.args.key.now all from c.requires in
+    record { inside = left.0; counted = left.1; among = left.2; rising = rising_drop from all (subst IsRising c.self.view_is c.self.invariant) }
 
 pub returns-then-is_eq-clause-count : goal.returns-then-is_eq-clause-count
 returns-then-is_eq-clause-count g c =

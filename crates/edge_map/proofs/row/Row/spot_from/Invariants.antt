@@ -2,7 +2,7 @@ use Rattle.std.proofs.Common.{length, ◌-◌, ◌≡◌, ◌≤◌, ◌+◌, dr
 use Rattle.key_bytes.specs.Keys.{key_le}
 use Rattle.edge_map.specs.Halves.{count_while}
 use Rattle.edge_map.proofs.Held.{IsRising, is_among}
-use Rattle.edge_map.proofs.row.Row.spot.Given as goal
+use Rattle.edge_map.proofs.row.Row.spot_from.Given as goal
 
 -- the edges before the place are below the key
 abbrev pub invariant-loop-at : goal.invariant-loop-at

@@ -2,8 +2,8 @@ use Rattle.std.proofs.Common.{ℕ, List, Option, is_lt, sym, ap, ◌∙◌}
 use Rattle.std.specs.Option.{option_map}
 use denote.Bor.{Bor}
 use Rattle.conflict_ranges.proofs.Nexts.{next_at, none_within, none_above}
-use Rattle.conflict_ranges.proofs.splitting.around_within.Goals as goal
-use Rattle.conflict_ranges.proofs.splitting.around_within.Goals.{in_default-via-in-Some+else-is_lt, in_default-via-in_default}
+use Rattle.conflict_ranges.proofs.walking.around_within.Goals as goal
+use Rattle.conflict_ranges.proofs.walking.around_within.Goals.{in_default-via-in-Some+else-is_lt, in_default-via-in_default}
 
 -- the key of an edge
 abbrev key_of : Option (Bor (List ℕ)) → Option (List ℕ)
