@@ -1,5 +1,5 @@
-//! The grants that `crates/allocator_bench` makes, as an ordinary Rust program makes them: the same steps over a database of its
-//! own, and the same number printed.
+//! The grants that `crates/allocator_bench` makes, as a lean Rust program makes them, which does nothing else: the same steps over
+//! a database of its own, and the same number printed.
 //!
 //! The database is one `BTreeMap`, whose entries have the value of each version that wrote them, the newest last, one of the
 //! version that last declared each key, and a list of the ranges that were declared. A transaction keeps its writes by key and

@@ -4,7 +4,7 @@
 use super::bytes::Bytes;
 use super::calls::{behind, Pairs, Range, Store, Transaction};
 use super::elements::{put, put_string, unpack, Element};
-use super::granting::allocate;
+use super::granting::{allocate, ROOT};
 use super::words::Words;
 
 const NODE: &[u8] = b"\xFE";
@@ -134,7 +134,7 @@ impl Call<'_> {
 
     /// A number that the allocator grants, packed, where no key and no directory stands.
     fn new_prefix(&mut self) -> Result<Bytes, Fault> {
-        let number = allocate(self)?;
+        let number = allocate(self, &ROOT)?;
         let mut packed = Vec::new();
         put(&mut packed, &Element::Int(number.into()), false);
         let prefix = Bytes::from(packed.as_slice());

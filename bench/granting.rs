@@ -1,13 +1,20 @@
-//! The allocator of the directories, whose subspace stands in the node of the root.
+//! The allocator of a subspace: that of the directories stands in the node of the root.
 
 use super::bytes::Bytes;
 use super::calls::Range;
 use super::directories::{refuse_where, Call, Fault};
 use super::elements::{put, unpack, Element};
 
-/// What the counters begin with, and the numbers that were tried.
-const COUNTERS: &[u8] = b"\xFE\x01\xFE\x00\x01hca\x00\x14";
-const RECENT: &[u8] = b"\xFE\x01\xFE\x00\x01hca\x00\x15\x01";
+/// What the counters of an allocator begin with, and the numbers that were tried.
+pub struct Prefixes {
+    pub counters: &'static [u8],
+    pub recent: &'static [u8],
+}
+
+/// Those of the allocator of the directories.
+#[allow(dead_code)]
+pub const ROOT: Prefixes =
+    Prefixes { counters: b"\xFE\x01\xFE\x00\x01hca\x00\x14", recent: b"\xFE\x01\xFE\x00\x01hca\x00\x15\x01" };
 
 const RANDOM_TRIES: u32 = 32;
 const GREATEST_COUNTER: i128 = 1 << 62;
@@ -31,33 +38,33 @@ fn key_of(prefix: &[u8], number: u64) -> Bytes {
 }
 
 /// The number of a counter's key.
-fn number_in(key: &[u8]) -> Option<u64> {
-    match unpack(key.strip_prefix(COUNTERS)?)?.as_slice() {
+fn number_in(counters: &[u8], key: &[u8]) -> Option<u64> {
+    match unpack(key.strip_prefix(counters)?)?.as_slice() {
         [Element::Int(number @ 0..=GREATEST_COUNTER)] => u64::try_from(*number).ok(),
         _ => None,
     }
 }
 
 /// Grants a number.
-pub fn allocate(call: &mut Call) -> Result<u64, Fault> {
-    let mut start = greatest(call)?;
-    if count_is_half(call, start)? {
+pub fn allocate(call: &mut Call, prefixes: &Prefixes) -> Result<u64, Fault> {
+    let mut start = greatest(call, prefixes.counters)?;
+    if count_is_half(call, prefixes.counters, start)? {
         start += window(start);
-        call.transaction.clear_range(COUNTERS.into(), key_of(COUNTERS, start))?;
+        call.transaction.clear_range(prefixes.counters.into(), key_of(prefixes.counters, start))?;
         call.transaction.silence();
-        call.transaction.clear_range(RECENT.into(), key_of(RECENT, start))?;
-        count_is_half(call, start)?;
+        call.transaction.clear_range(prefixes.recent.into(), key_of(prefixes.recent, start))?;
+        count_is_half(call, prefixes.counters, start)?;
     }
     let size = window(start);
     let mut last = 0;
     for _ in 0..RANDOM_TRIES {
         last = u64::from(call.words.next()) % size;
-        if is_granted(call, start + last)? {
+        if is_granted(call, prefixes.recent, start + last)? {
             return Ok(start + last);
         }
     }
     for number in (1..=size).map(|distance| start + (last + distance) % size) {
-        if is_granted(call, number)? {
+        if is_granted(call, prefixes.recent, number)? {
             return Ok(number);
         }
     }
@@ -65,18 +72,18 @@ pub fn allocate(call: &mut Call) -> Result<u64, Fault> {
 }
 
 /// The start of the window with the greatest counter, or 0 where there is none.
-fn greatest(call: &mut Call) -> Result<u64, Fault> {
-    let (begin, end) = ([COUNTERS, &[0x00]].concat(), [COUNTERS, &[0xFF]].concat());
+fn greatest(call: &mut Call, counters: &[u8]) -> Result<u64, Fault> {
+    let (begin, end) = ([counters, &[0x00]].concat(), [counters, &[0xFF]].concat());
     let range = Range { begin: begin.as_slice().into(), end: end.as_slice().into(), limit: 1, reverse: true };
     let pairs = call.transaction.get_range(call.store, &range, true)?;
-    let number = pairs.first().map_or(Some(0), |(key, _)| number_in(key));
+    let number = pairs.first().map_or(Some(0), |(key, _)| number_in(counters, key));
     refuse_where(number.is_none(), "BadCounter")?;
     Ok(number.unwrap_or(0))
 }
 
 /// Counts one more on a window, and tells whether it counts half of it.
-fn count_is_half(call: &mut Call, start: u64) -> Result<bool, Fault> {
-    let key = key_of(COUNTERS, start);
+fn count_is_half(call: &mut Call, counters: &[u8], start: u64) -> Result<bool, Fault> {
+    let key = key_of(counters, start);
     call.transaction.add(key.clone(), ONE.as_slice().into())?;
     let value = call.transaction.get(call.store, &key, true)?;
     let count = value.map_or(0, |value| i64::from_le_bytes(value[..8].try_into().expect("8 bytes were added to it")));
@@ -84,8 +91,8 @@ fn count_is_half(call: &mut Call, start: u64) -> Result<bool, Fault> {
 }
 
 /// Whether a number was absent, which it is no more.
-fn is_granted(call: &mut Call, number: u64) -> Result<bool, Fault> {
-    let key = key_of(RECENT, number);
+fn is_granted(call: &mut Call, recent: &[u8], number: u64) -> Result<bool, Fault> {
+    let key = key_of(recent, number);
     let is_absent = call.transaction.get(call.store, &key, false)?.is_none();
     call.transaction.silence();
     call.transaction.set(key.clone(), b"".as_slice().into())?;

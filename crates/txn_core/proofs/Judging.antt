@@ -57,10 +57,12 @@ pub none_newer : (index : Index) (history : History) (version newest : ℕ) (rea
     → ((key : List ℕ) → newest_at index key ≤ newest) → newest ≤ version
     → conflicts history version reads ≡ false
 none_newer index history version newest reads same above old =
-    same_from_decides (conflicts history version reads) false (conflicts_decides history version reads)
-    (λ never. absurd (both_ways false refl never), λ newer.
-        let less = ltb-true version (newest_of history newer.0) newer.2 in let most = above newer.0 in let is = same newer.0 in
-        absurd (omega (arith, less, most, is, old)))
+    same_from_decides (conflicts history version reads) false (conflicts_decides history version reads) (
+      λ never. absurd (both_ways false refl never),
+      λ newer.
+          let less = ltb-true version (newest_of history newer.0) newer.2 in let most = above newer.0 in let is = same newer.0 in
+          absurd (omega (arith, less, most, is, old)),
+    )
 
 -- the first of some ranges is judged by its newest commit
 pub judged_first : (history : History) (version : ℕ) (range : KeyRange) (left : List KeyRange) (newest : ℕ) → IsNewestIn history range newest
