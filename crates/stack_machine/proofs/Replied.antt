@@ -1,11 +1,13 @@
 -- A reply that no poll awaits is used by what is awaited.
-use Rattle.std.proofs.Common.{◌≡◌, ℕ, List, refl, sym, ap, ◌∙◌}
+use Rattle.std.proofs.Common.{◌≡◌, ℕ, List, refl, sym, ap, subst, ◌∙◌}
 use Rattle.fdb_calls.specs.declared.Reply.{Reply}
 use Rattle.machine_rules.specs.declared.Awaits.{Awaits}
 use Rattle.machine_rules.specs.declared.Awaits.TheVariants as awaits
 use Rattle.machine_rules.specs.declared.State.TheVariants as state
 use Rattle.machine_rules.specs.declared.Wait.{Wait}
 use Rattle.machine_rules.specs.Machines.{Machine, Progress, Registers, Act, Does, Stops, Asks, acted, replied_act, resumed, resumed_by, use_of, used}
+use Rattle.stack_machine.specs.Acts.{act_with}
+use Rattle.stack_machine.specs.declared.act.Act.{Act as Answer}
 use Rattle.stack_machine.specs.declared.machine.Step.{Step}
 use Rattle.stack_machine.specs.MachineModel.{MachineModel}
 use Rattle.stack_machine.specs.Steps.{Moves, answer_of}
@@ -18,7 +20,7 @@ acted_registers machine registers (Stops left end) = refl
 acted_registers machine registers (Asks left request awaiting) = refl
 
 -- what came of a reply to what is awaited, done by the machine with the registers that it left, is what the machine makes of the reply
-pub resumed_as : (old : MachineModel) (registers : Registers) (act : Act) (awaiting its : Awaits) (given : Reply) (answer : Step) (new : MachineModel)
+resumed_as : (old : MachineModel) (registers : Registers) (act : Act) (awaiting its : Awaits) (given : Reply) (answer : Step) (new : MachineModel)
     → old.machine.state ≡ state.Awaiting awaiting → awaiting ≡ its → act ≡ replied_act its old.machine given
     → Moves (record old { machine = record old.machine { registers = registers } }) (acted (record old.machine { registers = registers }) act) answer new
     → Moves old (resumed old.machine given) answer new
@@ -45,15 +47,27 @@ plain_act (awaits.LoggedStamp prefix wait) machine given polls logs watches = ab
 plain_act (awaits.Empty prefix polled) machine given polls logs watches = absurd (watches prefix polled refl)
 plain_act awaiting machine given polls logs watches = refl
 
--- the same of a reply that no poll awaits
-pub resumed_plainly : (old : MachineModel) (registers : Registers) (act : Act) (awaiting : Awaits) (given : Reply) (answer : Step) (new : MachineModel)
-    → old.machine.state ≡ state.Awaiting awaiting
+-- what is awaited came to an answer, by a machine with the registers that it left
+pub record Came (old left : MachineModel) (awaiting : Awaits) (given : Reply) (answer : Answer) : Type 0 where
+  pub registers : Registers
+  pub its : Awaits
+  pub exact : awaiting ≡ its
+  pub stands : left ≡ record old { machine = record old.machine { registers = registers } }
+  pub is : act_with registers answer ≡ replied_act its old.machine given
+
+-- what that machine makes of it is what the machine makes of the reply
+pub resumed_by_answer : (old left : MachineModel) (awaiting : Awaits) (given : Reply) (its : Answer) (answer : Step) (new : MachineModel)
+    → old.machine.state ≡ state.Awaiting awaiting → Came old left awaiting given its
+    → Moves left (acted left.machine (act_with left.machine.registers its)) answer new
+    → Moves old (resumed old.machine given) answer new
+resumed_by_answer old left awaiting given its answer new stands came moves =
+    resumed_as old came.registers (act_with came.registers its) awaiting came.its given answer new stands came.exact came.is
+    (subst (λ (left : MachineModel). Moves left (acted left.machine (act_with left.machine.registers its)) answer new) came.stands moves)
+
+-- a reply that no poll awaits is used
+pub used_plainly : (awaiting : Awaits) (machine : Machine) (given : Reply) (act : Act)
     → ((wait : Wait) → awaiting ≡ awaits.Stamp wait → ⊥)
     → ((prefix : List ℕ) (wait : Wait) → awaiting ≡ awaits.LoggedStamp prefix wait → ⊥)
     → ((prefix : List ℕ) (polled : ℕ) → awaiting ≡ awaits.Empty prefix polled → ⊥)
-    → act ≡ used old.machine.next old.machine.registers (use_of awaiting given)
-    → Moves (record old { machine = record old.machine { registers = registers } }) (acted (record old.machine { registers = registers }) act) answer new
-    → Moves old (resumed old.machine given) answer new
-resumed_plainly old registers act awaiting given answer new stands polls logs watches is moves =
-    resumed_as old registers act awaiting awaiting given answer new stands refl
-    (is ∙ sym (plain_act awaiting old.machine given polls logs watches)) moves
+    → act ≡ used machine.next machine.registers (use_of awaiting given) → act ≡ replied_act awaiting machine given
+used_plainly awaiting machine given act polls logs watches is = is ∙ sym (plain_act awaiting machine given polls logs watches)

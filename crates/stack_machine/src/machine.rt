@@ -212,32 +212,22 @@ impl Machine {
             State::Awaiting(awaits) => awaits,
             State::Stopped(end) => return Ok(Step::Stopped(*end)),
         };
-        match awaits {
+        let act = match awaits {
             Awaits::Stamp(wait) => {
                 let wait = *wait;
                 let instruction = self.instruction()?;
-                let act = self
-                    .registers
-                    .resume_poll(number, self.polls, wait, instruction, reply)?;
-                Ok(self.act(act))
+                self.registers
+                    .resume_poll(number, self.polls, wait, instruction, reply)
             }
-            Awaits::LoggedStamp { prefix, wait } => {
-                let act = self
-                    .registers
-                    .resume_log(number, self.polls, prefix, *wait, reply)?;
-                Ok(self.act(act))
-            }
-            Awaits::Empty { prefix, polled } => {
-                let act = self
-                    .registers
-                    .resume_watch(number, self.polls, prefix, *polled, reply)?;
-                Ok(self.act(act))
-            }
-            _ => {
-                let act = self.registers.use_reply(number, awaits, reply)?;
-                Ok(self.act(act))
-            }
-        }
+            Awaits::LoggedStamp { prefix, wait } => self
+                .registers
+                .resume_log(number, self.polls, prefix, *wait, reply),
+            Awaits::Empty { prefix, polled } => self
+                .registers
+                .resume_watch(number, self.polls, prefix, *polled, reply),
+            _ => self.registers.use_reply(number, awaits, reply),
+        };
+        Ok(self.act(act?))
     }
 
     fn run_next(&mut self) -> Result<Step, AllocError>

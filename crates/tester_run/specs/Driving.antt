@@ -1,5 +1,5 @@
 -- How the core and the machines stand to a run while it goes on.
-use Rattle.std.specs.Prelude.{◌≡◌, ℕ, ◌<◌, ◌≤◌, ◌⊎◌, Bool, true, false, List, [], ◌∷◌, length, map, Option, Some, None, MatchOption, is_some, option_and_then, slice_get, ⊤}
+use Rattle.std.specs.Prelude.{◌≡◌, ℕ, ◌<◌, ◌≤◌, ◌⊎◌, Bool, true, false, List, [], ◌∷◌, ◌++◌, length, map, Option, Some, None, IfSome, MatchOption, is_some, option_and_then, option_to_list, slice_get, ⊤}
 use Rattle.std.specs.List.{sum_by}
 use Rattle.command_rules.specs.declared.args.RunArgs.{RunArgs}
 use Rattle.client_core.specs.Stands.{CoreModel, StandsFor}
@@ -7,7 +7,8 @@ use Rattle.machine_rules.specs.declared.TheConstants.{MACHINES}
 use Rattle.machine_rules.specs.Worlds.{World, HasWords, begun, instruction_pairs}
 use Rattle.version_store.specs.Versions.{at, last_of}
 use Rattle.machine_rules.specs.Machines.{silent}
-use Rattle.machine_rules.specs.Runs.{AreByTurns, at_rest, start, started, run_from, turn_after}
+use Rattle.fdb_calls.specs.declared.Reply.{Reply}
+use Rattle.machine_rules.specs.Runs.{AreByTurns, at_rest, start, started, started_by, run_from, turn_after}
 use Rattle.machine_rules.specs.Laws.{effort_in}
 use Rattle.machine_seat.specs.declared.seat.Seat.{Seat}
 use Rattle.machine_seat.specs.Seats.{progress_of, work_left, IsSeated}
@@ -124,6 +125,14 @@ pub record IsGoing (core : CoreModel) (seats : List Seat) (order : List ℕ) : T
   pub counted : core.applied ≡ length order
   pub started : length core.started ≡ length seats
   pub few : length seats ≤ MACHINES
+
+-- the machine that was started under a prefix by a reply took its seat behind the others, if one was: whether one was
+pub record HasSeated (prefix : List ℕ) (polls : ℕ) (reply : Reply) (before after : List Seat) (is_more : Bool) : Type 0 where
+  pub seat : Option Seat
+  pub started : map progress_of (option_to_list seat) ≡ started_by (Some prefix) polls reply
+  pub seated : IfSome seat IsSeated
+  pub seats : after ≡ before ++ option_to_list seat
+  pub is : is_more ≡ is_some seat
 
 -- what came of a request
 abbrev pub HasMoved : Moved → (before after : List Seat) → Type 0

@@ -1,11 +1,12 @@
 //! Running the machines over the core, by turns.
 
 ghost use Rattle.std.specs.Prelude.{◌≡◌, ◌<◌, ◌+◌, ◌++◌, ◌∷◌, ◌^◌, ◌⊎◌, true, [], length, is_some, slice_get, option_and_then, None, Ok, Some, if◌then◌else◌, IfOk, OnOk};
-ghost use Rattle.tester_run.specs.Driving.{asks_at, GoesOn, GoesOnByTurns, HasMoved, HasPaused, IsFirstAsking, IsGoing, IsNextInTurn};
+ghost use Rattle.tester_run.specs.Driving.{asks_at, GoesOn, GoesOnByTurns, HasMoved, HasPaused, HasSeated, IsFirstAsking, IsGoing, IsNextInTurn};
 
 use client_core::Core;
 use dump_text::Order;
-use fdb_calls::Request;
+use fdb_calls::{Reply, Request};
+use key_bytes::Bytes;
 use machine_seat::{Seat, is_no_memory, prefix_of, seat_started};
 use outside::Words;
 use std::alloc::{AllocError, Global};
@@ -137,11 +138,33 @@ pub fn take<W: Words>(
     }
     let prefix = prefix_of(request)?;
     let asks_on = seats[number].use_reply(&reply)?;
-    match seat_started(alloc, prefix, polls, reply)? {
-        None => Ok(moved_by(asks_on)),
+    let Some(prefix) = prefix else {
+        return Ok(moved_by(asks_on));
+    };
+    if seat_more(alloc, seats, prefix, polls, reply)? {
+        Ok(Moved::Started)
+    } else {
+        Ok(moved_by(asks_on))
+    }
+}
+
+// The machine that was started under a prefix by a reply takes its seat behind the others, if one was: whether one was. It has a
+// call of its own, so that a request that starts no machine need not make room for a seat.
+#[inline(never)]
+fn seat_more(
+    alloc: Global,
+    seats: &mut Vec<Seat>,
+    prefix: Bytes,
+    polls: u32,
+    reply: Reply,
+) -> Result<bool, AllocError>
+    ensures { IfOk result (HasSeated prefix polls reply seats.old.items seats.new.items) }
+{
+    match seat_started(alloc, Some(prefix), polls, reply)? {
+        None => Ok(false),
         Some(seat) => {
             seats.push(seat)?;
-            Ok(Moved::Started)
+            Ok(true)
         }
     }
 }
