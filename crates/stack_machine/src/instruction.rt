@@ -1,6 +1,6 @@
 //! Instructions as values of the database.
 
-ghost use Rattle.std.specs.Prelude.{◌≡◌, [], ◌∷◌, Some, Ok, IfOk, IfSome, option_to_list};
+ghost use Rattle.std.specs.Prelude.{◌≡◌, [], ◌∷◌, ◌++◌, Some, Ok, IfOk, IfSome, option_to_list};
 ghost use Rattle.fdb_tuple.specs.Reading.{read_tuple};
 ghost use Rattle.fdb_tuple.specs.Tuples.{Empty, Single, Text};
 ghost use Rattle.machine_rules.specs.Operands.{bytes_of};
@@ -9,9 +9,11 @@ ghost use Rattle.machine_rules.specs.Instructions.{bare_instruction, named_instr
 ghost use Rattle.stack_machine.specs.Forms.{read_form, write_form, removal_operation, listing_operation, subspace_operation};
 ghost use Rattle.stack_machine.specs.Pushes.{PushesAnElement};
 ghost use Rattle.fdb_tuple.specs.Listed.{IsElement};
+ghost use Rattle.fdb_tuple.specs.Zeros.{HasNoZero};
 ghost use Rattle.stack_directories.specs.Directing.{AreElements};
 
 use fdb_tuple::{Elem, UnpackFault, unpack};
+use key_bytes::Bytes;
 use machine_rules::{
     DatabaseOperation, DirectoryOperation, Instruction, Scope, StackOperation, TransactionOperation,
 };
@@ -38,21 +40,32 @@ pub fn instruction_of(alloc: Global, value: &[u8]) -> Result<Option<Instruction>
     }
 }
 
+// The string that the value packs alone under this code, where no zero stands in it, so that it is packed as it stands. It takes no
+// memory.
+fn lone_string(value: &[u8], code: u8) -> Option<&[u8]>
+    ensures packed { IfSome result (λ string. value.now ≡ code ∷ string.now ++ 0 ∷ []) }
+    ensures whole { IfSome result (λ string. HasNoZero string.now) }
+{
+    let string = value.strip_prefix(&[code])?.strip_suffix(&[0x00])?;
+    if string.contains(&0) {
+        return None;
+    }
+    Some(string)
+}
+
 // The name where the value packs a Unicode string alone, without a zero in it, as most instructions do. It takes no memory.
 fn lone_name(value: &[u8]) -> Option<&[u8]>
     ensures { IfSome result (λ name. read_tuple value.now ≡ Ok (Single (Text name.now) Empty)) }
 {
-    let name = value.strip_prefix(&[0x02])?.strip_suffix(&[0x00])?;
-    if name.contains(&0) {
-        return None;
-    }
+    let name = lone_string(value, 0x02)?;
     match str::from_utf8(name) {
         Ok(_) => Some(name),
         Err(_) => None,
     }
 }
 
-// The element that the value pushes, where it packs PUSH as a Unicode string and one element.
+// The element that the value pushes, where it packs PUSH as a Unicode string and one element. A byte string without a zero in it
+// is the one that most pushes have.
 fn pushed_element(alloc: Global, value: &[u8]) -> Result<Option<Elem>, AllocError>
     ensures pushes { IfOk result (λ element. IfSome element (λ element. instruction_of value.now ≡ Some (Instruction.Push element))) }
     ensures element { IfOk result (λ element. IfSome element IsElement) }
@@ -60,6 +73,10 @@ fn pushed_element(alloc: Global, value: &[u8]) -> Result<Option<Elem>, AllocErro
     let Some(rest) = value.strip_prefix(b"\x02PUSH\x00") else {
         return Ok(None);
     };
+    if let Some(bytes) = lone_string(rest, 0x01) {
+        let bytes = Bytes::from_slice(alloc, bytes)?;
+        return Ok(Some(Elem::Bytes(bytes)));
+    }
     match unpack(alloc, rest) {
         Ok(tuple) => Ok(only_element(tuple.into_vec())),
         Err(UnpackFault::NoMemory) => Err(AllocError),
