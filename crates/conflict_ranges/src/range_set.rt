@@ -70,7 +70,7 @@ impl RangeSet {
     {
         match &self.only {
             Some(_) => false,
-            None => self.laid.is_empty(),
+            None => self.laid.is_unused() || self.laid.is_empty(),
         }
     }
 
@@ -175,6 +175,7 @@ impl RangeSet {
     {
         match &self.only {
             Some(only) => RangesLeft::one(only),
+            None if self.laid.is_unused() => RangesLeft::none(),
             None => RangesLeft::of_edges(self.laid.ranges()),
         }
     }

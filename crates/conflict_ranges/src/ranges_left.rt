@@ -33,6 +33,16 @@ impl<'a> Model for RangesLeft<'a> {
 }
 
 impl<'a> RangesLeft<'a> {
+    // No range.
+    pub(crate) fn none() -> RangesLeft<'a>
+        ensures { result ≡ [] }
+    {
+        RangesLeft {
+            only: None,
+            laid: None,
+        }
+    }
+
     // The range in place of its set.
     pub(crate) fn one(only: &'a KeyRange) -> RangesLeft<'a>
         ensures { result ≡ only.now ∷ [] }
