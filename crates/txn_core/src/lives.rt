@@ -9,6 +9,7 @@ ghost use Rattle.txn_core.specs.Stands.{StandsFor};
 use crate::txn::Txn;
 use conflict_ranges::RangeSet;
 use database_rules::{Code, Phase, TRANSACTION_CANCELLED};
+use std::alloc::Global;
 
 // Of so many mutations at most the room stays for those of the next life.
 const FEW: usize = 16;
@@ -21,6 +22,15 @@ fn take_away(flags: &mut Vec<bool>)
         *flags = Vec::new(*flags.allocator());
     } else {
         flags.clear();
+    }
+}
+
+// Takes all keys away. A set without a key, as most transactions have, is left as it lies.
+fn take_keys_away(keys: &mut RangeSet, alloc: Global)
+    ensures { keys.new ≡ [] }
+{
+    if !keys.is_empty() {
+        *keys = RangeSet::new(alloc);
     }
 }
 
@@ -41,8 +51,8 @@ impl Txn {
         self.version = None;
         self.edits.reset();
         take_away(&mut self.declares);
-        self.read_ranges = RangeSet::new(alloc);
-        self.write_ranges = RangeSet::new(alloc);
+        take_keys_away(&mut self.read_ranges, alloc);
+        take_keys_away(&mut self.write_ranges, alloc);
         self.size = 0;
         self.is_silenced = false;
         self.phase = Phase::Active;
