@@ -1,8 +1,8 @@
 //! Which version last declared each key.
 
-ghost use Rattle.std.specs.Prelude.{◌≡◌, ◌≤◌, ◌⊎◌, ℕ, List, [], true, max, if◌then◌else◌, MatchBool, OnOk};
+ghost use Rattle.std.specs.Prelude.{◌≡◌, ◌≤◌, ◌⊎◌, ℕ, List, [], true, max, if◌then◌else◌, MatchBool, OnOk, OnErr};
 ghost use Rattle.std.specs.FinMap as finite;
-ghost use Rattle.key_bytes.specs.Keys.{within};
+ghost use Rattle.key_bytes.specs.Keys.{after, within};
 ghost use Rattle.key_bytes.specs.Ranges.{has};
 ghost use Rattle.database_rules.specs.States.{covers, range_from};
 ghost use Rattle.edge_map.specs.Edges.{is_edge};
@@ -120,8 +120,8 @@ impl WriteIndex {
         Ok(())
     }
 
-    /// The same for `install_all`: the ranges may meet, and be empty.
-    pub fn reserve_all(&mut self, ranges: &[KeyRange], version: u64) -> Result<(), AllocError>
+    // The same for `install_list`: the ranges may meet, and be empty.
+    fn reserve_list(&mut self, ranges: &[KeyRange], version: u64) -> Result<(), AllocError>
         ensures same { (key : List ℕ) → newest_at self.new key ≡ newest_at self.old key }
         ensures newest { self.new.newest ≡ self.old.newest }
         ensures ready { OnOk result (IsReadyFor self.new version ranges.now) }
@@ -169,8 +169,8 @@ impl WriteIndex {
         }
     }
 
-    /// The same for a list of ranges, which may meet, and be empty.
-    pub fn install_all(&mut self, ranges: &[KeyRange], version: u64)
+    // The same for a list of ranges, which may meet, and be empty.
+    fn install_list(&mut self, ranges: &[KeyRange], version: u64)
         requires { IsReadyFor self.old version ranges.now }
         ensures given { (key : List ℕ) → newest_at self.new key
             ≡ (if covers ranges.now key then version else newest_at self.old key) }
@@ -180,6 +180,40 @@ impl WriteIndex {
         for range in ranges {
             self.give(&range.begin, &range.end, version);
         }
+    }
+
+    /// Gives the keys of a list of ranges this version; they may meet, and be empty. After a refusal each key keeps its version. One
+    /// range of one key takes one search, and memory only where the key is new, unless a greater version is known; other ranges take
+    /// what `reserve` and `install` take.
+    pub fn declare_all(&mut self, ranges: &[KeyRange], version: u64) -> Result<(), AllocError>
+        ensures given { OnOk result ((key : List ℕ) → newest_at self.new key
+            ≡ (if covers ranges.now key then version else newest_at self.old key)) }
+        ensures newest { OnOk result (self.new.newest ≡ max self.old.newest version) }
+        ensures same { OnErr result ((key : List ℕ) → newest_at self.new key ≡ newest_at self.old key) }
+        ensures newest_kept { OnErr result (self.new.newest ≡ self.old.newest) }
+    {
+        if let [range] = ranges {
+            if self.goes_alone(&range.begin, &range.end, version) {
+                return self.declare_key(&range.begin, version);
+            }
+        }
+        self.reserve_list(ranges, version)?;
+        self.install_list(ranges, version);
+        Ok(())
+    }
+
+    // Gives a key this version, which none is above: one search. Only a key that wasn't declared alone before takes memory. After
+    // a refusal the index is unchanged.
+    fn declare_key(&mut self, key: &Key, version: u64) -> Result<(), AllocError>
+        requires { self.old.newest ≤ version }
+        ensures given { OnOk result ((other : List ℕ) → newest_at self.new other
+            ≡ (if within key.now (after key.now) other then version else newest_at self.old other)) }
+        ensures newest { OnOk result (self.new.newest ≡ version) }
+        ensures same { OnErr result (self.new ≡ self.old) }
+    {
+        self.keys.insert(key.copy()?, version)?;
+        self.newest = version;
+        Ok(())
     }
 
     // Gives the keys of one range this version. It takes no memory.

@@ -115,9 +115,8 @@ impl Txn {
         let changes = self.changes(store, &stamp)?;
         let declared = self.declared_by(&stamp)?;
         store.reserve(&changes)?;
-        index.reserve_all(&declared, version)?;
+        index.declare_all(&declared, version)?;
         store.install(changes);
-        index.install_all(&declared, version);
         self.tried(Tried::Version(version));
         Ok(())
     }

@@ -3,7 +3,7 @@ use Rattle.database_rules.specs.States.{covers}
 use Rattle.conflict_ranges.specs.Writes.{newest_at, Index, IsReadyFor}
 use Rattle.conflict_ranges.proofs.Rooms.{given_first, ready_kept, ready_raised}
 use Rattle.conflict_ranges.proofs.Splits.{next_left}
-use Rattle.conflict_ranges.proofs.write_index.WriteIndex.install_all.Goals as goal
+use Rattle.conflict_ranges.proofs.write_index.WriteIndex.install_list.Goals as goal
 
 pub loop-range-init : goal.loop-range-init
 loop-range-init c =
