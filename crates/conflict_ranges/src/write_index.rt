@@ -6,7 +6,7 @@ ghost use Rattle.key_bytes.specs.Keys.{after, within};
 ghost use Rattle.key_bytes.specs.Ranges.{has};
 ghost use Rattle.database_rules.specs.States.{covers, range_from};
 ghost use Rattle.edge_map.specs.Edges.{is_edge};
-ghost use Rattle.conflict_ranges.specs.Writes.{newest_at, GoesAlone, GoesAsRange, HasRoomFor, IsReadyFor, Keeps, KeepsRoom};
+ghost use Rattle.conflict_ranges.specs.Writes.{newest_at, GoesAlone, GoesAsRange, HasRoomFor, IsReadyFor, Keeps, KeepsRoom, with_version};
 
 use crate::newest::{Written, is_after, newest_of_keys, newest_of_ranges};
 use crate::range_set::RangeSet;
@@ -163,7 +163,7 @@ impl WriteIndex {
             ≡ (if covers ranges key then version else newest_at self.old key) }
         ensures newest { self.new.newest ≡ max self.old.newest version }
     {
-        self.newest = self.newest.max(version);
+        self.raise_newest(version);
         for (begin, end) in ranges.ranges() {
             self.give(begin, end, version);
         }
@@ -176,7 +176,7 @@ impl WriteIndex {
             ≡ (if covers ranges.now key then version else newest_at self.old key) }
         ensures newest { self.new.newest ≡ max self.old.newest version }
     {
-        self.newest = self.newest.max(version);
+        self.raise_newest(version);
         for range in ranges {
             self.give(&range.begin, &range.end, version);
         }
@@ -214,6 +214,13 @@ impl WriteIndex {
         self.keys.insert(key.copy()?, version)?;
         self.newest = version;
         Ok(())
+    }
+
+    // Counts this version as installed. It takes no memory.
+    fn raise_newest(&mut self, version: u64)
+        ensures newest { self.new ≡ with_version version self.old }
+    {
+        self.newest = self.newest.max(version);
     }
 
     // Gives the keys of one range this version. It takes no memory.
