@@ -183,8 +183,7 @@ impl WriteIndex {
     }
 
     /// Gives the keys of a list of ranges this version; they may meet, and be empty. After a refusal each key keeps its version. One
-    /// range of one key takes one search, and memory only where the key is new, unless a greater version is known; other ranges take
-    /// what `reserve` and `install` take.
+    /// range of one key takes what `declare_key` takes, and other ranges what `reserve` and `install` take.
     pub fn declare_all(&mut self, ranges: &[KeyRange], version: u64) -> Result<(), AllocError>
         ensures given { OnOk result ((key : List ℕ) → newest_at self.new key
             ≡ (if covers ranges.now key then version else newest_at self.old key)) }
@@ -193,10 +192,37 @@ impl WriteIndex {
         ensures newest_kept { OnErr result (self.new.newest ≡ self.old.newest) }
     {
         if let [range] = ranges {
-            if self.goes_alone(&range.begin, &range.end, version) {
+            if is_after(&range.begin, &range.end) {
                 return self.declare_key(&range.begin, version);
             }
         }
+        self.declare_list(ranges, version)
+    }
+
+    /// Gives a key this version. After a refusal each key keeps its version. It takes one search, and memory only where the key wasn't
+    /// declared alone before; where a greater version is known, what `reserve` and `install` take for its range.
+    pub fn declare_key(&mut self, key: &Key, version: u64) -> Result<(), AllocError>
+        ensures given { OnOk result ((other : List ℕ) → newest_at self.new other
+            ≡ (if within key.now (after key.now) other then version else newest_at self.old other)) }
+        ensures newest { OnOk result (self.new.newest ≡ max self.old.newest version) }
+        ensures same { OnErr result ((other : List ℕ) → newest_at self.new other ≡ newest_at self.old other) }
+        ensures newest_kept { OnErr result (self.new.newest ≡ self.old.newest) }
+    {
+        if self.newest <= version {
+            return self.put_key(key, version);
+        }
+        let range = KeyRange::single(key.allocator(), key)?;
+        self.declare_list(&[range], version)
+    }
+
+    // Takes the memory for the ranges of a list, and gives their keys this version.
+    fn declare_list(&mut self, ranges: &[KeyRange], version: u64) -> Result<(), AllocError>
+        ensures given { OnOk result ((key : List ℕ) → newest_at self.new key
+            ≡ (if covers ranges.now key then version else newest_at self.old key)) }
+        ensures newest { OnOk result (self.new.newest ≡ max self.old.newest version) }
+        ensures same { OnErr result ((key : List ℕ) → newest_at self.new key ≡ newest_at self.old key) }
+        ensures newest_kept { OnErr result (self.new.newest ≡ self.old.newest) }
+    {
         self.reserve_list(ranges, version)?;
         self.install_list(ranges, version);
         Ok(())
@@ -204,7 +230,7 @@ impl WriteIndex {
 
     // Gives a key this version, which none is above: one search. Only a key that wasn't declared alone before takes memory. After
     // a refusal the index is unchanged.
-    fn declare_key(&mut self, key: &Key, version: u64) -> Result<(), AllocError>
+    fn put_key(&mut self, key: &Key, version: u64) -> Result<(), AllocError>
         requires { self.old.newest ≤ version }
         ensures given { OnOk result ((other : List ℕ) → newest_at self.new other
             ≡ (if within key.now (after key.now) other then version else newest_at self.old other)) }
