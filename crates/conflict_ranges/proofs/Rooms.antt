@@ -7,7 +7,7 @@ use Rattle.key_bytes.specs.Ranges.{has}
 use Rattle.database_rules.specs.States.{covers, range_from}
 use Rattle.edge_map.specs.Edges.{Edges}
 use Rattle.conflict_ranges.specs.Ends.{IsSplitAt}
-use Rattle.conflict_ranges.specs.Writes.{newest_at, version_in, Index, IsBounded, Keeps, KeepsRoom, GoesAlone, GoesAsRange, HasRoomFor, IsReadyFor}
+use Rattle.conflict_ranges.specs.Writes.{newest_at, version_in, Index, IsBounded, Keeps, KeepsRoom, GoesAlone, GoesAsRange, HasRoomFor, IsReadyFor, with_version}
 use Rattle.conflict_ranges.proofs.Splits.{IsLike}
 
 pub room_kept : (version : ℕ) (range : KeyRange) (old new : Index) → Keeps old new → HasRoomFor old version range → HasRoomFor new version range
@@ -57,10 +57,6 @@ pub gives_room : (version : ℕ) (range : KeyRange) (left all : List KeyRange) (
     → GivesRoom old version (range ∷ left) all → GivesRoom new version left all
 gives_room version range left all old new kept room gives more later ready =
     gives more (λ range had. later range (kept range had)) (later range room, ready)
-
--- the newest version, once this one is among them
-abbrev pub with_version : ℕ → Index → Index
-with_version version index = record index { newest = max index.newest version }
 
 room_raised : (version : ℕ) (range : KeyRange) (index : Index) → HasRoomFor index version range → HasRoomFor (with_version version index) version range
 room_raised version range index room = record {

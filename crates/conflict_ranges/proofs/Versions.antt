@@ -85,6 +85,34 @@ module _ (begin end : List ℕ) (version : ℕ) (old : Index) (bounded : IsBound
   alone_keeps range =
       room_kept version range old alone (record { newest = refl; keys = known old.keys begin version; edges = λ edge there. there })
 
+-- ---- a key that is given a version by itself, which none is above: it is the newest then
+
+module _ (key : List ℕ) (version : ℕ) (old : Index) (bounded : IsBounded old) (above : old.newest ≤ version) (keys : Versions)
+    (is : keys ≡ insert old.keys key version) where
+  abbrev raised : Index
+  raised = record old { newest = version }
+
+  raised_bounded : IsBounded raised
+  raised_bounded = record {
+    keys = λ q. let less = bounded.keys q in omega (arith, less, above);
+    ranges = λ q. let less = bounded.ranges q in omega (arith, less, above);
+  }
+
+  abbrev pub newest_alone : Index
+  newest_alone = record { keys = keys; ranges = old.ranges; newest = version }
+
+  pub newest_alone_bounded : IsBounded newest_alone
+  newest_alone_bounded =
+      subst (λ (keys : Versions). IsBounded (record { keys = keys; ranges = old.ranges; newest = version })) (sym is)
+      (alone_bounded key (after key) version raised raised_bounded (omega arith))
+
+  pub newest_alone_given : (q : List ℕ) → newest_at newest_alone q ≡ cond (within key (after key) q) version (newest_at old q)
+  newest_alone_given q =
+      ap (λ (keys : Versions). newest_at (record { keys = keys; ranges = old.ranges; newest = version }) q) is
+      ∙ alone_given key (after key) version raised raised_bounded (omega arith) (refl, omega arith) q
+
+-- ---- a range that is given a version
+
 -- what a key has by itself, where the keys of a range lost it
 left_of : (begin end : List ℕ) (keys : Versions) (q : List ℕ)
     → get (retain_keys keys (λ k. not (within begin end k))) q ≡ cond (not (within begin end q)) (get keys q) None
@@ -99,8 +127,6 @@ bounded_left begin end keys newest all q =
     by_test : (t : Bool) → version_in (cond t (get keys q) None) ≤ newest
     by_test true = all q
     by_test false = omega arith
-
--- ---- a range that is given a version
 
 module _ (begin end : List ℕ) (version : ℕ) (old : Index) (ranges : Edges ℕ) (rising : IsRising old.ranges.entries)
     (is_begin : is_edge begin old.ranges ≡ true) (is_end : is_edge end old.ranges ≡ true)

@@ -25,6 +25,10 @@ pub record IsBounded (index : Index) : Type 0 where
   pub keys : (key : List ℕ) → version_in (finite.get index.keys key) ≤ index.newest
   pub ranges : (key : List ℕ) → held index.ranges key ≤ index.newest
 
+-- the newest version, once this one is among them
+abbrev pub with_version : ℕ → Index → Index
+with_version version index = record index { newest = max index.newest version }
+
 -- the keys from one to another are the first alone, and no version is above this one: then they are kept as a key, and else as a range
 abbrev pub GoesAlone : Index → ℕ → List ℕ → List ℕ → Type 0
 GoesAlone index version begin end = (end ≡ after begin) × (index.newest ≤ version)

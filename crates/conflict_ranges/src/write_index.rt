@@ -1,12 +1,12 @@
 //! Which version last declared each key.
 
-ghost use Rattle.std.specs.Prelude.{◌≡◌, ◌≤◌, ◌⊎◌, ℕ, List, [], true, max, if◌then◌else◌, MatchBool, OnOk};
+ghost use Rattle.std.specs.Prelude.{◌≡◌, ◌≤◌, ◌⊎◌, ℕ, List, [], true, max, if◌then◌else◌, MatchBool, OnOk, OnErr};
 ghost use Rattle.std.specs.FinMap as finite;
-ghost use Rattle.key_bytes.specs.Keys.{within};
+ghost use Rattle.key_bytes.specs.Keys.{after, within};
 ghost use Rattle.key_bytes.specs.Ranges.{has};
 ghost use Rattle.database_rules.specs.States.{covers, range_from};
 ghost use Rattle.edge_map.specs.Edges.{is_edge};
-ghost use Rattle.conflict_ranges.specs.Writes.{newest_at, GoesAlone, GoesAsRange, HasRoomFor, IsReadyFor, Keeps, KeepsRoom};
+ghost use Rattle.conflict_ranges.specs.Writes.{newest_at, GoesAlone, GoesAsRange, HasRoomFor, IsReadyFor, Keeps, KeepsRoom, with_version};
 
 use crate::newest::{Written, is_after, newest_of_keys, newest_of_ranges};
 use crate::range_set::RangeSet;
@@ -120,8 +120,8 @@ impl WriteIndex {
         Ok(())
     }
 
-    /// The same for `install_all`: the ranges may meet, and be empty.
-    pub fn reserve_all(&mut self, ranges: &[KeyRange], version: u64) -> Result<(), AllocError>
+    // The same for `install_list`: the ranges may meet, and be empty.
+    fn reserve_list(&mut self, ranges: &[KeyRange], version: u64) -> Result<(), AllocError>
         ensures same { (key : List ℕ) → newest_at self.new key ≡ newest_at self.old key }
         ensures newest { self.new.newest ≡ self.old.newest }
         ensures ready { OnOk result (IsReadyFor self.new version ranges.now) }
@@ -163,23 +163,90 @@ impl WriteIndex {
             ≡ (if covers ranges key then version else newest_at self.old key) }
         ensures newest { self.new.newest ≡ max self.old.newest version }
     {
-        self.newest = self.newest.max(version);
+        self.raise_newest(version);
         for (begin, end) in ranges.ranges() {
             self.give(begin, end, version);
         }
     }
 
-    /// The same for a list of ranges, which may meet, and be empty.
-    pub fn install_all(&mut self, ranges: &[KeyRange], version: u64)
+    // The same for a list of ranges, which may meet, and be empty.
+    fn install_list(&mut self, ranges: &[KeyRange], version: u64)
         requires { IsReadyFor self.old version ranges.now }
         ensures given { (key : List ℕ) → newest_at self.new key
             ≡ (if covers ranges.now key then version else newest_at self.old key) }
         ensures newest { self.new.newest ≡ max self.old.newest version }
     {
-        self.newest = self.newest.max(version);
+        self.raise_newest(version);
         for range in ranges {
             self.give(&range.begin, &range.end, version);
         }
+    }
+
+    /// Gives the keys of a list of ranges this version; they may meet, and be empty. After a refusal each key keeps its version. One
+    /// range of one key takes what `declare_key` takes, and other ranges what `reserve` and `install` take.
+    pub fn declare_all(&mut self, ranges: &[KeyRange], version: u64) -> Result<(), AllocError>
+        ensures given { OnOk result ((key : List ℕ) → newest_at self.new key
+            ≡ (if covers ranges.now key then version else newest_at self.old key)) }
+        ensures newest { OnOk result (self.new.newest ≡ max self.old.newest version) }
+        ensures same { OnErr result ((key : List ℕ) → newest_at self.new key ≡ newest_at self.old key) }
+        ensures newest_kept { OnErr result (self.new.newest ≡ self.old.newest) }
+    {
+        if let [range] = ranges {
+            if is_after(&range.begin, &range.end) {
+                return self.declare_key(&range.begin, version);
+            }
+        }
+        self.declare_list(ranges, version)
+    }
+
+    /// Gives a key this version. After a refusal each key keeps its version. It takes one search, and memory only where the key wasn't
+    /// declared alone before; where a greater version is known, what `reserve` and `install` take for its range.
+    pub fn declare_key(&mut self, key: &Key, version: u64) -> Result<(), AllocError>
+        ensures given { OnOk result ((other : List ℕ) → newest_at self.new other
+            ≡ (if within key.now (after key.now) other then version else newest_at self.old other)) }
+        ensures newest { OnOk result (self.new.newest ≡ max self.old.newest version) }
+        ensures same { OnErr result ((other : List ℕ) → newest_at self.new other ≡ newest_at self.old other) }
+        ensures newest_kept { OnErr result (self.new.newest ≡ self.old.newest) }
+    {
+        if self.newest <= version {
+            return self.put_key(key, version);
+        }
+        let range = KeyRange::single(key.allocator(), key)?;
+        self.declare_list(&[range], version)
+    }
+
+    // Takes the memory for the ranges of a list, and gives their keys this version.
+    fn declare_list(&mut self, ranges: &[KeyRange], version: u64) -> Result<(), AllocError>
+        ensures given { OnOk result ((key : List ℕ) → newest_at self.new key
+            ≡ (if covers ranges.now key then version else newest_at self.old key)) }
+        ensures newest { OnOk result (self.new.newest ≡ max self.old.newest version) }
+        ensures same { OnErr result ((key : List ℕ) → newest_at self.new key ≡ newest_at self.old key) }
+        ensures newest_kept { OnErr result (self.new.newest ≡ self.old.newest) }
+    {
+        self.reserve_list(ranges, version)?;
+        self.install_list(ranges, version);
+        Ok(())
+    }
+
+    // Gives a key this version, which none is above: one search. Only a key that wasn't declared alone before takes memory. After
+    // a refusal the index is unchanged.
+    fn put_key(&mut self, key: &Key, version: u64) -> Result<(), AllocError>
+        requires { self.old.newest ≤ version }
+        ensures given { OnOk result ((other : List ℕ) → newest_at self.new other
+            ≡ (if within key.now (after key.now) other then version else newest_at self.old other)) }
+        ensures newest { OnOk result (self.new.newest ≡ version) }
+        ensures same { OnErr result (self.new ≡ self.old) }
+    {
+        self.keys.insert(key.copy()?, version)?;
+        self.newest = version;
+        Ok(())
+    }
+
+    // Counts this version as installed. It takes no memory.
+    fn raise_newest(&mut self, version: u64)
+        ensures newest { self.new ≡ with_version version self.old }
+    {
+        self.newest = self.newest.max(version);
     }
 
     // Gives the keys of one range this version. It takes no memory.

@@ -246,9 +246,7 @@ impl Versions for WriteIndex {
     }
 
     fn give_all(&mut self, ranges: &[KeyRange], version: u64) -> Result<(), AllocError> {
-        self.reserve_all(ranges, version)?;
-        self.install_all(ranges, version);
-        Ok(())
+        self.declare_all(ranges, version)
     }
 
     fn newest_of_range(&self, range: &KeyRange) -> u64 {
@@ -328,16 +326,28 @@ fn newest_of_keys<V: Versions>(alloc: Global, index: &V) -> Result<[u64; 3], All
     Ok([first, second, third])
 }
 
-// The newest versions of `b`, of `c` and from `a` to `z`, where ranges that meet, an empty one and a key were written at 4.
-fn newest_of_list(alloc: Global) -> Result<[u64; 3], AllocError> {
-    let mut index = WriteIndex::new(alloc);
+// The newest versions of `b`, of `c` and from `a` to `z`: once ranges that meet, an empty one and a key were written at 4, then `c`
+// alone at 6, then, where 6 is known, `b` alone at 5, and at last `c` alone at 2.
+fn newest_after_lists<V: Versions>(alloc: Global, index: &mut V) -> Result<[[u64; 3]; 4], AllocError> {
     index.give_all(&four_ranges(alloc)?, 4)?;
-    newest_of_keys(alloc, &index)
+    let first = newest_of_keys(alloc, index)?;
+    index.give_all(&[single(alloc, b"c")?], 6)?;
+    let second = newest_of_keys(alloc, index)?;
+    index.give_all(&[single(alloc, b"b")?], 5)?;
+    let third = newest_of_keys(alloc, index)?;
+    index.give_all(&[single(alloc, b"c")?], 2)?;
+    Ok([first, second, third, newest_of_keys(alloc, index)?])
+}
+
+// The same of a new index, and the newest version of all.
+fn newest_of_lists(alloc: Global) -> Result<([[u64; 3]; 4], u64), AllocError> {
+    let mut index = WriteIndex::new(alloc);
+    Ok((newest_after_lists(alloc, &mut index)?, index.newest()))
 }
 
 #[test]
-fn takes_a_list_of_ranges(rt: HostRuntime) -> Result<(), Fail> {
-    assert_eq!(rt; newest_of_list(rt.alloc())?, [4, 0, 4]);
+fn takes_lists_of_ranges(rt: HostRuntime) -> Result<(), Fail> {
+    assert_eq!(rt; newest_of_lists(rt.alloc())?, ([[4, 0, 4], [4, 6, 6], [5, 6, 6], [5, 2, 5]], 6));
     Ok(())
 }
 

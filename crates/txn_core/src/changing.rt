@@ -136,7 +136,7 @@ impl Txn {
 }
 
 // The key and the value of the one mutation, exactly where there is one alone and it sets a key.
-fn only_set(mutations: &[Mutation]) -> Option<(&Key, &Bytes)>
+pub(crate) fn only_set(mutations: &[Mutation]) -> Option<(&Key, &Bytes)>
     ensures { MatchOption result ((key value : List ℕ) → mutations_of mutations.now ≢ Set key value ∷ [])
         (λ set. mutations_of mutations.now ≡ Set set.0.now set.1.now ∷ []) }
 {

@@ -113,11 +113,9 @@ impl Txn {
         let version = store.last() + 1;
         let stamp = stamp_of(version);
         let changes = self.changes(store, &stamp)?;
-        let declared = self.declared_by(&stamp)?;
         store.reserve(&changes)?;
-        index.reserve_all(&declared, version)?;
+        self.declare(index, &stamp, version)?;
         store.install(changes);
-        index.install_all(&declared, version);
         self.tried(Tried::Version(version));
         Ok(())
     }

@@ -1,13 +1,16 @@
 //! The keys that a commit declares to write.
 
-ghost use Rattle.std.specs.Prelude.{◌≡◌, ◌++◌, ◌^◌, ◌<◌, ℕ, List, length, zip, OnOk, IfOk};
+ghost use Rattle.std.specs.Prelude.{◌≡◌, ◌++◌, ◌∷◌, ◌^◌, ◌<◌, ℕ, List, [], length, zip, if◌then◌else◌, OnOk, OnErr, IfOk, IfSome};
 ghost use Rattle.database_rules.specs.Histories.{write_range, stamp_of};
+ghost use Rattle.database_rules.specs.Intervals.{one};
 ghost use Rattle.database_rules.specs.States.{covers};
+ghost use Rattle.conflict_ranges.specs.Writes.{newest_at};
 ghost use Rattle.txn_core.specs.Stands.{declared_among, declared_in};
 ghost use Rattle.write_map.specs.Mutations.{mutation_of, mutations_of};
 
+use crate::changing::only_set;
 use crate::txn::Txn;
-use conflict_ranges::RangeSet;
+use conflict_ranges::{RangeSet, WriteIndex};
 use key_bytes::{Key, KeyRange};
 use std::alloc::AllocError;
 use write_map::{Mutation, WriteMap};
@@ -85,6 +88,34 @@ impl Txn {
             self.declared(&self.edits.filled(stamp)?)
         } else {
             self.declared(&self.edits)
+        }
+    }
+
+    // The one key that the commit declares, where its only mutation sets it, and nothing else is declared. It takes no memory.
+    fn only_declared(&self) -> Option<&Key>
+        ensures { IfSome result (λ key. (stamp : List ℕ) → declared_in stamp self.now ≡ one key.now ∷ []) }
+    {
+        match (only_set(self.edits.mutations()), self.declares.as_slice()) {
+            (Some((key, _)), [true]) if self.write_ranges.is_empty() => Some(key),
+            _ => None,
+        }
+    }
+
+    // Gives the keys that the commit declares this version, where this is its versionstamp. After a refusal each key keeps its
+    // version. One set of a key alone takes no list of ranges.
+    pub(crate) fn declare(
+        &self,
+        index: &mut WriteIndex,
+        stamp: &[u8; 10],
+        version: u64,
+    ) -> Result<(), AllocError>
+        ensures given { OnOk result ((key : List ℕ) → newest_at index.new key
+            ≡ (if covers (declared_in stamp.now self.now) key then version else newest_at index.old key)) }
+        ensures same { OnErr result ((key : List ℕ) → newest_at index.new key ≡ newest_at index.old key) }
+    {
+        match self.only_declared() {
+            Some(key) => index.declare_key(key, version),
+            None => index.declare_all(&self.declared_by(stamp)?, version),
         }
     }
 

@@ -1,4 +1,4 @@
-use Rattle.std.proofs.Common.{cond, max, sym, ap, subst, ◌∙◌}
+use Rattle.std.proofs.Common.{cond, sym, ap, subst, ◌∙◌}
 use Rattle.database_rules.specs.States.{covers}
 use Rattle.conflict_ranges.specs.Segments.{range_between}
 use Rattle.conflict_ranges.specs.Writes.{newest_at, Index, IsReadyFor}
@@ -7,19 +7,16 @@ use Rattle.conflict_ranges.proofs.write_index.WriteIndex.install.Goals as goal
 
 pub loop-begin-init : goal.loop-begin-init
 loop-begin-init c =
-    let version = c.args.version in let ranges = c.args.ranges in let inside = c.self.inside in
-    let newest = c.max-self-inside.result in
+    let version = c.args.version in let ranges = c.args.ranges in let raised = c.raise_newest.ensures.newest in
+    let now = c.raise_newest.new.self in
     let items = c.into_iter-begin-iterator.ensures.into_iter_gives ∙ c.ranges-begin-items.ensures in
-    let asked = subst (λ (old : Index). IsReadyFor old version ranges) (sym c.self.view_is) c.requires in
-    let now : Index = record { keys = inside.keys; ranges = inside.ranges; newest = newest } in
     record {
-      newest = c.max-self-inside.ensures ∙ ap (λ (old : Index). max old.newest version) c.self.view_is;
+      newest = ap (λ (index : Index). index.newest) raised;
       ready = subst (IsReadyFor now version) (sym items)
-          (subst (λ newest. IsReadyFor (record { keys = inside.keys; ranges = inside.ranges; newest = newest }) version ranges)
-          (sym c.max-self-inside.ensures) (ready_raised version ranges _ asked));
+          (subst (λ (index : Index). IsReadyFor index version ranges) (sym raised) (ready_raised version ranges c.args.self.now c.requires));
       given = λ key.
           ap (λ items. cond (covers items key) version (newest_at now key)) items
-          ∙ ap (λ (old : Index). cond (covers ranges key) version (newest_at old key)) c.self.view_is;
+          ∙ ap (λ (index : Index). cond (covers ranges key) version (newest_at index key)) raised;
     }
 
 pub loop-begin-preserved : goal.loop-begin-preserved

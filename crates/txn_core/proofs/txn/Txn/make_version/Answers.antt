@@ -1,4 +1,4 @@
-use Rattle.std.proofs.Common.{◌≡◌, ◌+◌, length, ap, sym, subst, ◌∙◌}
+use Rattle.std.proofs.Common.{◌≡◌, ◌+◌, length, refl, ap, sym, subst, ◌∙◌}
 use Rattle.std.specs.Prelude.{if◌then◌else◌}
 use Rattle.database_rules.specs.declared.Phase.TheVariants as phase
 use Rattle.database_rules.specs.declared.Tried.TheVariants as tried
@@ -20,22 +20,20 @@ pub returns-clause-ok : goal.returns-clause-ok
 returns-clause-ok c setting t stands keeps =
     let kept = c.args.self.now in let store = c.args.store.now in let index = c.args.index.now in
     let reserved = c.in_ok-reserve.ensures {u = tt} in
-    let same = keeps_same store c.reserve.new.self index c.reserve_all.new.self setting keeps reserved.last reserved.reads
-    (c.in_ok-reserve_all.ensures {u = tt}).same in
+    let same = keeps_same store c.reserve.new.self index index setting keeps reserved.last reserved.reads (λ key. refl) in
     let stamp = c.stamp_of-stamp.ensures ∙ ap (λ n. stamp_of (n + 1)) (c.last-version.ensures ∙ keeps.last_is) in
     let ten : length (stamp_of (next_version setting)) ≡ 10 = stamp_length (next_version setting) in
     let version = ap (λ n. n + 1) (c.last-version.ensures ∙ keeps.last_is) in
     let made = ap (λ n. n + 1) (c.last-version.ensures ∙ sym reserved.last) in
     let base = reserved.reads (last_of c.reserve.new.self) ∙ ap (at store) reserved.last in (
       subst (λ v. StandsFor c.tried.new.self (with_phase t (phase.Tried (tried.Version v)))) version (c.tried.ensures t stands),
-      keeps_next c.reserve.new.self c.install.new.self c.reserve_all.new.self c.install_all.new.self setting
+      keeps_next c.reserve.new.self c.install.new.self index c.declare.new.index setting
           (commit_of (stamp_of (next_version setting)) setting t) same c.install.ensures.last c.install.ensures.before
           (c.install.ensures.after ∙ ap (changed c.in_ok-changes.changes) base ∙ (c.in_ok-changes.ensures {u = tt}).leads
           ∙ ap (λ s. do_all (all_filled s kept.mutations) (at store (last_of store))) stamp
           ∙ same_filled_maps kept.mutations (writes_of t) (stamp_of (next_version setting)) stands.mutations ten (at store (last_of store))
           ∙ sym (ap (do_all (all_filled (stamp_of (next_version setting)) (writes_of t))) base))
           (λ key.
-          let declared = ap (λ ranges. covers ranges key) (c.deref-2.ensures.value ∙ (c.in_ok-declared.ensures {u = tt})) ∙ ap (λ s. covers (declared_in s kept) key) stamp
-          ∙ stands.declared (stamp_of (next_version setting)) key ten in
-          c.install_all.ensures.given key ∙ (λ i. if declared i then made i else newest_at c.reserve_all.new.self key)),
+          let declared = ap (λ s. covers (declared_in s kept) key) stamp ∙ stands.declared (stamp_of (next_version setting)) key ten in
+          (c.in_ok-declare.ensures {u = tt}).given key ∙ (λ i. if declared i then made i else newest_at index key)),
     )

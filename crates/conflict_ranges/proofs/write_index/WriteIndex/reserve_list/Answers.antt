@@ -3,7 +3,7 @@ use Rattle.std.proofs.lemmas.List.{drop_all}
 use Rattle.conflict_ranges.specs.Writes.{IsReadyFor}
 use Rattle.conflict_ranges.proofs.Rooms.{GivesRoom, gives_room}
 use Rattle.conflict_ranges.proofs.Splits.{next_left}
-use Rattle.conflict_ranges.proofs.write_index.WriteIndex.reserve_all.Goals as goal
+use Rattle.conflict_ranges.proofs.write_index.WriteIndex.reserve_list.Goals as goal
 
 pub loop-range-preserved : goal.loop-range-preserved
 loop-range-preserved c =

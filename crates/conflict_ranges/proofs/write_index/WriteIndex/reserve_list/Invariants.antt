@@ -1,7 +1,7 @@
 use Rattle.std.proofs.Common.{◌≡◌, ℕ, List, drop}
 use Rattle.conflict_ranges.specs.Writes.{newest_at}
 use Rattle.conflict_ranges.proofs.Rooms.{GivesRoom}
-use Rattle.conflict_ranges.proofs.write_index.WriteIndex.reserve_all.Given as goal
+use Rattle.conflict_ranges.proofs.write_index.WriteIndex.reserve_list.Given as goal
 
 -- no version is another, and where the ranges that are left have room all have
 abbrev pub invariant-loop-range : goal.invariant-loop-range

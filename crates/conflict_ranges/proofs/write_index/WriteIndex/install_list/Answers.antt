@@ -1,21 +1,17 @@
-use Rattle.std.proofs.Common.{◌+◌, ◌<◌, arith, cond, max, length, drop, sym, ap, subst, ◌∙◌}
+use Rattle.std.proofs.Common.{◌+◌, ◌<◌, arith, cond, length, drop, sym, ap, subst, ◌∙◌}
 use Rattle.database_rules.specs.States.{covers}
 use Rattle.conflict_ranges.specs.Writes.{newest_at, Index, IsReadyFor}
 use Rattle.conflict_ranges.proofs.Rooms.{given_first, ready_kept, ready_raised}
 use Rattle.conflict_ranges.proofs.Splits.{next_left}
-use Rattle.conflict_ranges.proofs.write_index.WriteIndex.install_all.Goals as goal
+use Rattle.conflict_ranges.proofs.write_index.WriteIndex.install_list.Goals as goal
 
 pub loop-range-init : goal.loop-range-init
 loop-range-init c =
-    let version = c.args.version in let ranges = c.args.ranges.now in let inside = c.self.inside in
-    let newest = c.max-self-inside.result in
-    let asked = subst (λ (old : Index). IsReadyFor old version ranges) (sym c.self.view_is) c.requires in
+    let version = c.args.version in let ranges = c.args.ranges.now in let raised = c.raise_newest.ensures.newest in
     record {
-      newest = c.max-self-inside.ensures ∙ ap (λ (old : Index). max old.newest version) c.self.view_is;
-      ready =
-          subst (λ newest. IsReadyFor (record { keys = inside.keys; ranges = inside.ranges; newest = newest }) version ranges)
-          (sym c.max-self-inside.ensures) (ready_raised version ranges _ asked);
-      given = λ key. ap (λ (old : Index). cond (covers ranges key) version (newest_at old key)) c.self.view_is;
+      newest = ap (λ (index : Index). index.newest) raised;
+      ready = subst (λ (index : Index). IsReadyFor index version ranges) (sym raised) (ready_raised version ranges c.args.self.now c.requires);
+      given = λ key. ap (λ (index : Index). cond (covers ranges key) version (newest_at index key)) raised;
     }
 
 pub loop-range-preserved : goal.loop-range-preserved

@@ -1,7 +1,7 @@
 use Rattle.std.proofs.Common.{◌≡◌, ℕ, max, if◌then◌else◌, List, drop}
 use Rattle.database_rules.specs.States.{covers}
 use Rattle.conflict_ranges.specs.Writes.{newest_at, IsReadyFor}
-use Rattle.conflict_ranges.proofs.write_index.WriteIndex.install_all.Given as goal
+use Rattle.conflict_ranges.proofs.write_index.WriteIndex.install_list.Given as goal
 
 -- the ranges that are left have room, and with them the keys are given what all give
 abbrev pub invariant-loop-range : goal.invariant-loop-range
