@@ -232,6 +232,8 @@ trait Versions {
 
     fn give_all(&mut self, ranges: &[KeyRange], version: u64) -> Result<(), AllocError>;
 
+    fn give_one(&mut self, key: &Key, version: u64) -> Result<(), AllocError>;
+
     fn newest_of_range(&self, range: &KeyRange) -> u64;
 
     // The same, by the two ends.
@@ -247,6 +249,10 @@ impl Versions for WriteIndex {
 
     fn give_all(&mut self, ranges: &[KeyRange], version: u64) -> Result<(), AllocError> {
         self.declare_all(ranges, version)
+    }
+
+    fn give_one(&mut self, key: &Key, version: u64) -> Result<(), AllocError> {
+        self.declare_key(key, version)
     }
 
     fn newest_of_range(&self, range: &KeyRange) -> u64 {
@@ -327,27 +333,44 @@ fn newest_of_keys<V: Versions>(alloc: Global, index: &V) -> Result<[u64; 3], All
 }
 
 // The newest versions of `b`, of `c` and from `a` to `z`: once ranges that meet, an empty one and a key were written at 4, then `c`
-// alone at 6, then, where 6 is known, `b` alone at 5, and at last `c` alone at 2.
-fn newest_after_lists<V: Versions>(alloc: Global, index: &mut V) -> Result<[[u64; 3]; 4], AllocError> {
+// alone at 6, and then, where 6 is known, `b` alone at 5.
+fn newest_after_lists<V: Versions>(
+    alloc: Global,
+    index: &mut V,
+) -> Result<[[u64; 3]; 3], AllocError> {
     index.give_all(&four_ranges(alloc)?, 4)?;
     let first = newest_of_keys(alloc, index)?;
     index.give_all(&[single(alloc, b"c")?], 6)?;
     let second = newest_of_keys(alloc, index)?;
     index.give_all(&[single(alloc, b"b")?], 5)?;
-    let third = newest_of_keys(alloc, index)?;
-    index.give_all(&[single(alloc, b"c")?], 2)?;
-    Ok([first, second, third, newest_of_keys(alloc, index)?])
+    Ok([first, second, newest_of_keys(alloc, index)?])
+}
+
+// The same once the key `c` was written at 2 then, and the key `b` at 7.
+fn newest_after_keys<V: Versions>(
+    alloc: Global,
+    index: &mut V,
+) -> Result<[[u64; 3]; 2], AllocError> {
+    index.give_one(&bytes_of(alloc, b"c")?, 2)?;
+    let first = newest_of_keys(alloc, index)?;
+    index.give_one(&bytes_of(alloc, b"b")?, 7)?;
+    Ok([first, newest_of_keys(alloc, index)?])
 }
 
 // The same of a new index, and the newest version of all.
-fn newest_of_lists(alloc: Global) -> Result<([[u64; 3]; 4], u64), AllocError> {
+fn newest_of_declared(alloc: Global) -> Result<([[u64; 3]; 3], [[u64; 3]; 2], u64), AllocError> {
     let mut index = WriteIndex::new(alloc);
-    Ok((newest_after_lists(alloc, &mut index)?, index.newest()))
+    let lists = newest_after_lists(alloc, &mut index)?;
+    let keys = newest_after_keys(alloc, &mut index)?;
+    Ok((lists, keys, index.newest()))
 }
 
 #[test]
-fn takes_lists_of_ranges(rt: HostRuntime) -> Result<(), Fail> {
-    assert_eq!(rt; newest_of_lists(rt.alloc())?, ([[4, 0, 4], [4, 6, 6], [5, 6, 6], [5, 2, 5]], 6));
+fn takes_lists_of_ranges_and_keys(rt: HostRuntime) -> Result<(), Fail> {
+    let (lists, keys, newest) = newest_of_declared(rt.alloc())?;
+    assert_eq!(rt; lists, [[4, 0, 4], [4, 6, 6], [5, 6, 6]]);
+    assert_eq!(rt; keys, [[5, 2, 5], [7, 2, 7]]);
+    assert_eq!(rt; newest, 7);
     Ok(())
 }
 
