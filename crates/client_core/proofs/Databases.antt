@@ -1,5 +1,5 @@
 -- Calls on a transaction of its own, which is then committed.
-use Rattle.std.proofs.Common.{◌≡◌, ℕ, ◌+◌, ◌^◌, ◌<◌, ◌≤◌, true, false, cond, [], ◌++◌, length, sym, ap, subst, ◌∙◌, length-append, arith}
+use Rattle.std.proofs.Common.{◌≡◌, ℕ, ◌+◌, ◌^◌, ◌<◌, ◌≤◌, true, false, cond, [], ◌++◌, length, refl, sym, ap, subst, ◌∙◌, length-append, arith}
 use Rattle.std.proofs.lemmas.List.{append-nil}
 use Rattle.std.specs.Prelude.{Option}
 use Rattle.fdb_calls.specs.declared.Outcome.{Outcome}
@@ -13,10 +13,9 @@ use Rattle.conflict_ranges.specs.Writes.{Index}
 use Rattle.machine_rules.specs.Worlds.{World, next_life, decide, with_lives, called_apart, commit_made, database_by, fresh_at_last}
 use Rattle.version_store.specs.Versions.{Versions, last_of}
 use Rattle.txn_core.specs.Stands as txn
-use Rattle.txn_core.specs.declared.answer.Answer.{Answer}
 use Rattle.client_core.specs.Lives.{drawn_in, outcome_by}
 use Rattle.client_core.specs.Stands.{ContentsModel, KeptTransactions, KeepsWorld}
-use Rattle.client_core.specs.Sound.{Took, TookApart, IsSound}
+use Rattle.client_core.specs.Sound.{MadeOn, Took, TookApart, IsSound}
 use Rattle.client_core.proofs.Calls.{few_commits}
 use Rattle.client_core.proofs.Outcomes.{lives_agree}
 use Rattle.client_core.proofs.Named.{AllAlike}
@@ -48,26 +47,20 @@ apart_stands core after world life drew outcome left before made stands keeps tr
 }
 
 -- a call on it
-pub apart_took : (core after : ContentsModel) (world : World) (its_call : TxnCall) (next life : ℕ) (outcome : Option Outcome)
-    (before left : txn.Kept) (answer : Answer) (t : Transaction)
-    → next ≡ length core.lives
-    → ((setting : Setting) → txn.Keeps core.store core.index setting
-    → txn.Answers answer left after.store after.index setting (called setting next t its_call))
-    → after.transactions ≡ core.transactions
-    → life ≡ before.life → outcome ≡ outcome_by life left.life left.phase
-    → after.lives ≡ decide life outcome (with_lives core.lives (cond answer.drew_life 1 0))
-    → txn.StandsFor before t → KeepsWorld core world
-    → TookApart answer.reply left after world t (called world.setting (next_life world) t its_call)
-apart_took core after world its_call next life outcome before left answer t counted answers transactions is becomes lives stood stands =
-    let made = called world.setting (next_life world) t its_call in
-    let told : txn.Answers answer left after.store after.index world.setting made =
-    subst (λ n. txn.Answers answer left after.store after.index world.setting (called world.setting n t its_call)) (counted ∙ ap length stands.lives)
-    (answers world.setting stands.keeps) in
+pub apart_took : (core after : ContentsModel) (world : World) (its_call : TxnCall) (before left : txn.Kept) (given : Reply) (t : Transaction)
+    → MadeOn its_call given before left core.store after.store core.index after.index core.lives after.lives
+    → after.transactions ≡ core.transactions → txn.StandsFor before t → KeepsWorld core world
+    → TookApart given left after world t (called world.setting (next_life world) t its_call)
+apart_took core after world its_call before left given t made transactions stood stands =
+    let leaves = called world.setting (next_life world) t its_call in
+    let told : txn.Answers made.answer left after.store after.index world.setting leaves =
+    subst (λ n. txn.Answers made.answer left after.store after.index world.setting (called world.setting n t its_call)) (ap length stands.lives)
+    (made.answers t world.setting stood stands.keeps) in
     record {
-      reply_is = told.reply;
+      reply_is = made.reply_is ∙ told.reply;
       stands = told.stands;
-      world_stands = apart_stands core after world life (cond answer.drew_life 1 0) outcome left t made stands told.keeps transactions lives
-          becomes (is ∙ stood.life) told.lives told.stands;
+      world_stands = apart_stands core after world before.life (cond made.answer.drew_life 1 0) (outcome_by before.life left.life left.phase)
+          left t leaves stands told.keeps transactions made.lives_are refl stood.life told.lives told.stands;
     }
 
 -- writes of entries on it change nothing of the core

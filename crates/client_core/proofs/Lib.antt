@@ -1,3 +1,4 @@
+pub mod Results
 pub mod Named
 pub mod Calls
 pub mod Databases

@@ -5,6 +5,7 @@ use Rattle.std.specs.FinMap as finite
 use Rattle.std.specs.Ordering.{eq_by_cmp}
 use Rattle.std.specs.Cmp.{eq_by_cmp_equiv}
 use Rattle.std.specs.Cmp.Lexicographic.{nat_list_cmp_total}
+use Rattle.fdb_calls.specs.declared.Reply.{Reply}
 use Rattle.fdb_calls.specs.declared.TxnCall.{TxnCall}
 use Rattle.key_bytes.specs.Keys.{key_cmp}
 use Rattle.database_rules.specs.Histories.{Setting}
@@ -15,10 +16,9 @@ use Rattle.machine_rules.specs.Worlds.{World, Transactions, next_life, decide, w
 use Rattle.conflict_ranges.specs.Writes.{Index}
 use Rattle.version_store.specs.Versions.{Versions}
 use Rattle.txn_core.specs.Stands as txn
-use Rattle.txn_core.specs.declared.answer.Answer.{Answer}
 use Rattle.client_core.specs.Stands.{ContentsModel, KeptTransactions, KeepsWorld, AreAlike}
 use Rattle.client_core.specs.Lives.{life_of, outcome_by}
-use Rattle.client_core.specs.Sound.{Took}
+use Rattle.client_core.specs.Sound.{MadeOn, Took}
 use Rattle.client_core.proofs.Outcomes.{life_found, lives_agree}
 
 same_key : (name : List ℕ) → eq_by_cmp key_cmp name name ≡ true
@@ -96,29 +96,36 @@ found_stands kept fresh_one (Some x) None e alike = absurd alike
 found_stands kept fresh_one (Some x) (Some y) e alike = subst (λ k. txn.StandsFor k y) (let same : x ≡ kept = cc in same) alike
 
 -- a call on the transaction of a name, which is there, is the call of the step
-pub named_took : (core after : ContentsModel) (world : World) (name : List ℕ) (call : TxnCall) (next life : ℕ) (outcome : Option Outcome)
-    (before left : txn.Kept) (answer : Answer)
-    → finite.get core.transactions name ≡ Some before → next ≡ length core.lives
-    → ((transaction : Transaction) (setting : Setting) → txn.StandsFor before transaction → txn.Keeps core.store core.index setting
-    → txn.Answers answer left after.store after.index setting (called setting next transaction call))
+pub named_took : (core after : ContentsModel) (world : World) (name : List ℕ) (call : TxnCall) (before left : txn.Kept) (given : Reply)
+    → finite.get core.transactions name ≡ Some before
+    → MadeOn call given before left core.store after.store core.index after.index core.lives after.lives
     → after.transactions ≡ finite.insert core.transactions name left
-    → life ≡ before.life → outcome ≡ outcome_by life left.life left.phase
-    → after.lives ≡ decide life outcome (with_lives core.lives (cond answer.drew_life 1 0))
-    → KeepsWorld core world → Took answer.reply after (call_named world name call)
-named_took core after world name call next life outcome before left answer found counted answers transactions is becomes lives stands =
+    → KeepsWorld core world → Took given after (call_named world name call)
+named_took core after world name call before left given found made transactions stands =
     let its = transaction_of world name in
     let stood = found_stands before (fresh (next_life world)) (finite.get core.transactions name) (finite.get world.transactions name) found (stands.transactions name) in
-    let told = subst (λ n. txn.Answers answer left after.store after.index world.setting (called world.setting n its call)) (counted ∙ ap length stands.lives)
-    (answers its world.setting stood stands.keeps) in
-    let made = called world.setting (next_life world) its call in
+    let told = subst (λ n. txn.Answers made.answer left after.store after.index world.setting (called world.setting n its call))
+    (ap length stands.lives) (made.answers its world.setting stood stands.keeps) in
+    let leaves = called world.setting (next_life world) its call in
     record {
-      reply_is = told.reply;
+      reply_is = made.reply_is ∙ told.reply;
       stands = record {
         keeps = told.keeps;
-        transactions = subst (λ (m : KeptTransactions). AllAlike m (finite.insert world.transactions name made.transaction)) (sym transactions)
-            (alike_inserted core.transactions world.transactions name left made.transaction told.stands stands.transactions);
-        lives = lives
-            ∙ lives_agree core.lives world.lives life (cond answer.drew_life 1 0) made.lives outcome left its made.transaction stands.lives
-            told.lives (is ∙ stood.life) becomes told.stands;
+        transactions = subst (λ (m : KeptTransactions). AllAlike m (finite.insert world.transactions name leaves.transaction)) (sym transactions)
+            (alike_inserted core.transactions world.transactions name left leaves.transaction told.stands stands.transactions);
+        lives = made.lives_are
+            ∙ lives_agree core.lives world.lives before.life (cond made.answer.drew_life 1 0) leaves.lives
+            (outcome_by before.life left.life left.phase) left its leaves.transaction stands.lives told.lives stood.life refl told.stands;
       };
     }
+
+-- and where it is there, that of the step of any name
+pub made_took : (core after : ContentsModel) (world : World) (name : List ℕ) (call : TxnCall) (before left : txn.Kept) (given : Reply)
+    → finite.get core.transactions name ≡ Some before
+    → MadeOn call given before left core.store after.store core.index after.index core.lives after.lives
+    → after.transactions ≡ finite.insert core.transactions name left
+    → KeepsWorld core world → Took given after (call_named (with_named world name) name call)
+made_took core after world name call before left given found made transactions stands =
+    subst (λ (named : World). Took given after (call_named named name call))
+    (sym (named_had core world name stands (ap is_some found)))
+    (named_took core after world name call before left given found made transactions stands)

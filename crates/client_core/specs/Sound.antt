@@ -1,15 +1,21 @@
 -- What holds of a core while memory never ran out.
-use Rattle.std.specs.Prelude.{◌≡◌, ℕ, ◌≤◌, Result, Ok, Err}
+use Rattle.std.specs.Prelude.{◌≡◌, ℕ, ◌≤◌, if◌then◌else◌, List, length, Option, Result, Ok, Err}
 use Rattle.fdb_calls.specs.declared.fault.TrFault.{TrFault}
 use Rattle.fdb_calls.specs.declared.fault.TrFault.TheVariants as fault
 use Rattle.fdb_calls.specs.declared.Reply.{Reply}
 use Rattle.fdb_calls.specs.declared.Reply.TheVariants as reply
-use Rattle.database_rules.specs.Histories.{last}
+use Rattle.fdb_calls.specs.declared.TxnCall.{TxnCall}
+use Rattle.fdb_calls.specs.declared.Outcome.{Outcome}
+use Rattle.database_rules.specs.Histories.{Setting, last}
 use Rattle.database_rules.specs.Transactions.{Transaction}
-use Rattle.fdb_calls.specs.Calling.{Called}
-use Rattle.machine_rules.specs.Worlds.{World, Stepped, HasWords, called_apart}
+use Rattle.fdb_calls.specs.Calling.{Called, called}
+use Rattle.machine_rules.specs.Worlds.{World, Stepped, HasWords, called_apart, decide, with_lives}
+use Rattle.conflict_ranges.specs.Writes.{Index}
+use Rattle.version_store.specs.Versions.{Versions}
 use Rattle.txn_core.specs.Stands as txn
+use Rattle.txn_core.specs.declared.answer.Answer.{Answer}
 use Rattle.client_core.specs.Stands.{ContentsModel, KeepsWorld}
+use Rattle.client_core.specs.Lives.{outcome_by}
 
 -- A core stands for some world, whose history has at most this many commits.
 pub record IsSound (core : ContentsModel) (commits : ℕ) : Type 0 where
@@ -32,6 +38,17 @@ pub record TookApart (reply : Reply) (kept : txn.Kept) (core : ContentsModel) (w
   pub reply_is : reply ≡ called.reply
   pub stands : txn.StandsFor kept called.transaction
   pub world_stands : KeepsWorld core (called_apart world before called)
+
+-- A call on a transaction that was kept so was replied to so: what is left of it, of the store, of the index, and of what became of
+-- each life.
+pub record MadeOn (call : TxnCall) (reply : Reply) (before left : txn.Kept) (store store_left : Versions) (index index_left : Index)
+    (lives lives_left : List (Option Outcome)) : Type 0 where
+  pub answer : Answer
+  pub reply_is : reply ≡ answer.reply
+  pub answers : (transaction : Transaction) (setting : Setting) → txn.StandsFor before transaction → txn.Keeps store index setting
+      → txn.Answers answer left store_left index_left setting (called setting (length lives) transaction call)
+  pub lives_are : lives_left ≡ decide before.life (outcome_by before.life left.life left.phase)
+      (with_lives lives (if answer.drew_life then 1 else 0))
 
 -- writes are replied to as they were answered
 abbrev pub Replies : {A : Type 0} → Result A TrFault → Reply → Type 0

@@ -12,7 +12,7 @@ ghost use Rattle.client_core.specs.Lives.{drawn_in, life_of};
 ghost use Rattle.version_store.specs.Versions.{at, last_of};
 ghost use Rattle.client_core.specs.Stands.{KeepsWorld};
 ghost use Rattle.txn_core.specs.Stands as txn;
-ghost use Rattle.client_core.specs.Sound.{IsSound, Took, TookApart, Replies};
+ghost use Rattle.client_core.specs.Sound.{IsSound, MadeOn, Took, TookApart, Replies};
 ghost use Rattle.client_core.specs.Contents.{first_begins, model_of, IsOnDatabase};
 
 use crate::lives::{Lives, outcome_after};
@@ -105,7 +105,11 @@ impl Contents {
             → Took reply (model_of self.new) (call_named (with_named world name.now) name.now call.now)) }
         ensures applied { self.new.applied ≡ self.old.applied }
     {
-        self.make(name)?;
+        if let Some(transaction) = self.transactions.get_mut(name) {
+            let (store, index) = (&mut self.store, &mut self.index);
+            return call_on(transaction, store, index, &mut self.lives, call);
+        }
+        self.make_new(name)?;
         self.call_named(name, call)
     }
 
@@ -118,11 +122,8 @@ impl Contents {
         ensures applied { self.new.applied ≡ self.old.applied }
     {
         let transaction = self.transactions.get_mut(name).unwrap();
-        let life = transaction.life();
-        let answer = transaction.call(&mut self.store, &mut self.index, call, self.lives.next())?;
-        let outcome = outcome_after(life, transaction);
-        self.lives.go_on(answer.drew_life, life, outcome)?;
-        Ok(answer.reply)
+        let (store, index) = (&mut self.store, &mut self.index);
+        call_on(transaction, store, index, &mut self.lives, call)
     }
 
     // A call on a transaction of its own at the last version, which is then committed.
@@ -187,11 +188,8 @@ impl Contents {
             → TookApart reply transaction.new (model_of self.new) world t (called world.setting (next_life world) t call.now)) }
         ensures applied { self.new.applied ≡ self.old.applied }
     {
-        let life = transaction.life();
-        let answer = transaction.call(&mut self.store, &mut self.index, call, self.lives.next())?;
-        let outcome = outcome_after(life, transaction);
-        self.lives.go_on(answer.drew_life, life, outcome)?;
-        Ok(answer.reply)
+        let (store, index) = (&mut self.store, &mut self.index);
+        call_on(transaction, store, index, &mut self.lives, call)
     }
 
     // What was promised of a life.
@@ -225,6 +223,25 @@ impl Contents {
             Err(_) => unreachable!(),
         }
     }
+}
+
+// A call on a transaction over a store and its index, and what becomes of its life by it: the reply.
+fn call_on(
+    transaction: &mut Txn,
+    store: &mut Store,
+    index: &mut WriteIndex,
+    lives: &mut Lives,
+    call: &TxnCall,
+) -> Result<Reply, AllocError>
+    requires { last_of store.old + 1 < 2 ^ 63 }
+    ensures { IfOk result (λ reply. MadeOn call.now reply transaction.old transaction.new store.old store.new index.old index.new
+        lives.old lives.new) }
+{
+    let life = transaction.life();
+    let answer = transaction.call(store, index, call, lives.next())?;
+    let outcome = outcome_after(life, transaction);
+    lives.go_on(answer.drew_life, life, outcome)?;
+    Ok(answer.reply)
 }
 
 // Whether a pair is there, and its key begins with a prefix.

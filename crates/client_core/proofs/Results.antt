@@ -1,0 +1,7 @@
+-- What follows of a result where there is one.
+use Rattle.std.proofs.Common.{Result, Ok, Err}
+use Rattle.std.specs.Prelude.{IfOk}
+
+pub ok_so : {X E : Type 0} (P Q : X → Type 0) (result : Result X E) → ((x : X) → P x → Q x) → IfOk result P → IfOk result Q
+ok_so P Q (Ok x) so has = so x has
+ok_so P Q (Err error) so has = tt
