@@ -2,6 +2,8 @@
 use Rattle.std.proofs.Common.{◌≡◌, ℕ, zero, suc, ◌+◌, ◌<◌, ◌≤◌, Bool, true, false, ◌&&◌, ◌==◌, leb, T, List, [], ◌∷◌, ◌++◌, length, take, drop, get_or, slice_index_or, refl, sym, ap, ap₂, ◌∙◌, append_assoc, arith}
 use Rattle.std.proofs.lemmas.Bool.{eqb-true, leb-true}
 use Rattle.std.proofs.lemmas.List.{take-append-le, take-take, length-take, take_all}
+use Rattle.std.proofs.lemmas.Simd.{chunk-drop, length-chunk, put_chunk_is}
+use lib.Lanes.{chunk, put_chunk}
 use Rattle.line_rules.specs.Printing.{printed, printable}
 use Rattle.dump_text.specs.declared.room.TheConstants.{FORMS, LENGTHS}
 use Rattle.dump_text.proofs.Runs.{printable-cons}
@@ -17,12 +19,19 @@ placed (suc a) n (byte ∷ room) ys zs h k =
     let next : suc a + n ≡ suc (a + n) = omega arith in
     rw next (ap (λ (x : List ℕ). byte ∷ x) (placed a n room ys zs (omega arith) k))
 
--- the first bytes of some that were put
-pub placed_front : (a n m : ℕ) (room bytes ys zs : List ℕ) → a ≤ length room → n ≤ m → m ≤ length bytes → ys ≡ take m bytes
-    → take (a + n) (take a room ++ (ys ++ zs)) ≡ take a room ++ take n bytes
-placed_front a n m room bytes ys zs h k l e =
-    let long : n ≤ length ys = omega (arith, length-take m bytes, ap length e) in
-    placed a n room ys zs h long ∙ ap (λ (x : List ℕ). take a room ++ take n x) e ∙ ap (λ (x : List ℕ). take a room ++ x) (take-take n m bytes k)
+-- the first bytes of a vector that was put
+pub vector_placed : (a n : ℕ) (room ys : List ℕ) → a + length ys ≤ length room → n ≤ length ys
+    → take (a + n) (put_chunk a room ys) ≡ take a room ++ take n ys
+vector_placed a n room ys h k = ap (take (a + n)) (put_chunk_is a room ys h) ∙ placed a n room ys _ (omega arith) k
+
+-- the first bytes of the first some
+pub front_placed : (a n m : ℕ) (room bytes : List ℕ) → a + length bytes ≤ length room → n ≤ m → m ≤ length bytes
+    → take (a + n) (put_chunk a room (chunk 0 m bytes)) ≡ take a room ++ take n bytes
+front_placed a n m room bytes h k l =
+    let long : length (chunk 0 m bytes) ≡ m = length-chunk 0 m bytes (omega arith) in
+    let same_front : take n (chunk 0 m bytes) ≡ take n bytes =
+    sym (ap (take n) (chunk-drop 0 m bytes) ∙ take-append-le n (chunk 0 m bytes) _ (omega (arith, long))) in
+    vector_placed a n room (chunk 0 m bytes) (omega (arith, long)) (omega (arith, long)) ∙ ap (λ (x : List ℕ). take a room ++ x) same_front
 
 -- what was held stands in front of a room that was added
 pub held : (old fill : List ℕ) (n end : ℕ) → n ≡ length old → n ≤ end → take n (take end old ++ fill) ≡ old
@@ -74,6 +83,9 @@ same_is (x ∷ xs) (y ∷ ys) h =
 
 pub form_is : (byte : ℕ) → byte < 256 → take (get_or LENGTHS byte 0) (get_or FORMS byte []) ≡ printed byte
 form_is byte h = same_is _ _ (holds_at (λ x. same (take (get_or LENGTHS x 0) (get_or FORMS x [])) (printed x)) 256 tt byte h)
+
+pub form_long : (byte : ℕ) → byte < 256 → length (get_or FORMS byte []) ≡ 4
+form_long byte h = eqb-true _ _ (true_is _ (holds_at (λ x. length (get_or FORMS x []) == 4) 256 tt byte h))
 
 pub form_short : (byte : ℕ) → byte < 256 → get_or LENGTHS byte 0 ≤ 4
 form_short byte h = leb-true _ _ (true_is _ (holds_at (λ x. leb (get_or LENGTHS x 0) 4) 256 tt byte h))

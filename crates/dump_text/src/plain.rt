@@ -1,13 +1,11 @@
 //! Bytes that stand for themselves.
 
-ghost use Rattle.std.specs.Prelude.{◌≡◌, ◌+◌, ◌≤◌, ◌++◌, length, drop, map, OnOk, OnErr};
+ghost use Rattle.std.specs.Prelude.{◌≡◌, ◌+◌, ◌≤◌, length, drop, map};
 ghost use Rattle.std.specs.List.{prefix_len, take_while};
 ghost use Rattle.std.specs.Simd.Lanes.{mask_l};
-ghost use Rattle.std.specs.Vec.{vec_len, vec_capacity};
 ghost use Rattle.line_rules.specs.Printing.{is_plain};
 ghost use Rattle.dump_text.specs.Stops.{is_stop};
 
-use std::alloc::AllocError;
 use std::simd::prelude::*;
 
 /// Whether `byte` stands for itself. It takes no memory.
@@ -93,15 +91,12 @@ fn plain_end_8(bytes: &[u8], from: usize) -> usize
     plain_end_slowly(bytes, from + 8)
 }
 
-// How many bytes at the front stand for themselves. Of an escape none is looked at but its backslash. It takes no memory.
+// How many bytes at the front stand for themselves. It takes no memory.
 #[inline]
 fn plain_len(bytes: &[u8]) -> usize
     ensures value { result ≡ prefix_len is_plain bytes.now }
     ensures within { result ≤ length bytes.now }
 {
-    if let [b'\\', ..] = bytes {
-        return 0;
-    }
     let mut i = 0;
     while bytes.len() - i >= 16 {
         let found = stops_16(u8x16::from_slice(&bytes[i..]));
@@ -120,18 +115,4 @@ pub fn split_plain(bytes: &[u8]) -> (&[u8], &[u8])
     ensures rest { result.1.now ≡ drop (prefix_len is_plain bytes.now) bytes.now }
 {
     bytes.split_at(plain_len(bytes))
-}
-
-/// Adds bytes at the end, often none. After a refusal `to` is unchanged.
-#[inline(always)]
-pub fn add_run(to: &mut Vec<u8>, run: &[u8]) -> Result<(), AllocError>
-    ensures ok { OnOk result (to.new.items ≡ to.old.items ++ run.now) }
-    ensures err { OnErr result (to.new.items ≡ to.old.items) }
-    ensures len { OnOk result (vec_len to.new ≡ vec_len to.old + length run.now) }
-    ensures capacity { vec_capacity to.old ≤ vec_capacity to.new }
-{
-    if run.is_empty() {
-        return Ok(());
-    }
-    to.extend_from_slice(run)
 }

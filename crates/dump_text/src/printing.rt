@@ -5,7 +5,7 @@ ghost use Rattle.std.specs.Vec.{vec_len, vec_capacity};
 ghost use Rattle.line_rules.specs.Printing.{is_plain, in_digits, printed, printable, printable_but, hexadecimal_digit};
 ghost use Rattle.dump_text.specs.Growing.{Grew};
 
-use crate::plain::{add_run, is_plain, split_plain};
+use crate::plain::split_plain;
 use crate::room::put_printable;
 use key_bytes::Bytes;
 use memchr::memchr;
@@ -83,11 +83,10 @@ pub fn add_printable(to: &mut Vec<u8>, bytes: &[u8]) -> Result<(), AllocError>
     ensures err { OnErr result (Grew to.old.items to.new.items) }
 {
     let (run, left) = split_plain(bytes);
-    add_run(to, run)?;
     if left.is_empty() {
-        return Ok(());
+        return to.extend_from_slice(run);
     }
-    add_escaped(to, left)
+    add_escaped(to, bytes)
 }
 
 /// What `written` tells; where it is a refusal, `to` is cut back to `len` bytes. It takes no memory.

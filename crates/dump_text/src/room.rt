@@ -6,6 +6,7 @@ ghost use Rattle.line_rules.specs.Reading.{text_of};
 ghost use Rattle.dump_text.specs.Texts.{with_front};
 
 use crate::plain::{plain_in_8, plain_in_16};
+use std::simd::prelude::*;
 
 /// What is put for each byte: its printable form, and what comes behind that is written over.
 pub(crate) const FORMS: [[u8; 4]; 256] = [
@@ -77,11 +78,11 @@ pub fn put_plain(room: &mut [u8], at: usize, bytes: &[u8]) -> usize
     ensures len { length room.new ≡ length room.old }
 {
     if bytes.len() >= 16 {
-        room[at..at + 16].copy_from_slice(&bytes[..16]);
+        u8x16::from_slice(bytes).copy_to_slice(&mut room[at..]);
         return plain_in_16(bytes);
     }
     if bytes.len() >= 8 {
-        room[at..at + 8].copy_from_slice(&bytes[..8]);
+        u8x8::from_slice(bytes).copy_to_slice(&mut room[at..]);
         return plain_in_8(bytes);
     }
     0
@@ -95,7 +96,7 @@ fn put_form(room: &mut [u8], at: usize, byte: u8) -> usize
     ensures end { result ≤ at + 4 }
     ensures len { length room.new ≡ length room.old }
 {
-    room[at..at + 4].copy_from_slice(&FORMS[usize::from(byte)]);
+    u8x4::from_slice(&FORMS[usize::from(byte)]).copy_to_slice(&mut room[at..]);
     at + usize::from(LENGTHS[usize::from(byte)])
 }
 

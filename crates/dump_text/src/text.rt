@@ -1,8 +1,10 @@
 //! Reading of the printable form of bytes.
 
-ghost use Rattle.std.specs.Prelude.{◌≡◌, ◌+◌, ◌≤◌, ◌∷◌, length, IfOk, OnOk};
-ghost use Rattle.line_rules.specs.Reading.{piece_at, escaped_piece, hexadecimal_piece, digit_of, text_of};
+ghost use Rattle.std.specs.Prelude.{◌≡◌, ◌+◌, ◌≤◌, ◌∷◌, length, drop, IfOk, OnOk};
+ghost use Rattle.std.specs.List.{prefix_len, take_while};
 ghost use Rattle.std.specs.Vec.{vec_len};
+ghost use Rattle.line_rules.specs.Printing.{is_plain};
+ghost use Rattle.line_rules.specs.Reading.{piece_at, escaped_piece, hexadecimal_piece, digit_of, text_of};
 ghost use Rattle.dump_text.specs.Texts.{piece_is, stop_is, text_is, passed};
 
 use crate::plain::{is_plain, split_plain};
@@ -174,6 +176,19 @@ fn read_on<'a>(
     }
 }
 
+// The bytes at the front that stand for themselves, and all from the first that does not. No run is looked for where a
+// backslash stands at the front. It takes no memory.
+#[inline(always)]
+fn split_run(bytes: &[u8]) -> (&[u8], &[u8])
+    ensures front { result.0.now ≡ take_while is_plain bytes.now }
+    ensures rest { result.1.now ≡ drop (prefix_len is_plain bytes.now) bytes.now }
+{
+    if let [b'\\', ..] = bytes {
+        return bytes.split_at(0);
+    }
+    split_plain(bytes)
+}
+
 /// The bytes that are spelled up to the end, the separator or a fault. One plain run is copied as it stands; only a
 /// text with an escape in it is built in the scratch buffer, whatever that held.
 #[inline(always)]
@@ -185,7 +200,7 @@ pub fn read_text<'a>(
     ensures value { IfOk result (λ text. text_is text ≡ text_of bytes.now) }
     ensures within { IfOk result (λ text. length text.left.now + passed text.stop ≤ length bytes.now) }
 {
-    let (run, left) = split_plain(bytes);
+    let (run, left) = split_run(bytes);
     match left {
         [] => copy_up_to(alloc, run, Stop::AtEnd, left),
         [b'\\', b'=', rest @ ..] => copy_up_to(alloc, run, Stop::AtSeparator, rest),

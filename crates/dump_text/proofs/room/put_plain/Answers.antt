@@ -1,13 +1,12 @@
 use Rattle.std.proofs.Common.{arith}
-use Rattle.dump_text.proofs.Rooms.{placed_front}
+use Rattle.dump_text.proofs.Rooms.{front_placed}
 use Rattle.dump_text.proofs.Runs.{printable_front}
 use Rattle.dump_text.proofs.Pieces.{text_front}
 use Rattle.dump_text.proofs.room.put_plain.Goals as goal
 
 pub returns-then-bytes-ge16-clause-front : goal.returns-then-bytes-ge16-clause-front
 returns-then-bytes-ge16-clause-front c =
-    placed_front c.args.at c.plain_in_16.result 16 c.args.room.now c.args.bytes.now c.copy_from_slice.new.self _ (omega arith)
-    c.plain_in_16.ensures.few (omega arith) c.copy_from_slice.ensures.after
+    front_placed c.args.at c.plain_in_16.result 16 c.args.room.now c.args.bytes.now c.requires c.plain_in_16.ensures.few (omega arith)
 
 pub returns-then-bytes-ge16-clause-read : goal.returns-then-bytes-ge16-clause-read
 returns-then-bytes-ge16-clause-read c = text_front c.plain_in_16.result c.args.bytes.now c.plain_in_16.ensures.plain
@@ -17,8 +16,7 @@ returns-then-bytes-ge16-clause-printed c = printable_front c.plain_in_16.result 
 
 pub returns-then-bytes-ge8-clause-front : goal.returns-then-bytes-ge8-clause-front
 returns-then-bytes-ge8-clause-front c =
-    placed_front c.args.at c.plain_in_8.result 8 c.args.room.now c.args.bytes.now c.copy_from_slice-then-bytes-ge8.new.self _ (omega arith)
-    c.plain_in_8.ensures.few (omega arith) c.copy_from_slice-then-bytes-ge8.ensures.after
+    front_placed c.args.at c.plain_in_8.result 8 c.args.room.now c.args.bytes.now c.requires c.plain_in_8.ensures.few (omega arith)
 
 pub returns-then-bytes-ge8-clause-read : goal.returns-then-bytes-ge8-clause-read
 returns-then-bytes-ge8-clause-read c = text_front c.plain_in_8.result c.args.bytes.now c.plain_in_8.ensures.plain
