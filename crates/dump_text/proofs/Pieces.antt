@@ -1,6 +1,6 @@
 -- The printable form, a run or a piece at a time.
 use Rattle.std.proofs.Common.{◌≡◌, ℕ, zero, suc, ◌+◌, ◌<◌, Bool, true, false, cond, not, ◌&&◌, ◌==◌, ltb, ◌*◌, List, [], ◌∷◌, ◌++◌, length, take, drop, slice_index_or, ◌-◌, ◌≤◌, refl, sym, ap, subst, ◌∙◌, append_assoc, arith}
-use Rattle.std.specs.List.{take_while}
+use Rattle.std.specs.List.{take_while, prefix_len}
 use Rattle.std.proofs.lemmas.List.{append-nil, take_all}
 use Rattle.dump_text.specs.Texts.{with_front}
 use Rattle.dump_text.proofs.Runs.{after, run_goes_on, run_stops}
@@ -223,3 +223,15 @@ text_empty = text_nothing [] refl
 pub text_parted : (rest : List ℕ) → text_of (separator ++ rest) ≡ record { bytes = []; stop = AtSeparator; left = rest }
 unfolding piece_at
 text_parted rest = text_separator (separator ++ rest) rest refl
+
+-- the bytes that a run begins with, and what stands behind them
+pub text_front : (n : ℕ) (bytes : List ℕ) → n ≤ prefix_len is_plain bytes → text_of bytes ≡ with_front (take n bytes) (text_of (drop n bytes))
+text_front zero bytes h = refl
+text_front (suc n) [] h = absurd (omega arith)
+text_front (suc n) (byte ∷ rest) h =
+    elim (is_plain byte) as (λ b. is_plain byte ≡ b → text_of (byte ∷ rest) ≡ with_front (take (suc n) (byte ∷ rest)) (text_of (drop (suc n) (byte ∷ rest)))) [
+      | true ↦ λ e.
+          let less : n ≤ prefix_len is_plain rest = let k : suc n ≤ 1 + prefix_len is_plain rest = rw e at h in omega arith in
+          plain_text byte rest e ∙ ap (with_front (byte ∷ [])) (text_front n rest less)
+      | false ↦ λ e. let k : suc n ≤ 0 = rw e at h in absurd (omega arith)
+    ] refl

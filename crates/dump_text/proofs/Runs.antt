@@ -1,5 +1,5 @@
 -- Runs of bytes that pass a test, and how they are printed.
-use Rattle.std.proofs.Common.{◌≡◌, ℕ, suc, ◌+◌, ◌-◌, ◌<◌, ◌≤◌, Bool, true, false, List, [], ◌∷◌, ◌++◌, length, take, drop, slice_index_or, refl, sym, ap, ◌∙◌, append_assoc, arith}
+use Rattle.std.proofs.Common.{◌≡◌, ℕ, zero, suc, ◌+◌, ◌-◌, ◌<◌, ◌≤◌, Bool, true, false, List, [], ◌∷◌, ◌++◌, length, take, drop, slice_index_or, refl, sym, ap, ◌∙◌, append_assoc, arith}
 use Rattle.std.specs.List.{prefix_len, take_while}
 use Rattle.std.proofs.lemmas.List.{append-nil}
 use Rattle.std.proofs.lemmas.Slice.{first_rest}
@@ -35,10 +35,6 @@ printed_run p h (byte ∷ rest) =
 pub printable_run : (bytes : List ℕ) → printable bytes ≡ take_while is_plain bytes ++ printable (after is_plain bytes)
 printable_run bytes = printed_run is_plain (λ byte e. rw e refl) bytes
 
-pub parts_are_printed : (bytes run left : List ℕ) → run ≡ take_while is_plain bytes → left ≡ after is_plain bytes
-    → printable bytes ≡ run ++ printable left
-parts_are_printed bytes run left f g = rw (f, g) (printable_run bytes)
-
 pub parts_printed : (to bytes run left : List ℕ) → run ≡ take_while is_plain bytes → left ≡ after is_plain bytes
     → (to ++ run) ++ printable left ≡ to ++ printable bytes
 parts_printed to bytes run left f g = rw (f, g, append_assoc, ← printable_run bytes) refl
@@ -47,7 +43,7 @@ parts_printed to bytes run left f g = rw (f, g, append_assoc, ← printable_run 
 taken_apart : (left : List ℕ) → 1 ≤ length left → left ≡ slice_index_or left 0 0 ∷ take (length left - 1) (drop 1 left)
 taken_apart left h = first_rest left 0 h
 
-printable-cons : (byte : ℕ) (rest : List ℕ) → printable (byte ∷ rest) ≡ printed byte ++ printable rest
+pub printable-cons : (byte : ℕ) (rest : List ℕ) → printable (byte ∷ rest) ≡ printed byte ++ printable rest
 unfolding printable
 printable-cons byte rest = refl
 
@@ -60,16 +56,22 @@ print_first to left total byte h e so_far =
     ap printable (taken_apart left h) ∙ printable-cons (slice_index_or left 0 0) rest ∙ ap (λ (x : ℕ). printed x ++ printable rest) e in
     ap (λ (x : List ℕ). to ++ x) (sym whole) ∙ so_far
 
-pub print_plain : (to left total : List ℕ) (byte : ℕ) → 1 ≤ length left → slice_index_or left 0 0 ≡ byte → is_plain byte ≡ true
-    → to ++ printable left ≡ total
-    → (to ++ byte ∷ []) ++ printable (take (length left - 1) (drop 1 left)) ≡ total
-print_plain to left total byte h e plain so_far =
-    let rest = take (length left - 1) (drop 1 left) in
-    let itself : printed byte ≡ byte ∷ [] = rw plain refl in
-    append_assoc to (byte ∷ []) (printable rest) ∙ rw itself at (print_first to left total byte h e so_far)
-
 -- nothing is left to print
 pub print_done : (to left total : List ℕ) → length left < 1 → to ++ printable left ≡ total → to ≡ total
 unfolding printable
 print_done to [] total h so_far = sym (append-nil to) ∙ so_far
 print_done to (byte ∷ rest) total h so_far = absurd (omega arith)
+
+-- the bytes that a run begins with, and what stands behind them
+pub printable_front : (n : ℕ) (bytes : List ℕ) → n ≤ prefix_len is_plain bytes → printable bytes ≡ take n bytes ++ printable (drop n bytes)
+printable_front zero bytes h = refl
+printable_front (suc n) [] h = absurd (omega arith)
+printable_front (suc n) (byte ∷ rest) h =
+    elim (is_plain byte) as (λ b. is_plain byte ≡ b → printable (byte ∷ rest) ≡ take (suc n) (byte ∷ rest) ++ printable (drop (suc n) (byte ∷ rest))) [
+      | true ↦ λ e.
+          let less : n ≤ prefix_len is_plain rest = let k : suc n ≤ 1 + prefix_len is_plain rest = rw e at h in omega arith in
+          let itself : printed byte ≡ byte ∷ [] = rw e refl in
+          printable-cons byte rest ∙ ap (λ (x : List ℕ). x ++ printable rest) itself
+          ∙ ap (λ (x : List ℕ). byte ∷ x) (printable_front n rest less)
+      | false ↦ λ e. let k : suc n ≤ 0 = rw e at h in absurd (omega arith)
+    ] refl

@@ -33,7 +33,7 @@ pub true_is : (b : Bool) → T b → b ≡ true
 true_is true h = refl
 true_is false h = absurd h
 
-both : (a b : Bool) → T (a && b) → T a × T b
+pub both : (a b : Bool) → T (a && b) → T a × T b
 both true b h = (tt, h)
 both false b h = absurd h
 
@@ -120,3 +120,10 @@ run_stops bytes i n room short some =
     split bytes i n
     ∙ ap (λ b. cond b (length c + prefix_len is_plain (drop (i + n) bytes)) (prefix_len is_plain c)) (ne_eqb _ _ (λ (e : prefix_len is_plain c ≡ length c). omega (arith, all_plain c e)))
     ∙ same_run c ∙ sym (trailing_mask_l is_stop 64 c (omega (arith, length-chunk i n bytes room)) some)
+
+-- the lowest bit that is set lies within the vector
+pub stops_within : (bytes : List ℕ) (i n : ℕ) → i + n ≤ length bytes → n ≤ 64 → 0 < mask_l (map is_stop (chunk i n bytes))
+    → count_trailing_zeros 64 (mask_l (map is_stop (chunk i n bytes))) ≤ n
+stops_within bytes i n room short some =
+    let c = chunk i n bytes in
+    omega (arith, trailing_mask_l is_stop 64 c (omega (arith, length-chunk i n bytes room)) some, prefix_len-le-length (λ x. not (is_stop x)) c, length-chunk i n bytes room)

@@ -13,6 +13,7 @@ mod machine;
 mod pair;
 mod plain;
 mod printing;
+mod room;
 mod text;
 mod writing;
 

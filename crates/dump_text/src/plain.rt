@@ -1,19 +1,12 @@
 //! Bytes that stand for themselves.
 
-ghost use Rattle.std.specs.Prelude.{◌≡◌, ◌+◌, ◌≤◌, ◌++◌, length, drop, map, OnOk, OnErr};
+ghost use Rattle.std.specs.Prelude.{◌≡◌, ◌+◌, ◌≤◌, length, drop, map};
 ghost use Rattle.std.specs.List.{prefix_len, take_while};
 ghost use Rattle.std.specs.Simd.Lanes.{mask_l};
-ghost use Rattle.std.specs.Vec.{vec_len, vec_capacity};
-ghost use Rattle.line_rules.specs.Printing.{is_plain, printable};
-ghost use Rattle.line_rules.specs.Reading.{text_of};
+ghost use Rattle.line_rules.specs.Printing.{is_plain};
 ghost use Rattle.dump_text.specs.Stops.{is_stop};
-ghost use Rattle.dump_text.specs.Texts.{with_front};
 
-use std::alloc::AllocError;
 use std::simd::prelude::*;
-
-// As many bytes as are better added by one call than one by one.
-const MANY: usize = 8;
 
 /// Whether `byte` stands for itself. It takes no memory.
 #[inline(always)]
@@ -39,6 +32,34 @@ fn stops_16(bytes: u8x16) -> u64
 {
     ((bytes - u8x16::splat(0x20)).simd_ge(u8x16::splat(0x5f))
         | bytes.simd_eq(u8x16::splat(b'\\'))).to_bitmask()
+}
+
+/// How many of the first sixteen bytes stand for themselves, up to the first that does not. It takes no memory.
+#[inline(always)]
+pub fn plain_in_16(bytes: &[u8]) -> usize
+    requires { 16 ≤ length bytes.now }
+    ensures plain { result ≤ prefix_len is_plain bytes.now }
+    ensures few { result ≤ 16 }
+{
+    let found = stops_16(u8x16::from_slice(bytes));
+    if found == 0 {
+        return 16;
+    }
+    found.trailing_zeros() as usize
+}
+
+/// How many of the first eight bytes stand for themselves, up to the first that does not. It takes no memory.
+#[inline(always)]
+pub fn plain_in_8(bytes: &[u8]) -> usize
+    requires { 8 ≤ length bytes.now }
+    ensures plain { result ≤ prefix_len is_plain bytes.now }
+    ensures few { result ≤ 8 }
+{
+    let found = stops_8(u8x8::from_slice(bytes));
+    if found == 0 {
+        return 8;
+    }
+    found.trailing_zeros() as usize
 }
 
 // Where the run ends that goes on from `from`, one byte at a time. It takes no memory.
@@ -94,36 +115,4 @@ pub fn split_plain(bytes: &[u8]) -> (&[u8], &[u8])
     ensures rest { result.1.now ≡ drop (prefix_len is_plain bytes.now) bytes.now }
 {
     bytes.split_at(plain_len(bytes))
-}
-
-/// The bytes at the front that stand for themselves, where there are many, else none of them; and those behind. No run is
-/// looked for where a backslash stands at the front, as it does where an escape follows another. It takes no memory.
-#[inline(always)]
-pub fn split_many(bytes: &[u8]) -> (&[u8], &[u8])
-    ensures read { text_of bytes.now ≡ with_front result.0.now (text_of result.1.now) }
-    ensures printed { printable bytes.now ≡ result.0.now ++ printable result.1.now }
-    ensures whole { length result.0.now + length result.1.now ≡ length bytes.now }
-{
-    if bytes.len() < MANY || bytes[0] == b'\\' {
-        return bytes.split_at(0);
-    }
-    let (run, left) = split_plain(bytes);
-    if run.len() < MANY {
-        return bytes.split_at(0);
-    }
-    (run, left)
-}
-
-/// Adds bytes at the end, often none. After a refusal `to` is unchanged.
-#[inline(always)]
-pub fn add_run(to: &mut Vec<u8>, run: &[u8]) -> Result<(), AllocError>
-    ensures ok { OnOk result (to.new.items ≡ to.old.items ++ run.now) }
-    ensures err { OnErr result (to.new.items ≡ to.old.items) }
-    ensures len { OnOk result (vec_len to.new ≡ vec_len to.old + length run.now) }
-    ensures capacity { vec_capacity to.old ≤ vec_capacity to.new }
-{
-    if run.is_empty() {
-        return Ok(());
-    }
-    to.extend_from_slice(run)
 }

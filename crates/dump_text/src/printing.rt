@@ -5,7 +5,8 @@ ghost use Rattle.std.specs.Vec.{vec_len, vec_capacity};
 ghost use Rattle.line_rules.specs.Printing.{is_plain, in_digits, printed, printable, printable_but, hexadecimal_digit};
 ghost use Rattle.dump_text.specs.Growing.{Grew};
 
-use crate::plain::{add_run, is_plain, split_many, split_plain};
+use crate::plain::split_plain;
+use crate::room::put_printable;
 use key_bytes::Bytes;
 use memchr::memchr;
 use std::alloc::AllocError;
@@ -49,62 +50,29 @@ fn add_digits(to: &mut Vec<u8>, byte: u8) -> Result<(), AllocError>
     Ok(())
 }
 
-// Adds the spelling of a byte that isn't plain, for which there is room.
+// The end of a room behind `len` bytes that has four bytes for each of `count`. It takes no memory.
 #[inline(always)]
-fn put_escape(to: &mut Vec<u8>, byte: u8)
-    requires escaped { is_plain byte ≡ false }
-    requires room { vec_len to.old + 4 ≤ vec_capacity to.old }
-    ensures items { to.new.items ≡ to.old.items ++ printed byte }
-    ensures len { vec_len to.new ≤ vec_len to.old + 4 }
-    ensures capacity { vec_capacity to.new ≡ vec_capacity to.old }
+fn end_of_room(len: usize, count: usize) -> Result<usize, AllocError>
+    ensures { IfOk result (λ end. end ≡ len + 4 * count) }
 {
-    if byte == b'\\' {
-        to.push_reserved(b'\\');
-        to.push_reserved(b'\\');
-    } else {
-        put_digits(to, byte);
+    match count.checked_mul(4) {
+        Some(most) => len.checked_add(most).ok_or(AllocError),
+        None => Err(AllocError),
     }
 }
 
-// Adds the spelling of a byte that isn't plain, for which there is room, and the run behind it where that is long; what
-// is left. After a refusal a part of it stands behind what `to` held.
-#[inline(always)]
-fn add_escape<'a>(to: &mut Vec<u8>, byte: u8, rest: &'a [u8]) -> Result<&'a [u8], AllocError>
-    requires escaped { is_plain byte ≡ false }
-    requires room { vec_len to.old + 4 * (1 + length rest.now) ≤ vec_capacity to.old }
-    ensures ok { IfOk result (λ left. to.new.items ++ printable left.now ≡ to.old.items ++ (printed byte ++ printable rest.now)) }
-    ensures room { IfOk result (λ left. vec_len to.new + 4 * length left.now ≤ vec_capacity to.new) }
-    ensures less { IfOk result (λ left. length left.now ≤ length rest.now) }
-    ensures grew { Grew to.old.items to.new.items }
-{
-    let (run, left) = split_many(rest);
-    put_escape(to, byte);
-    add_run(to, run)?;
-    Ok(left)
-}
-
-// Adds the printable form of bytes with escapes among them, byte by byte but for long runs: there is room for four times
-// as many, so that only the room may be refused. After a refusal a part of it stands behind what `to` held.
+// Adds the printable form of bytes with escapes among them. It is put into a room of four times as many bytes, which is
+// cut off behind it. After a refusal `to` is unchanged.
 #[inline(never)]
 fn add_escaped(to: &mut Vec<u8>, bytes: &[u8]) -> Result<(), AllocError>
     ensures ok { OnOk result (to.new.items ≡ to.old.items ++ printable bytes.now) }
-    ensures err { OnErr result (Grew to.old.items to.new.items) }
+    ensures err { OnErr result (to.new.items ≡ to.old.items) }
 {
-    let Some(room) = bytes.len().checked_mul(4) else {
-        return Err(AllocError);
-    };
-    to.reserve(room)?;
-    let mut left = bytes;
-    while let [byte, rest @ ..] = left {
-        left = match *byte {
-            b'\\' => add_escape(to, b'\\', rest)?,
-            byte if is_plain(byte) => {
-                to.push_reserved(byte);
-                rest
-            }
-            byte => add_escape(to, byte, rest)?,
-        };
-    }
+    let len = to.len();
+    let end = end_of_room(len, bytes.len())?;
+    to.resize(end, 0)?;
+    let added = put_printable(&mut to[len..], bytes);
+    to.truncate(len + added);
     Ok(())
 }
 
@@ -115,11 +83,10 @@ pub fn add_printable(to: &mut Vec<u8>, bytes: &[u8]) -> Result<(), AllocError>
     ensures err { OnErr result (Grew to.old.items to.new.items) }
 {
     let (run, left) = split_plain(bytes);
-    add_run(to, run)?;
     if left.is_empty() {
-        return Ok(());
+        return to.extend_from_slice(run);
     }
-    add_escaped(to, left)
+    add_escaped(to, bytes)
 }
 
 /// What `written` tells; where it is a refusal, `to` is cut back to `len` bytes. It takes no memory.

@@ -1,10 +1,14 @@
 //! Reading of the printable form of bytes.
 
-ghost use Rattle.std.specs.Prelude.{◌≡◌, ◌+◌, ◌≤◌, ◌∷◌, length, IfOk};
+ghost use Rattle.std.specs.Prelude.{◌≡◌, ◌+◌, ◌≤◌, ◌∷◌, length, drop, IfOk, OnOk};
+ghost use Rattle.std.specs.List.{prefix_len, take_while};
+ghost use Rattle.std.specs.Vec.{vec_len};
+ghost use Rattle.line_rules.specs.Printing.{is_plain};
 ghost use Rattle.line_rules.specs.Reading.{piece_at, escaped_piece, hexadecimal_piece, digit_of, text_of};
-ghost use Rattle.dump_text.specs.Texts.{piece_is, stop_is, text_is, with_front, passed};
+ghost use Rattle.dump_text.specs.Texts.{piece_is, stop_is, text_is, passed};
 
-use crate::plain::{add_run, is_plain, split_many, split_plain};
+use crate::plain::{is_plain, split_plain};
+use crate::room::{put, put_plain};
 use key_bytes::Bytes;
 use std::alloc::{AllocError, Global};
 
@@ -125,39 +129,64 @@ fn copy_up_to<'a>(
     Ok(ReadText { bytes, stop, left })
 }
 
-// What a run and the bytes behind it spell. It is built in the scratch buffer, whatever that held, byte by byte but for
-// long runs: no more bytes are spelled than are left.
+// Room for so many bytes in the scratch buffer, whatever that holds.
+#[inline(always)]
+fn make_room(scratch: &mut Vec<u8>, len: usize) -> Result<(), AllocError>
+    ensures { OnOk result (len ≤ vec_len scratch.new) }
+{
+    if scratch.len() < len {
+        scratch.resize(len, 0)?;
+    }
+    Ok(())
+}
+
+// What bytes spell. It is built in the scratch buffer, whatever that held: no more bytes are spelled than are left.
 #[inline(never)]
 fn read_on<'a>(
     alloc: Global,
     scratch: &mut Vec<u8>,
-    run: &[u8],
     bytes: &'a [u8],
 ) -> Result<ReadText<'a>, AllocError>
-    ensures value { IfOk result (λ text. text_is text ≡ with_front run.now (text_of bytes.now)) }
+    ensures value { IfOk result (λ text. text_is text ≡ text_of bytes.now) }
     ensures within { IfOk result (λ text. length text.left.now + passed text.stop ≤ length bytes.now) }
 {
-    scratch.clear();
-    add_run(scratch, run)?;
-    scratch.reserve(bytes.len())?;
+    make_room(scratch, bytes.len())?;
+    let room = scratch.as_mut_slice();
+    let mut len = 0;
     let mut left = bytes;
     loop {
         match piece_of(left) {
             Piece::Plain(byte, rest) => {
-                scratch.push_reserved(byte);
-                left = rest;
+                put(room, len, byte);
+                let count = put_plain(room, len + 1, rest);
+                len += 1 + count;
+                left = &rest[count..];
             }
             Piece::Spelled(byte, rest) => {
-                let (plain, after) = split_many(rest);
-                scratch.push_reserved(byte);
-                add_run(scratch, plain)?;
-                left = after;
+                put(room, len, byte);
+                len += 1;
+                left = rest;
             }
-            Piece::Nothing => return copy_up_to(alloc, scratch, Stop::AtEnd, left),
-            Piece::Separator(rest) => return copy_up_to(alloc, scratch, Stop::AtSeparator, rest),
-            Piece::Unfit => return copy_up_to(alloc, scratch, Stop::AtFault, left),
+            Piece::Nothing => return copy_up_to(alloc, &room[..len], Stop::AtEnd, left),
+            Piece::Separator(rest) => {
+                return copy_up_to(alloc, &room[..len], Stop::AtSeparator, rest);
+            }
+            Piece::Unfit => return copy_up_to(alloc, &room[..len], Stop::AtFault, left),
         }
     }
+}
+
+// The bytes at the front that stand for themselves, and all from the first that does not. No run is looked for where a
+// backslash stands at the front. It takes no memory.
+#[inline(always)]
+fn split_run(bytes: &[u8]) -> (&[u8], &[u8])
+    ensures front { result.0.now ≡ take_while is_plain bytes.now }
+    ensures rest { result.1.now ≡ drop (prefix_len is_plain bytes.now) bytes.now }
+{
+    if let [b'\\', ..] = bytes {
+        return bytes.split_at(0);
+    }
+    split_plain(bytes)
 }
 
 /// The bytes that are spelled up to the end, the separator or a fault. One plain run is copied as it stands; only a
@@ -171,10 +200,10 @@ pub fn read_text<'a>(
     ensures value { IfOk result (λ text. text_is text ≡ text_of bytes.now) }
     ensures within { IfOk result (λ text. length text.left.now + passed text.stop ≤ length bytes.now) }
 {
-    let (run, left) = split_plain(bytes);
+    let (run, left) = split_run(bytes);
     match left {
         [] => copy_up_to(alloc, run, Stop::AtEnd, left),
         [b'\\', b'=', rest @ ..] => copy_up_to(alloc, run, Stop::AtSeparator, rest),
-        _ => read_on(alloc, scratch, run, left),
+        _ => read_on(alloc, scratch, bytes),
     }
 }
