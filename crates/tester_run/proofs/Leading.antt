@@ -1,7 +1,7 @@
 -- A request that is taken leads a run on.
 use Rattle.std.proofs.Common.{◌≡◌, ◌≢◌, ℕ, ◌+◌, ◌≤◌, List, [], ◌∷◌, ◌++◌, length, Option, Some, None, refl, sym, ap, subst, ◌∙◌, length-append}
-use Rattle.std.proofs.lemmas.List.{length-set, map-set}
-use Rattle.std.specs.Prelude.{map, option_and_then, option_map, slice_get, slice_set}
+use Rattle.std.proofs.lemmas.List.{append-nil, length-set, map-append, map-set}
+use Rattle.std.specs.Prelude.{IfSome, map, option_and_then, option_map, option_to_list, slice_get, slice_set}
 use Rattle.std.proofs.lemmas.Option.{slice_get-map}
 use Rattle.fdb_calls.specs.declared.Request.{Request}
 use Rattle.fdb_calls.specs.declared.Reply.{Reply}
@@ -14,7 +14,8 @@ use Rattle.machine_rules.specs.declared.TheConstants.{MACHINES}
 use Rattle.machine_rules.specs.Laws.{run_from-append}
 use Rattle.machine_seat.specs.declared.seat.Seat.{Seat}
 use Rattle.machine_seat.specs.Seats.{progress_of, IsSeated}
-use Rattle.tester_run.specs.Driving.{GoesOn, GoesOnByTurns, IsGoing, IsNextInTurn}
+use Rattle.tester_run.specs.declared.driving.Moved.{Moved}
+use Rattle.tester_run.specs.Driving.{GoesOn, GoesOnByTurns, HasUsed, IsGoing, IsNextInTurn}
 use Rattle.tester_run.proofs.Seats.{has_turn, seated_more, seated_set}
 use Rattle.tester_run.proofs.Turns.{turns_longer, turn_after-longer}
 
@@ -136,7 +137,7 @@ one_seated (Some prefix) polls (reply.Started machine instructions) old new prog
 one_seated (Some prefix) polls given old new progress is counted = absurd cc
 
 -- what is so after a request by which no machine was started
-pub going_on : (core core_after : CoreModel) (seats : List Seat) (order order_after : List ℕ) (number : ℕ) (used : Seat)
+going_on : (core core_after : CoreModel) (seats : List Seat) (order order_after : List ℕ) (number : ℕ) (used : Seat)
     (prefix : Option (List ℕ)) (polls : ℕ) (given : Reply)
     → IsGoing core seats order → IsSeated used → core_after.applied ≡ core.applied + 1 → order_after ≡ order ++ number ∷ []
     → started_by prefix polls given ≡ [] → given ≢ reply.NoMemory → HasStarted prefix given core.started core_after.started
@@ -148,33 +149,8 @@ going_on core core_after seats order order_after number used prefix polls given 
   few = subst (λ n. n ≤ MACHINES) (sym (length-set seats number used)) going.few;
 }
 
--- what a request comes to by the parts of a step of the code
-pub takes_by : (core core_after : CoreModel) (words words_after : ℕ → ℕ) (seats seats_after : List Seat) (order order_after : List ℕ)
-    (number : ℕ) (seat used : Seat) (request : Request) (prefix : Option (List ℕ)) (polls : ℕ) (given : Reply)
-    → slice_get seats number ≡ Some seat → option_and_then (λ (s : Seat). s.asks) (slice_get seats number) ≡ Some request
-    → polls ≡ seat.machine.machine.polls → given ≢ reply.NoMemory
-    → ((world : World) → StandsFor core world → HasWords world words → Answers given core_after words_after (world_step world request))
-    → progress_of used ≡ at_rest (resumed seat.machine.machine given) → prefix ≡ start_prefix request
-    → map progress_of seats_after ≡ map progress_of (slice_set seats number used) ++ started_by prefix polls given
-    → order_after ≡ order ++ number ∷ []
-    → Takes core words seats order number core_after words_after seats_after order_after
-takes_by core core_after words words_after seats seats_after order order_after number seat used request prefix polls given is asks polls_are is_given answers rests prefix_is seats_are order_is = record {
-  seat = seat;
-  seat_is = is;
-  request = request;
-  asks = sym (ap (option_and_then (λ (s : Seat). s.asks)) is) ∙ asks;
-  given = given;
-  is_given = is_given;
-  answers = answers;
-  used = progress_of used;
-  used_is = rests;
-  seats_are = seats_are
-      ∙ (λ i. map-set progress_of seats number used i ++ started_by (prefix_is i) (polls_are i) given);
-  order_is = order_is;
-}
-
 -- what is so after a request by which a machine was started, which took its seat
-pub going_more : (core core_after : CoreModel) (seats : List Seat) (order order_after : List ℕ) (number : ℕ) (used started : Seat)
+going_more : (core core_after : CoreModel) (seats : List Seat) (order order_after : List ℕ) (number : ℕ) (used started : Seat)
     (prefix : Option (List ℕ)) (polls : ℕ) (given : Reply)
     → IsGoing core seats order → IsSeated used → IsSeated started → core_after.applied ≡ core.applied + 1 → order_after ≡ order ++ number ∷ []
     → progress_of started ∷ [] ≡ started_by prefix polls given → HasStarted prefix given core.started core_after.started
@@ -190,3 +166,45 @@ going_more core core_after seats order order_after number used started prefix po
       started = sym longer;
       few = subst (λ n. n ≤ MACHINES) (sym longer) counted.1;
     }
+
+-- what is so after a request, whether it started a machine or not
+pub going_used : (core core_after : CoreModel) (seats seats_after : List Seat) (order order_after : List ℕ) (number : ℕ)
+    (prefix : Option (List ℕ)) (given : Reply) (came : Moved)
+    → IsGoing core seats order → HasUsed prefix given number seats seats_after came → core_after.applied ≡ core.applied + 1
+    → order_after ≡ order ++ number ∷ [] → HasStarted prefix given core.started core_after.started → IsGoing core_after seats_after order_after
+going_used core core_after seats seats_after order order_after number prefix given came going did applied order_is has_started =
+    subst (λ (all : List Seat). IsGoing core_after all order_after) (sym did.seats) (by did.more did.started did.more_seated)
+  where
+    used : List Seat
+    used = slice_set seats number did.used
+
+    by : (more : Option Seat) → map progress_of (option_to_list more) ≡ started_by prefix did.asked.machine.machine.polls given
+        → IfSome more IsSeated → IsGoing core_after (used ++ option_to_list more) order_after
+    by None is own = subst (λ (all : List Seat). IsGoing core_after all order_after) (sym (append-nil used))
+        (going_on core core_after seats order order_after number did.used prefix did.asked.machine.machine.polls given going did.seated applied
+        order_is (sym is) did.memory has_started)
+    by (Some one) is own = going_more core core_after seats order order_after number did.used one prefix did.asked.machine.machine.polls given
+        going did.seated own applied order_is is has_started
+
+-- what a request comes to whose reply was used
+pub takes_used : (core core_after : CoreModel) (words words_after : ℕ → ℕ) (seats seats_after : List Seat) (order order_after : List ℕ)
+    (number : ℕ) (request : Request) (prefix : Option (List ℕ)) (given : Reply) (came : Moved)
+    → HasUsed prefix given number seats seats_after came → option_and_then (λ (seat : Seat). seat.asks) (slice_get seats number) ≡ Some request
+    → ((world : World) → StandsFor core world → HasWords world words → Answers given core_after words_after (world_step world request))
+    → prefix ≡ start_prefix request → order_after ≡ order ++ number ∷ []
+    → Takes core words seats order number core_after words_after seats_after order_after
+takes_used core core_after words words_after seats seats_after order order_after number request prefix given came did asks answers prefix_is order_is = record {
+  seat = did.asked;
+  seat_is = did.here;
+  request = request;
+  asks = sym (ap (option_and_then (λ (seat : Seat). seat.asks)) did.here) ∙ asks;
+  given = given;
+  is_given = did.memory;
+  answers = answers;
+  used = progress_of did.used;
+  used_is = did.rests;
+  seats_are = ap (map progress_of) did.seats ∙ map-append progress_of (slice_set seats number did.used) (option_to_list did.more)
+      ∙ (λ i. map-set progress_of seats number did.used i
+      ++ (did.started ∙ ap (λ (under : Option (List ℕ)). started_by under did.asked.machine.machine.polls given) prefix_is) i);
+  order_is = order_is;
+}

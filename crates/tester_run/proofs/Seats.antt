@@ -1,8 +1,8 @@
 -- Lists of machines at their seats.
-use Rattle.std.proofs.Common.{◌≡◌, ◌≢◌, ℕ, zero, suc, ◌+◌, ◌<◌, ◌≤◌, ◌⊎◌, ⊎_elim, inl, inr, Bool, true, false, cond, List, [], ◌∷◌, ◌++◌, length, Option, Some, None, refl, sym, ap, subst, ◌∙◌, arith}
-use Rattle.std.specs.Prelude.{map, is_some, IsSome, option_and_then, option_map, slice_get, slice_index_or, slice_set}
+use Rattle.std.proofs.Common.{◌≡◌, ◌≢◌, ℕ, zero, suc, ◌+◌, ◌<◌, ◌≤◌, ◌⊎◌, ⊎_elim, inl, inr, Bool, true, false, cond, List, [], ◌∷◌, ◌++◌, length, Option, Some, None, refl, sym, ap, subst, ◌∙◌, length-append, arith}
+use Rattle.std.specs.Prelude.{map, is_some, IsSome, option_and_then, option_map, option_to_list, slice_get, slice_index_or, slice_set}
 use Rattle.std.specs.List.{sum_by}
-use Rattle.std.proofs.lemmas.List.{length-set}
+use Rattle.std.proofs.lemmas.List.{append-nil, length-set}
 use Rattle.std.proofs.lemmas.List.Sums.{sum_by-set}
 use Rattle.std.proofs.lemmas.Option.{get_or_from_slice_get, none-some, same_Some, slice_get-map, slice_get_past, slice_get_within}
 use Rattle.machine_rules.specs.Machines.{Progress}
@@ -10,11 +10,13 @@ use Rattle.machine_rules.specs.Worlds.{World}
 use Rattle.machine_rules.specs.Laws.{effort_in}
 use Rattle.machine_rules.specs.Runs.{HasTurn, IsFirstFrom, has_request}
 use Rattle.machine_seat.specs.declared.seat.Seat.{Seat}
+use Rattle.fdb_calls.specs.declared.Reply.{Reply}
+use Rattle.tester_run.specs.declared.driving.Moved.{Moved}
 use Rattle.tester_run.specs.declared.driving.Moved.TheVariants as moved
 use Rattle.tester_run.specs.declared.driving.Pause.{Pause}
 use Rattle.tester_run.specs.declared.driving.Pause.TheVariants as pause
 use Rattle.machine_seat.specs.Seats.{progress_of, work_left, IsNearer, IsSeated}
-use Rattle.tester_run.specs.Driving.{asks_at, effort_of, work_of, AreSeated, HasMoved, HasPaused, IsFirstAsking, IsNextInTurn}
+use Rattle.tester_run.specs.Driving.{asks_at, effort_of, work_of, AreSeated, HasMoved, HasPaused, HasUsed, IsFirstAsking, IsNextInTurn}
 
 -- ---- one in the place of another, and one more
 
@@ -83,11 +85,30 @@ finished_moved seats number seat used is nearer = (
   sum_less (work_of (slice_set seats number used)) (work_of seats) (work seat) (work used) (set_sum work seats number seat used is) nearer,
 )
 
-pub nearer_moved : (asks_on : Bool) (seats : List Seat) (number : ℕ) (seat used : Seat) → slice_get seats number ≡ Some seat
+nearer_moved : (asks_on : Bool) (seats : List Seat) (number : ℕ) (seat used : Seat) → slice_get seats number ≡ Some seat
     → IsNearer asks_on seat.machine.machine used.machine.machine
     → HasMoved (cond asks_on moved.AsksOn moved.Finished) seats (slice_set seats number used)
 nearer_moved true seats number seat used is nearer = asks_on_moved seats number seat used is nearer
 nearer_moved false seats number seat used is nearer = finished_moved seats number seat used is nearer
+
+-- what came of a request whose reply was used
+pub used_moved : (prefix : Option (List ℕ)) (given : Reply) (number : ℕ) (before after : List Seat) (came : Moved)
+    → HasUsed prefix given number before after came → HasMoved came before after
+used_moved prefix given number before after came did =
+    subst (λ (all : List Seat). HasMoved came before all) (sym did.seats)
+    (subst (λ (moved : Moved). HasMoved moved before (used ++ option_to_list did.more)) (sym did.came_is) (by did.more))
+  where
+    used : List Seat
+    used = slice_set before number did.used
+
+    by : (more : Option Seat) → HasMoved (cond (is_some more) moved.Started (cond did.asks_on moved.AsksOn moved.Finished)) before
+        (used ++ option_to_list more)
+    by None = subst (λ (all : List Seat). HasMoved (cond did.asks_on moved.AsksOn moved.Finished) before all) (sym (append-nil used))
+        (nearer_moved did.asks_on before number did.asked did.used did.here did.nearer)
+    by (Some one) =
+        let longer : length (used ++ one ∷ []) ≡ length before + 1 =
+        length-append used (one ∷ []) ∙ ap (λ n. n + 1) (length-set before number did.used) in
+        omega (arith, longer)
 
 -- what came of requests that left no machine fewer instructions
 pub paused_otherwise : (its_pause : Pause) (before after : List Seat) → its_pause ≢ pause.Finished → HasPaused its_pause before after

@@ -1,17 +1,18 @@
 -- How the core and the machines stand to a run while it goes on.
-use Rattle.std.specs.Prelude.{◌≡◌, ℕ, ◌<◌, ◌≤◌, ◌⊎◌, Bool, true, false, List, [], ◌∷◌, ◌++◌, length, map, Option, Some, None, IfSome, MatchOption, is_some, option_and_then, option_to_list, slice_get, ⊤}
+use Rattle.std.specs.Prelude.{◌≡◌, ◌≢◌, ℕ, ◌<◌, ◌≤◌, ◌⊎◌, Bool, if◌then◌else◌, true, false, List, [], ◌∷◌, ◌++◌, length, map, Option, Some, None, IfSome, MatchOption, is_some, option_and_then, option_to_list, slice_get, slice_set, ⊤}
 use Rattle.std.specs.List.{sum_by}
 use Rattle.command_rules.specs.declared.args.RunArgs.{RunArgs}
 use Rattle.client_core.specs.Stands.{CoreModel, StandsFor}
 use Rattle.machine_rules.specs.declared.TheConstants.{MACHINES}
 use Rattle.machine_rules.specs.Worlds.{World, HasWords, begun, instruction_pairs}
 use Rattle.version_store.specs.Versions.{at, last_of}
-use Rattle.machine_rules.specs.Machines.{silent}
+use Rattle.machine_rules.specs.Machines.{silent, resumed}
 use Rattle.fdb_calls.specs.declared.Reply.{Reply}
+use Rattle.fdb_calls.specs.declared.Reply.TheVariants.{NoMemory}
 use Rattle.machine_rules.specs.Runs.{AreByTurns, at_rest, start, started, started_by, run_from, turn_after}
 use Rattle.machine_rules.specs.Laws.{effort_in}
 use Rattle.machine_seat.specs.declared.seat.Seat.{Seat}
-use Rattle.machine_seat.specs.Seats.{progress_of, work_left, IsSeated}
+use Rattle.machine_seat.specs.Seats.{progress_of, work_left, IsNearer, IsSeated}
 use Rattle.tester_run.specs.declared.running.Ended.{Ended}
 use Rattle.tester_run.specs.declared.driving.Moved.{Moved}
 use Rattle.tester_run.specs.declared.driving.Moved.TheVariants as moved
@@ -126,13 +127,22 @@ pub record IsGoing (core : CoreModel) (seats : List Seat) (order : List ℕ) : T
   pub started : length core.started ≡ length seats
   pub few : length seats ≤ MACHINES
 
--- the machine that was started under a prefix by a reply took its seat behind the others, if one was: whether one was
-pub record HasSeated (prefix : List ℕ) (polls : ℕ) (reply : Reply) (before after : List Seat) (is_more : Bool) : Type 0 where
-  pub seat : Option Seat
-  pub started : map progress_of (option_to_list seat) ≡ started_by (Some prefix) polls reply
-  pub seated : IfSome seat IsSeated
-  pub seats : after ≡ before ++ option_to_list seat
-  pub is : is_more ≡ is_some seat
+-- The machine of a number used a reply, and the machine that the reply started, under the prefix that was asked for, took its seat
+-- behind the others, if one was started: what came of it.
+pub record HasUsed (prefix : Option (List ℕ)) (reply : Reply) (number : ℕ) (before after : List Seat) (came : Moved) : Type 0 where
+  pub asked : Seat
+  pub here : slice_get before number ≡ Some asked
+  pub memory : reply ≢ NoMemory
+  pub used : Seat
+  pub rests : progress_of used ≡ at_rest (resumed asked.machine.machine reply)
+  pub seated : IsSeated used
+  pub asks_on : Bool
+  pub nearer : IsNearer asks_on asked.machine.machine used.machine.machine
+  pub more : Option Seat
+  pub started : map progress_of (option_to_list more) ≡ started_by prefix asked.machine.machine.polls reply
+  pub more_seated : IfSome more IsSeated
+  pub seats : after ≡ slice_set before number used ++ option_to_list more
+  pub came_is : came ≡ (if is_some more then moved.Started else if asks_on then moved.AsksOn else moved.Finished)
 
 -- what came of a request
 abbrev pub HasMoved : Moved → (before after : List Seat) → Type 0

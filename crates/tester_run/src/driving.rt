@@ -1,7 +1,11 @@
 //! Running the machines over the core, by turns.
 
-ghost use Rattle.std.specs.Prelude.{◌≡◌, ◌<◌, ◌+◌, ◌++◌, ◌∷◌, ◌^◌, ◌⊎◌, true, [], length, is_some, slice_get, option_and_then, None, Ok, Some, if◌then◌else◌, IfOk, OnOk};
-ghost use Rattle.tester_run.specs.Driving.{asks_at, GoesOn, GoesOnByTurns, HasMoved, HasPaused, HasSeated, IsFirstAsking, IsGoing, IsNextInTurn};
+ghost use Rattle.std.specs.Prelude.{◌≡◌, ◌<◌, ◌+◌, ◌++◌, ◌∷◌, ◌^◌, ◌⊎◌, ◌≢◌, true, [], length, slice_get, option_and_then, None, Ok, Some, if◌then◌else◌, IfOk, IsSome, OnOk};
+ghost use Rattle.fdb_calls.specs.declared.Reply.TheVariants.{NoMemory};
+ghost use Rattle.machine_rules.specs.Machines.{resumed};
+ghost use Rattle.machine_rules.specs.Runs.{at_rest};
+ghost use Rattle.machine_seat.specs.Seats.{progress_of, IsNearer, IsSeated};
+ghost use Rattle.tester_run.specs.Driving.{asks_at, AreSeated, GoesOn, GoesOnByTurns, HasMoved, HasPaused, HasUsed, IsFirstAsking, IsGoing, IsNextInTurn};
 
 use client_core::Core;
 use dump_text::Order;
@@ -130,43 +134,66 @@ pub fn take<W: Words>(
 {
     shows_short(order);
     order.push(number as u16)?;
-    let polls = seats[number].machine.polls();
     let request = request_at(seats, number);
-    let reply = core.apply(number as u16, request, words);
-    if is_no_memory(&reply) {
-        return Err(AllocError);
-    }
     let prefix = prefix_of(request)?;
-    let asks_on = seats[number].use_reply(&reply)?;
-    let Some(prefix) = prefix else {
-        return Ok(moved_by(asks_on));
-    };
-    if seat_more(alloc, seats, prefix, polls, reply)? {
-        Ok(Moved::Started)
-    } else {
-        Ok(moved_by(asks_on))
+    let reply = core.apply(number as u16, request, words);
+    match prefix {
+        None => use_alone(seats, number, reply),
+        Some(prefix) => use_and_seat(alloc, seats, number, prefix, reply),
     }
 }
 
-// The machine that was started under a prefix by a reply takes its seat behind the others, if one was: whether one was. It has a
-// call of its own, so that a request that starts no machine need not make room for a seat.
+// The machine of a number uses a reply by which no machine is started. The reply ends at one place, whatever comes of it.
+fn use_alone(seats: &mut Vec<Seat>, number: usize, reply: Reply) -> Result<Moved, AllocError>
+    requires within { number < length seats.old.items }
+    requires seated { AreSeated seats.old.items }
+    requires asks { asks_at seats.old.items number ≡ true }
+    ensures { IfOk result (HasUsed None reply number seats.old.items seats.new.items) }
+{
+    let used = use_given(&mut seats[number], &reply);
+    drop(reply);
+    Ok(moved_by(used?))
+}
+
+// The machine of a number uses the reply to what it asked under a prefix, and the machine that was started takes its seat behind
+// the others, if one was. It has a call of its own, so that a request that starts no machine need not make room for a seat.
 #[inline(never)]
-fn seat_more(
+fn use_and_seat(
     alloc: Global,
     seats: &mut Vec<Seat>,
+    number: usize,
     prefix: Bytes,
-    polls: u32,
     reply: Reply,
-) -> Result<bool, AllocError>
-    ensures { IfOk result (HasSeated prefix polls reply seats.old.items seats.new.items) }
+) -> Result<Moved, AllocError>
+    requires within { number < length seats.old.items }
+    requires seated { AreSeated seats.old.items }
+    requires asks { asks_at seats.old.items number ≡ true }
+    ensures { IfOk result (HasUsed (Some prefix) reply number seats.old.items seats.new.items) }
 {
+    let polls = seats[number].machine.polls();
+    let asks_on = use_given(&mut seats[number], &reply)?;
     match seat_started(alloc, Some(prefix), polls, reply)? {
-        None => Ok(false),
+        None => Ok(moved_by(asks_on)),
         Some(seat) => {
             seats.push(seat)?;
-            Ok(true)
+            Ok(Moved::Started)
         }
     }
+}
+
+// The machine at a seat uses a reply, unless that is that memory ran out: whether it asks on within the same instruction.
+fn use_given(seat: &mut Seat, reply: &Reply) -> Result<bool, AllocError>
+    requires seated { IsSeated seat.old }
+    requires asks { IsSome seat.old.asks }
+    ensures memory { OnOk result (reply.now ≢ NoMemory) }
+    ensures rests { OnOk result (progress_of seat.new ≡ at_rest (resumed seat.old.machine.machine reply.now)) }
+    ensures seated { OnOk result (IsSeated seat.new) }
+    ensures nearer { IfOk result (λ asks_on. IsNearer asks_on seat.old.machine.machine seat.new.machine.machine) }
+{
+    if is_no_memory(reply) {
+        return Err(AllocError);
+    }
+    seat.use_reply(reply)
 }
 
 // What came of a request by which no machine was started.
