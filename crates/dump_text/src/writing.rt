@@ -1,6 +1,6 @@
 //! Writing of lines.
 
-ghost use Rattle.std.specs.Prelude.{◌≡◌, [], ◌∷◌, ◌++◌, decimal, OnOk, OnErr};
+ghost use Rattle.std.specs.Prelude.{◌≡◌, ◌<◌, [], ◌∷◌, ◌++◌, decimal, OnOk, OnErr};
 ghost use Rattle.line_rules.specs.Printing.{printable, machine_line, item_line, error_line, order_line, pair_line, space};
 ghost use Rattle.dump_text.specs.Ends.{word_of};
 ghost use Rattle.dump_text.specs.Growing.{Grew};
@@ -115,6 +115,21 @@ fn add_order_line(to: &mut Vec<u8>, machine: u16) -> Result<(), AllocError>
     Ok(())
 }
 
+// Adds the line of a place of the order, where the machine has one digit. After a refusal `to` is unchanged.
+#[inline(always)]
+fn add_short_order_line(to: &mut Vec<u8>, machine: u16) -> Result<(), AllocError>
+    requires { machine < 10 }
+    ensures ok { OnOk result (to.new.items ≡ to.old.items ++ order_line machine) }
+    ensures err { OnErr result (to.new.items ≡ to.old.items) }
+{
+    to.reserve(4)?;
+    to.push_reserved(b'O');
+    to.push_reserved(b' ');
+    to.push_reserved(b'0' + machine as u8);
+    to.push_reserved(b'\n');
+    Ok(())
+}
+
 // Adds the line of a pair. After a refusal a part of it stands behind what `to` held.
 #[tactic(auto, unfolding(line_rules::specs::Printing::pair_line))]
 fn add_pair_line(to: &mut Vec<u8>, key: &[u8], value: &[u8]) -> Result<(), AllocError>
@@ -181,6 +196,9 @@ pub fn write_order_line(to: &mut Vec<u8>, machine: u16) -> Result<(), AllocError
     ensures ok { OnOk result (to.new.items ≡ to.old.items ++ order_line machine) }
     ensures err { OnErr result (to.new.items ≡ to.old.items) }
 {
+    if machine < 10 {
+        return add_short_order_line(to, machine);
+    }
     let len = to.len();
     let written = add_order_line(to, machine);
     or_cut_back(to, len, written)
