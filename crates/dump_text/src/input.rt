@@ -7,7 +7,7 @@ ghost use Rattle.input_rules.specs.declared.input.Input.{Input};
 ghost use Rattle.input_rules.specs.Orders.{is_of_order, read_machine};
 ghost use Rattle.input_rules.specs.Forms.{read_replay, input_of, IsInputOf};
 ghost use Rattle.dump_text.specs.Reading.{Gives};
-ghost use Rattle.dump_text.specs.InputLines.{line_is};
+ghost use Rattle.dump_text.specs.InputLines.{line_is, has_three};
 ghost use Rattle.dump_text.specs.Places.{place_is, place_at};
 
 use crate::fault::LineFault;
@@ -57,6 +57,35 @@ fn first_line(number: u32, bytes: &[u8]) -> (InputLine<'_>, &[u8])
             (line, &bytes[bytes.len()..])
         }
     }
+}
+
+// Whether the first line that is left has three bytes and its line feed. It takes no memory.
+#[inline(always)]
+fn has_three(left: &[u8]) -> bool
+    ensures { result ≡ has_three left.now }
+{
+    left.len() > 3 && left[0] != b'\n' && left[1] != b'\n' && left[2] != b'\n' && left[3] == b'\n'
+}
+
+// The first line of bytes that aren't empty, and what is left behind it. The line of a machine of one digit has three bytes,
+// which is seen without a search. It takes no memory.
+#[inline(always)]
+fn first_of_order(number: u32, bytes: &[u8]) -> (InputLine<'_>, &[u8])
+    requires { 0 < length bytes.now }
+    ensures number { result.0.number ≡ number }
+    ensures lines { lines_of bytes.now ≡ line_is result.0 ∷ lines_of result.1.now }
+    ensures size { size_of (line_is result.0) + length result.1.now ≡ length bytes.now }
+    ensures less { length result.1.now < length bytes.now }
+{
+    if !has_three(bytes) {
+        return first_line(number, bytes);
+    }
+    let line = InputLine {
+        number,
+        bytes: &bytes[..3],
+        is_whole: true,
+    };
+    (line, &bytes[4..])
 }
 
 // Whether a line passes the limits of an input. It takes no memory.
@@ -148,7 +177,7 @@ fn read_replay(alloc: Global, bytes: &[u8]) -> Result<Input, LineFault>
             bytes: bytes.len() - left.len(),
             pairs: 0,
         };
-        let (line, rest) = first_line(number, left);
+        let (line, rest) = first_of_order(number, left);
         let machine = read_machine(place, &line)?;
         order.push(machine)?;
         left = rest;

@@ -2,11 +2,11 @@
 
 ghost use Rattle.std.specs.Prelude.{◌≡◌, ◌+◌, ◌*◌, ◌<◌, ◌≤◌, ◌++◌, false, Some, take, length, IfOk, OnOk, OnErr};
 ghost use Rattle.std.specs.Vec.{vec_len, vec_capacity};
-ghost use Rattle.line_rules.specs.Printing.{is_plain, in_digits, printed, printable, printable_but, hexadecimal_digit};
+ghost use Rattle.line_rules.specs.Printing.{is_plain, in_digits, printed, printable, printable_but, hexadecimal_digit, pair_line};
 ghost use Rattle.dump_text.specs.Growing.{Grew};
 
 use crate::plain::split_plain;
-use crate::room::put_printable;
+use crate::room::{put_pair_line, put_printable};
 use key_bytes::Bytes;
 use memchr::memchr;
 use std::alloc::AllocError;
@@ -71,7 +71,22 @@ fn add_escaped(to: &mut Vec<u8>, bytes: &[u8]) -> Result<(), AllocError>
     let len = to.len();
     let end = end_of_room(len, bytes.len())?;
     to.resize(end, 0)?;
-    let added = put_printable(&mut to[len..], bytes);
+    let added = put_printable(&mut to[len..], 0, bytes);
+    to.truncate(len + added);
+    Ok(())
+}
+
+/// Adds the line of a pair, which is put into one room that is cut off behind it. After a refusal `to` is unchanged.
+#[inline(never)]
+pub fn add_pair_at_once(to: &mut Vec<u8>, key: &[u8], value: &[u8]) -> Result<(), AllocError>
+    requires { length key.now + length value.now ≤ 256 }
+    ensures ok { OnOk result (to.new.items ≡ to.old.items ++ pair_line key.now value.now) }
+    ensures err { OnErr result (to.new.items ≡ to.old.items) }
+{
+    let len = to.len();
+    let end = end_of_room(len, key.len() + value.len() + 2)?;
+    to.resize(end, 0)?;
+    let added = put_pair_line(&mut to[len..], key, value);
     to.truncate(len + added);
     Ok(())
 }

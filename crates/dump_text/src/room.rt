@@ -1,7 +1,7 @@
 //! Rooms: bytes that are written over from the front on. What was written stands in front of what the room held before.
 
 ghost use Rattle.std.specs.Prelude.{◌≡◌, ◌+◌, ◌*◌, ◌<◌, ◌≤◌, [], ◌∷◌, ◌++◌, length, take, drop};
-ghost use Rattle.line_rules.specs.Printing.{printed, printable};
+ghost use Rattle.line_rules.specs.Printing.{printed, printable, pair_line};
 ghost use Rattle.line_rules.specs.Reading.{text_of};
 ghost use Rattle.dump_text.specs.Texts.{with_front};
 
@@ -136,15 +136,16 @@ fn put_front<'a>(room: &mut [u8], at: usize, bytes: &'a [u8]) -> (usize, &'a [u8
     (end, &bytes[count + 1..])
 }
 
-/// Puts the printable form of bytes at the front of a room, and answers where it ends. It takes no memory.
+/// Puts the printable form of bytes at a place, and answers where it ends. It takes no memory.
 #[inline(always)]
-pub fn put_printable(room: &mut [u8], bytes: &[u8]) -> usize
-    requires { 4 * length bytes.now ≤ length room.old }
-    ensures front { take result room.new ≡ printable bytes.now }
-    ensures end { result ≤ length room.new }
+pub fn put_printable(room: &mut [u8], at: usize, bytes: &[u8]) -> usize
+    requires { at + 4 * length bytes.now ≤ length room.old }
+    ensures front { take result room.new ≡ take at room.old ++ printable bytes.now }
+    ensures end { result ≤ at + 4 * length bytes.now }
+    ensures within { result ≤ length room.new }
     ensures len { length room.new ≡ length room.old }
 {
-    let mut end = 0;
+    let mut end = at;
     let mut left = bytes;
     while left.len() >= 16 {
         let (next, behind) = put_front(room, end, left);
@@ -152,4 +153,22 @@ pub fn put_printable(room: &mut [u8], bytes: &[u8]) -> usize
         left = behind;
     }
     put_forms(room, end, left)
+}
+
+/// Puts the line of a pair at the front of a room, and answers where it ends. It takes no memory.
+#[inline(always)]
+pub fn put_pair_line(room: &mut [u8], key: &[u8], value: &[u8]) -> usize
+    requires { 4 * (length key.now + length value.now + 2) ≤ length room.old }
+    ensures front { take result room.new ≡ pair_line key.now value.now }
+    ensures end { result ≤ length room.new }
+    ensures len { length room.new ≡ length room.old }
+{
+    put(room, 0, b'K');
+    put(room, 1, b' ');
+    let middle = put_printable(room, 2, key);
+    put(room, middle, b'\\');
+    put(room, middle + 1, b'=');
+    let end = put_printable(room, middle + 2, value);
+    put(room, end, b'\n');
+    end + 1
 }

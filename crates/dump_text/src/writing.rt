@@ -1,16 +1,19 @@
 //! Writing of lines.
 
-ghost use Rattle.std.specs.Prelude.{◌≡◌, [], ◌∷◌, ◌++◌, decimal, OnOk, OnErr};
+ghost use Rattle.std.specs.Prelude.{◌≡◌, ◌+◌, ◌<◌, ◌≤◌, true, length, [], ◌∷◌, ◌++◌, decimal, OnOk, OnErr};
 ghost use Rattle.line_rules.specs.Printing.{printable, machine_line, item_line, error_line, order_line, pair_line, space};
 ghost use Rattle.dump_text.specs.Ends.{word_of};
 ghost use Rattle.dump_text.specs.Growing.{Grew};
 ghost use Rattle.dump_text.specs.Lines.{line_of};
 
 use crate::line::{EndWord, Line};
-use crate::printing::{add_printable, or_cut_back};
+use crate::printing::{add_pair_at_once, add_printable, or_cut_back};
 use itoa::Buffer;
 use key_bytes::Bytes;
 use std::alloc::AllocError;
+
+// How many bytes a pair has at most whose line is put into one room.
+const SHORT_PAIR: usize = 256;
 
 // Adds a space and a word. After a refusal a part of it stands behind what `to` held.
 fn add_word(to: &mut Vec<u8>, word: &[u8]) -> Result<(), AllocError>
@@ -115,6 +118,30 @@ fn add_order_line(to: &mut Vec<u8>, machine: u16) -> Result<(), AllocError>
     Ok(())
 }
 
+// Adds the line of a place of the order, where the machine has one digit. After a refusal `to` is unchanged.
+#[inline(always)]
+fn add_short_order_line(to: &mut Vec<u8>, machine: u16) -> Result<(), AllocError>
+    requires { machine < 10 }
+    ensures ok { OnOk result (to.new.items ≡ to.old.items ++ order_line machine) }
+    ensures err { OnErr result (to.new.items ≡ to.old.items) }
+{
+    to.reserve(4)?;
+    to.push_reserved(b'O');
+    to.push_reserved(b' ');
+    to.push_reserved(b'0' + machine as u8);
+    to.push_reserved(b'\n');
+    Ok(())
+}
+
+// Whether the line of a pair is put into one room: of a short one whose key begins with a byte below 20, as most packed
+// tuples do, and so has an escape. It takes no memory.
+#[inline(always)]
+fn fits_one_room(key: &[u8], value: &[u8]) -> bool
+    ensures { result ≡ true → length key.now + length value.now ≤ 256 }
+{
+    matches!(key, [0..=0x1f, ..]) && key.len() + value.len() <= SHORT_PAIR
+}
+
 // Adds the line of a pair. After a refusal a part of it stands behind what `to` held.
 #[tactic(auto, unfolding(line_rules::specs::Printing::pair_line))]
 fn add_pair_line(to: &mut Vec<u8>, key: &[u8], value: &[u8]) -> Result<(), AllocError>
@@ -181,6 +208,9 @@ pub fn write_order_line(to: &mut Vec<u8>, machine: u16) -> Result<(), AllocError
     ensures ok { OnOk result (to.new.items ≡ to.old.items ++ order_line machine) }
     ensures err { OnErr result (to.new.items ≡ to.old.items) }
 {
+    if machine < 10 {
+        return add_short_order_line(to, machine);
+    }
     let len = to.len();
     let written = add_order_line(to, machine);
     or_cut_back(to, len, written)
@@ -191,6 +221,9 @@ pub fn write_pair_line(to: &mut Vec<u8>, key: &[u8], value: &[u8]) -> Result<(),
     ensures ok { OnOk result (to.new.items ≡ to.old.items ++ pair_line key.now value.now) }
     ensures err { OnErr result (to.new.items ≡ to.old.items) }
 {
+    if fits_one_room(key, value) {
+        return add_pair_at_once(to, key, value);
+    }
     let len = to.len();
     let written = add_pair_line(to, key, value);
     or_cut_back(to, len, written)

@@ -16,34 +16,34 @@ returns-in_err-machine c =
     let bytes = c.args.bytes.now in
     let left = c.loop-place.left.now in
     let place = place_at c.loop-place.number bytes left [] in
-    let fails = rw c.first_line.ensures.number at c.in_err-machine.ensures in
+    let fails = rw c.first_of_order.ensures.number at c.in_err-machine.ensures in
     rw (p.1, p.2)
-    (machine_ends fault place left c.first_line.result.1.now c.loop-place.order (line_is c.first_line.result.0)
-    (read_replay start (lines_of bytes)) (sym c.loop-place-test.ensures) c.first_line.ensures.lines fails c.loop-place.invariant.all)
+    (machine_ends fault place left c.first_of_order.result.1.now c.loop-place.order (line_is c.first_of_order.result.0)
+    (read_replay start (lines_of bytes)) (sym c.loop-place-test.ensures) c.first_of_order.ensures.lines fails c.loop-place.invariant.all)
 
 pub loop-place-smaller : goal.loop-place-smaller
-loop-place-smaller c = omega (arith, c.first_line.ensures.less)
+loop-place-smaller c = omega (arith, c.first_of_order.ensures.less)
 
 pub loop-place-preserved : goal.loop-place-preserved
 loop-place-preserved c =
     let bytes = c.args.bytes.now in
     let left = c.loop-place.left.now in
-    let rest = c.first_line.result.1.now in
-    let line = line_is c.first_line.result.0 in
+    let rest = c.first_of_order.result.1.now in
+    let line = line_is c.first_of_order.result.0 in
     let machine = c.in_ok-machine.machine in
     let front = c.loop-place.order in
     let read : read_machine (place_at c.loop-place.number bytes left []) line ≡ Ok machine =
-    rw c.first_line.ensures.number at c.in_ok-machine.ensures in
+    rw c.first_of_order.ensures.number at c.in_ok-machine.ensures in
     let order_is : c.push.new.self ≡ front ++ machine ∷ [] = c.in_ok-push.ensures.ok in
     let size = (is_read (place_at c.loop-place.number bytes left []) line machine read).size in
     let all = machine_goes_on c.loop-place.number bytes left rest front machine line (read_replay start (lines_of bytes))
-    (sym c.loop-place-test.ensures) c.first_line.ensures.lines c.first_line.ensures.size c.loop-place.invariant.within read
+    (sym c.loop-place-test.ensures) c.first_of_order.ensures.lines c.first_of_order.ensures.size c.loop-place.invariant.within read
     c.loop-place.invariant.all in
     record {
       all = rw order_is all;
-      within = omega (arith, c.first_line.ensures.size);
-      counted = omega (arith, c.first_line.ensures.less);
-      size = omega (arith, c.first_line.ensures.size, size);
+      within = omega (arith, c.first_of_order.ensures.size);
+      counted = omega (arith, c.first_of_order.ensures.less);
+      size = omega (arith, c.first_of_order.ensures.size, size);
     }
 
 pub returns-in_err-pairs : goal.returns-in_err-pairs

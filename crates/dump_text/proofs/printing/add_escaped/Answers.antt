@@ -16,5 +16,5 @@ returns-clause-ok c =
     let whole = with_items_is c.resize.new.self _ (same_len_mid len (length all - len) all room.new.room room.ensures.len ∙ c.deref_mut.ensures.len) in
     c.truncate.ensures.items
     ∙ ap (take (len + room.result)) whole
-    ∙ placed len room.result all room.new.room _ (omega (arith, c.deref_mut.ensures.len, c.in_ok-resize.ensures.len, c.in_ok-end.ensures)) room.ensures.end
+    ∙ placed len room.result all room.new.room _ (omega (arith, c.deref_mut.ensures.len, c.in_ok-resize.ensures.len, c.in_ok-end.ensures)) room.ensures.within
     ∙ ap₂ (λ x y. x ++ y) front room.ensures.front

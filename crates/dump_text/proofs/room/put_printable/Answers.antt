@@ -6,11 +6,8 @@ loop-left-preserved c =
     let put = c.put_front-next.ensures in
     record {
       all = put.front ∙ c.loop-left.invariant.all;
-      fits = omega (arith, put.end, put.len, c.loop-left.invariant.fits);
+      fits = omega (arith, put.end, c.loop-left.invariant.fits);
     }
 
 pub returns-clause-front : goal.returns-clause-front
 returns-clause-front c = c.put_forms.ensures.front ∙ c.loop-left.invariant.all
-
-pub returns-clause-end : goal.returns-clause-end
-returns-clause-end c = omega (arith, c.put_forms.ensures.end, c.put_forms.ensures.len, c.loop-left.invariant.fits)
