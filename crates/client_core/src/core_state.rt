@@ -3,6 +3,7 @@
 ghost use Rattle.std.specs.Prelude.{◌≡◌, ℕ, ◌+◌, ◌<◌, ◌^◌, IfOk};
 ghost use Rattle.std.specs.FinMap as finite;
 ghost use Rattle.std.specs.List.{filter};
+ghost use Rattle.std.specs.Map.{values_of};
 ghost use Rattle.key_bytes.specs.Keys.{within};
 ghost use Rattle.machine_rules.specs.Runs.{start_prefix};
 ghost use Rattle.machine_rules.specs.Worlds.{World, HasWords, begun, instruction_pairs, step};
@@ -14,7 +15,7 @@ use crate::machines::{Machines, instructions_under, start};
 use command_rules::RunArgs;
 use conflict_ranges::WriteIndex;
 use fdb_calls::{Reply, Request};
-use key_bytes::{Key, Pairs};
+use key_bytes::{Bytes, Key, Pairs};
 use key_map::KeyMap;
 use outside::Words;
 use std::alloc::{AllocError, Global};
@@ -114,10 +115,11 @@ impl Core {
         self.contents.store.pairs_between(begin, end)
     }
 
-    /// The pairs of the instructions of a prefix at the last version, in the order of their keys: those in the range of the
+    /// The instructions of a prefix at the last version, in the order of their keys: the values of the pairs in the range of the
     /// tuples that begin with it.
-    pub fn instructions(&self, prefix: &[u8]) -> Result<Pairs, AllocError>
-        ensures { IfOk result (λ pairs. pairs ≡ instruction_pairs prefix.now (at self.now.store (last_of self.now.store))) }
+    pub fn instructions(&self, prefix: &[u8]) -> Result<Vec<Bytes>, AllocError>
+        ensures { IfOk result (λ values. values.items
+            ≡ values_of (instruction_pairs prefix.now (at self.now.store (last_of self.now.store)))) }
     {
         instructions_under(self.contents.alloc, &self.contents.store, prefix)
     }
@@ -139,36 +141,24 @@ impl Core {
             return Reply::NoMemory;
         }
         self.is_out_of_memory = true;
-        match request {
-            Request::Start { prefix } => match start(&mut self.machines, &self.contents, prefix) {
-                Ok(reply) => {
-                    self.is_out_of_memory = false;
-                    reply
-                }
-                Err(_) => Reply::NoMemory,
-            },
+        let replied = match request {
+            Request::Start { prefix } => start(&mut self.machines, &self.contents, prefix),
             Request::Directory {
                 name,
                 layer,
                 kind,
                 args,
-            } => match self
+            } => self
                 .contents
-                .call_directory(name, layer, *kind, args, words)
-            {
-                Ok(reply) => {
-                    self.is_out_of_memory = false;
-                    reply
-                }
-                Err(_) => Reply::NoMemory,
-            },
-            _ => match self.contents.take(request) {
-                Ok(reply) => {
-                    self.is_out_of_memory = false;
-                    reply
-                }
-                Err(_) => Reply::NoMemory,
-            },
+                .call_directory(name, layer, *kind, args, words),
+            _ => self.contents.take(request),
+        };
+        match replied {
+            Ok(reply) => {
+                self.is_out_of_memory = false;
+                reply
+            }
+            Err(_) => Reply::NoMemory,
         }
     }
 }

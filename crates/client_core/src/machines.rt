@@ -3,6 +3,7 @@
 ghost use Rattle.std.specs.Prelude.{◌≡◌, ◌∷◌, ◌++◌, [], Some, length, nat_lt, IfOk};
 ghost use Rattle.machine_rules.specs.declared.TheConstants.{MACHINES as MOST};
 ghost use Rattle.machine_rules.specs.Worlds.{World, instruction_pairs, packed_prefix, start_by};
+ghost use Rattle.std.specs.Map.{values_of};
 ghost use Rattle.version_store.specs.Versions.{at, last_of};
 ghost use Rattle.client_core.specs.Contents.{model_of, Starts, TookStart};
 ghost use Rattle.client_core.specs.Stands.{HasStarted, KeepsWorld};
@@ -14,7 +15,7 @@ use key_bytes::{Bytes, Key, Pairs};
 use machine_rules::MACHINES;
 use std::alloc::{AllocError, Global};
 use std::marker::Model;
-use version_store::Store;
+use version_store::{PairsLeft, Store};
 
 /// The prefixes of the machines that were started, by their numbers. Contracts see the list.
 #[derive(Drop)]
@@ -66,20 +67,48 @@ pub fn start(
     let Some(machine) = machines.start(prefix)? else {
         return Ok(Reply::NoMachine);
     };
-    let instructions = instructions_under(contents.alloc, &contents.store, prefix.as_slice())?;
+    let instructions = pairs_under(contents.alloc, &contents.store, prefix.as_slice())?;
     Ok(Reply::Started {
         machine,
         instructions,
     })
 }
 
-/// The pairs of the instructions of a prefix at the last version: those in the range of the tuples that begin with it.
-pub fn instructions_under(alloc: Global, store: &Store, prefix: &[u8]) -> Result<Pairs, AllocError>
+// The pairs of the instructions of a prefix at the last version: those in the range of the tuples that begin with it.
+fn pairs_under(alloc: Global, store: &Store, prefix: &[u8]) -> Result<Pairs, AllocError>
     ensures { IfOk result (λ pairs. pairs ≡ instruction_pairs prefix.now (at store.now (last_of store.now))) }
 {
     let begin = range_end(alloc, prefix, 0)?;
     let end = range_end(alloc, prefix, 0xff)?;
     store.pairs_between(&begin, &end)
+}
+
+/// The instructions of a prefix at the last version, in the order of their keys: the values of those pairs. No list of the pairs
+/// stands between the store and this one.
+pub fn instructions_under(
+    alloc: Global,
+    store: &Store,
+    prefix: &[u8],
+) -> Result<Vec<Bytes>, AllocError>
+    ensures { IfOk result (λ values. values.items ≡ values_of (instruction_pairs prefix.now (at store.now (last_of store.now)))) }
+{
+    let begin = range_end(alloc, prefix, 0)?;
+    let end = range_end(alloc, prefix, 0xff)?;
+    match store.pairs_in(&begin, &end, store.last()) {
+        Ok(left) => values_of(alloc, left),
+        Err(_) => unreachable!(),
+    }
+}
+
+// Copies of the values of the pairs that are left, in order.
+fn values_of(alloc: Global, left: PairsLeft<'_>) -> Result<Vec<Bytes>, AllocError>
+    ensures { IfOk result (λ values. values.items ≡ values_of left.entry) }
+{
+    let mut values = Vec::new(alloc);
+    for (_, value) in left {
+        values.push(value.copy()?)?;
+    }
+    Ok(values)
 }
 
 // An end of the range of the tuples that begin with a prefix: the packed prefix, and one byte more.

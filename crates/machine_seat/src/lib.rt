@@ -1,7 +1,7 @@
 //! A machine at its seat: by itself, over the replies that it gets.
 //!
 //! A `Seat` has a machine that has come to rest, and what it asks. `use_reply` gives the machine the reply, and it comes to rest
-//! again: at its next request or at its end. `start` seats a machine as it is started, and `seat_started` the one that a
+//! again: at its next request or at its end. `start` and `start_with` seat a machine as it is started, and `seat_started` the one that a
 //! request and its reply started, if they started one. Whoever has requests answered, by turns, by a given order or in
 //! threads, runs machines so.
 //!
@@ -15,4 +15,4 @@ mod starting;
 mod tests;
 
 pub use seat::Seat;
-pub use starting::{is_no_memory, prefix_of, seat_started, seat_started_by, start};
+pub use starting::{is_no_memory, prefix_of, seat_started, seat_started_by, start, start_with};

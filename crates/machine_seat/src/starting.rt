@@ -1,6 +1,7 @@
 //! Machines as they are started.
 
-ghost use Rattle.std.specs.Prelude.{◌≡◌, ◌↔◌, map, option_to_list, IfOk, IfSome, IsTrue};
+ghost use Rattle.std.specs.Prelude.{◌≡◌, ◌↔◌, ℕ, List, map, option_to_list, IfOk, IfSome, IsTrue};
+ghost use Rattle.std.specs.Map.{values_of};
 ghost use Rattle.fdb_calls.specs.declared.Reply.TheVariants.{NoMemory};
 ghost use Rattle.machine_rules.specs.Machines.{silent};
 ghost use Rattle.machine_rules.specs.Runs.{at_rest, start_prefix, started, started_by};
@@ -26,6 +27,22 @@ pub fn start(
     ensures seated { IfOk result IsSeated }
 {
     Seat::new(Machine::new(alloc, number, prefix, instructions, polls)?)
+}
+
+/// The same with these instructions, as whatever pairs have them for their values.
+#[tactic(auto, unfolding(machine_rules::specs::Runs::started))]
+pub fn start_with(
+    alloc: Global,
+    number: u16,
+    prefix: Bytes,
+    polls: u32,
+    instructions: Vec<Bytes>,
+) -> Result<Seat, AllocError>
+    ensures started { IfOk result (λ seat. (pairs : List (List ℕ × List ℕ)) → instructions.items ≡ values_of pairs
+        → progress_of seat ≡ at_rest (silent (started number prefix polls pairs))) }
+    ensures seated { IfOk result IsSeated }
+{
+    Seat::new(Machine::with_instructions(alloc, number, prefix, instructions, polls)?)
 }
 
 /// The prefix under which a request starts a machine, if it starts one.

@@ -74,6 +74,17 @@ fn run_by_hand(alloc: Global) -> Result<Option<Told>, AllocError> {
     Ok(Some(told_by(asks_on, &seat, started.as_ref())))
 }
 
+// How many instructions a machine has that is started with these, and whether it asks.
+fn started_with(alloc: Global) -> Result<(usize, bool), AllocError> {
+    let mut instructions = Vec::new(alloc);
+    for pair in asking_for_a_machine(alloc)?.into_vec() {
+        instructions.push(pair.value)?;
+    }
+    let prefix = Bytes::from_slice(alloc, b"p")?;
+    let seat = start_with(alloc, 0, prefix, POLLS, instructions)?;
+    Ok((seat.machine.instruction_count(), seat.asks.is_some()))
+}
+
 const STARTED_ONE: Told = Told {
     asks_on: false,
     ended: true,
@@ -84,6 +95,12 @@ const STARTED_ONE: Told = Told {
 fn a_machine_starts_another(rt: HostRuntime) -> Result<(), Fail> {
     assert_eq!(rt; run(rt.alloc())?, Some(STARTED_ONE));
     assert_eq!(rt; run_by_hand(rt.alloc())?, Some(STARTED_ONE));
+    Ok(())
+}
+
+#[test]
+fn a_machine_is_started_with_its_instructions(rt: HostRuntime) -> Result<(), Fail> {
+    assert_eq!(rt; started_with(rt.alloc())?, (2, true));
     Ok(())
 }
 

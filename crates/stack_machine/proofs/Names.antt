@@ -15,7 +15,7 @@ use Rattle.fdb_tuple.specs.declared.tuple.Elem.{Elem}
 use Rattle.fdb_tuple.specs.declared.tuple.Elem.TheVariants as elem
 use Rattle.fdb_tuple.specs.Listed.{elements_of}
 use Rattle.machine_rules.specs.declared.Instruction.TheVariants as instruction
-use Rattle.machine_rules.specs.Instructions.{named_instruction, instruction_of, instruction_read}
+use Rattle.machine_rules.specs.Instructions.{bare_instruction, named_instruction, instruction_of, instruction_read}
 use Rattle.fdb_tuple.specs.Zeros.{HasNoZero}
 use Rattle.fdb_tuple.proofs.ReadLaws.{read_tuple_again}
 use Rattle.fdb_tuple.proofs.ZeroRuns.{escaped_last}
@@ -44,6 +44,13 @@ name_alone value name is none utf8 = ap read_tuple (is ∙ sym spelled) ∙ read
   where
     spelled : spelling (Single (Text name) Empty) ≡ 2 ∷ name ++ 0 ∷ []
     spelled = append-nil _ ∙ ap (λ (bytes : List ℕ). 2 ∷ bytes ++ 0 ∷ []) (escaped_last name none)
+
+-- a value that is such a name between these two bytes is the instruction of the name
+pub packed_name : (value packed name : List ℕ) → packed ≡ 2 ∷ name ++ 0 ∷ [] → true ≡ bytes_eq value packed
+    → list_any (λ byte. nat_eq byte 0) name ≡ false → IsUtf8 name → instruction_of value ≡ bare_instruction name
+unfolding instruction_of
+packed_name value packed name is same none utf8 =
+    ap instruction_read (name_alone value name ((bytes_eq-Decides value packed).0 (sym same) ∙ is) (no_zero name none) utf8)
 
 -- a value that packs PUSH and one element pushes it
 push_alone : (value rest : List ℕ) (tuple : Elements) (elements : List Elem) (element : Elem)

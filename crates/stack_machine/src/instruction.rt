@@ -27,16 +27,42 @@ pub fn instruction_of(alloc: Global, value: &[u8]) -> Result<Option<Instruction>
     ensures instruction { IfOk result (λ instruction. instruction ≡ instruction_of value.now) }
     ensures element { IfOk result PushesAnElement }
 {
-    if let Some(name) = lone_name(value) {
-        return Ok(bare_instruction(name));
+    if let Some(instruction) = usual_instruction(value) {
+        return Ok(Some(instruction));
     }
     if let Some(element) = pushed_element(alloc, value)? {
         return Ok(Some(Instruction::Push(element)));
+    }
+    if let Some(name) = lone_name(value) {
+        return Ok(bare_instruction(name));
     }
     match unpack(alloc, value) {
         Ok(tuple) => Ok(instruction_in(tuple.into_vec())),
         Err(UnpackFault::NoMemory) => Err(AllocError),
         Err(_) => Ok(None),
+    }
+}
+
+// The instruction where the value is that of one of those that most transactions have: one comparison each, and no look at the
+// bytes of the name. It takes no memory.
+fn usual_instruction(value: &[u8]) -> Option<Instruction>
+    ensures instruction { IfSome result (λ instruction. instruction_of value.now ≡ Some instruction) }
+    ensures element { PushesAnElement result }
+{
+    if value == b"\x02SET\x00".as_slice() {
+        Some(Instruction::OnDatabase(DatabaseOperation::Set, Scope::Transaction))
+    } else if value == b"\x02GET\x00".as_slice() {
+        Some(Instruction::OnDatabase(DatabaseOperation::Get, Scope::Transaction))
+    } else if value == b"\x02COMMIT\x00".as_slice() {
+        Some(Instruction::OnTransaction(TransactionOperation::Commit))
+    } else if value == b"\x02RESET\x00".as_slice() {
+        Some(Instruction::OnTransaction(TransactionOperation::Reset))
+    } else if value == b"\x02NEW_TRANSACTION\x00".as_slice() {
+        Some(Instruction::OnTransaction(TransactionOperation::NewTransaction))
+    } else if value == b"\x02USE_TRANSACTION\x00".as_slice() {
+        Some(Instruction::UseTransaction)
+    } else {
+        None
     }
 }
 

@@ -94,8 +94,30 @@ impl Machine {
         }) }
         ensures ready { IfOk result (λ machine. machine.is_out_of_memory ≡ false) }
     {
-        let name = prefix.copy()?;
         let instructions = values_of(alloc, instructions)?;
+        Machine::with_instructions(alloc, number, prefix, instructions, polls)
+    }
+
+    /// The same with these instructions.
+    pub fn with_instructions(
+        alloc: Global,
+        number: u16,
+        prefix: Bytes,
+        instructions: Vec<Bytes>,
+        polls: u32,
+    ) -> Result<Machine, AllocError>
+        ensures machine { IfOk result (λ machine. machine.machine ≡ record {
+          number = number;
+          prefix = prefix;
+          instructions = instructions.items;
+          next = 0;
+          polls = polls;
+          registers = record { name = prefix; last_seen = pos 0; stack = []; errors = []; directories = first_directories };
+          state = Running;
+        }) }
+        ensures ready { IfOk result (λ machine. machine.is_out_of_memory ≡ false) }
+    {
+        let name = prefix.copy()?;
         Ok(Machine {
             number,
             prefix,
@@ -255,6 +277,7 @@ impl Machine {
     }
 
     // What the instruction, or the reply that it awaited, came to.
+    #[inline(always)]
     fn act(&mut self, act: Act) -> Step
         requires ready { self.old.is_out_of_memory ≡ false }
         requires inside { self.old.machine.next < length self.old.machine.instructions }

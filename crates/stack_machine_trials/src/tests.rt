@@ -4,7 +4,7 @@ ghost use Rattle.machine_rules.specs.declared.State.TheVariants.{Running};
 use Course::{Asks, Bad, Other, Under};
 use fdb_calls::{Request, TxnCall};
 use fdb_tuple::{Elem, pack_element};
-use key_bytes::{Bytes, Pair, Pairs};
+use key_bytes::Bytes;
 use stack_machine::{End, Machine, State, Step};
 use std::alloc::{AllocError, Global};
 use std::test::Fail;
@@ -15,16 +15,15 @@ mod waits;
 // How many polls a wait has in these tests.
 const POLLS: u32 = 10_000;
 
-// A machine under the prefix `p` whose one instruction has this value, under the empty key.
+// A machine under the prefix `p` whose one instruction has this value.
 fn machine_of(alloc: Global, value: Bytes) -> Result<Machine, AllocError>
     ensures ready { IfOk result (λ machine. machine.is_out_of_memory ≡ false) }
     ensures running { IfOk result (λ machine. machine.machine.state ≡ Running) }
 {
-    let mut instructions = Pairs::new(alloc);
-    let key = Bytes::new(alloc);
-    instructions.push(Pair { key, value })?;
+    let mut instructions = Vec::new(alloc);
+    instructions.push(value)?;
     let prefix = Bytes::from_slice(alloc, b"p")?;
-    Machine::new(alloc, 0, prefix, instructions, POLLS)
+    Machine::with_instructions(alloc, 0, prefix, instructions, POLLS)
 }
 
 // The same of an instruction that is this name alone, a byte string.

@@ -18,7 +18,7 @@ use client_core::Core;
 use command_words::RunArgs;
 use dump_text::Order;
 use key_bytes::{Bytes, Pairs};
-use machine_seat::{Seat, start};
+use machine_seat::{Seat, start_with};
 use outside::PcgWords;
 use stack_machine::{End, State};
 use std::alloc::{AllocError, Global};
@@ -167,7 +167,7 @@ pub fn first_seat(alloc: Global, arguments: &RunArgs, core: &Core) -> Result<Sea
 {
     let instructions = core.instructions(arguments.prefix.as_slice())?;
     let prefix = arguments.prefix.copy()?;
-    let seat = start(alloc, 0, prefix, arguments.polls, instructions)?;
+    let seat = start_with(alloc, 0, prefix, arguments.polls, instructions)?;
     Ok(seat)
 }
 

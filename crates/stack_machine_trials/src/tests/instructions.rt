@@ -5,7 +5,7 @@ ghost use Rattle.std.specs.Prelude.{◌≤◌};
 use super::*;
 use Lying::{Bool, Int, Str};
 use fdb_calls::{Code, Reply};
-use key_bytes::KeyRange;
+use key_bytes::{KeyRange, Pair, Pairs};
 use machine_rules::{Awaits, ItemValue};
 
 // An item that lies on the stack before an instruction.

@@ -127,8 +127,8 @@ fn core_of(alloc: Global, loaded: &[(&[u8], &[u8])]) -> Result<Core, AllocError>
 fn values_of_q(alloc: Global) -> Result<Vec<u8>, AllocError> {
     let core = core_of(alloc, UNDER_Q)?;
     let mut values = Vec::new(alloc);
-    for pair in core.instructions(b"q")?.as_slice() {
-        values.extend_from_slice(pair.value.as_slice())?;
+    for value in core.instructions(b"q")? {
+        values.extend_from_slice(value.as_slice())?;
     }
     Ok(values)
 }
