@@ -200,15 +200,15 @@ read_one front bytes rest byte total e so_far =
     ap (λ (x : List ℕ). record (text_of rest) { bytes = x }) joined
     ∙ ap (with_front front) (sym (text_spelled bytes rest byte (sym e))) ∙ so_far
 
--- one more byte and the run behind it
-pub read_more : (front bytes rest run left : List ℕ) (byte : ℕ) (total : ReadText) → Spelled byte rest ≡ piece_at bytes
-    → text_of rest ≡ with_front run (text_of left)
-    → with_front front (text_of bytes) ≡ total → with_front ((front ++ byte ∷ []) ++ run) (text_of left) ≡ total
-read_more front bytes rest run left byte total e parts so_far =
-    let joined : ((front ++ byte ∷ []) ++ run) ++ (text_of left).bytes ≡ (front ++ byte ∷ []) ++ (run ++ (text_of left).bytes) =
-    append_assoc (front ++ byte ∷ []) run (text_of left).bytes in
-    ap (λ (x : List ℕ). record (text_of left) { bytes = x }) joined
-    ∙ ap (with_front (front ++ byte ∷ [])) (sym parts) ∙ read_one front bytes rest byte total e so_far
+-- one more run
+pub read_run : (front bytes now : List ℕ) (n : ℕ) (total : ReadText) → now ≡ front ++ take n bytes
+    → text_of bytes ≡ with_front (take n bytes) (text_of (drop n bytes))
+    → with_front front (text_of bytes) ≡ total → with_front now (text_of (drop n bytes)) ≡ total
+read_run front bytes now n total e parts so_far =
+    let left = text_of (drop n bytes) in
+    let joined : now ++ left.bytes ≡ front ++ (take n bytes ++ left.bytes) =
+    ap (λ (x : List ℕ). x ++ left.bytes) e ∙ append_assoc front (take n bytes) left.bytes in
+    ap (λ (x : List ℕ). record left { bytes = x }) joined ∙ ap (with_front front) (sym parts) ∙ so_far
 
 pub spelled_within : (bytes rest : List ℕ) (byte : ℕ) → Spelled byte rest ≡ piece_at bytes → length rest < length bytes
 spelled_within bytes rest byte e = rw (← e) at (piece_shorter bytes)

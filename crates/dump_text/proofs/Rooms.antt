@@ -1,7 +1,7 @@
 -- What stands in a room, and the table of printed forms.
 use Rattle.std.proofs.Common.{◌≡◌, ℕ, zero, suc, ◌+◌, ◌<◌, ◌≤◌, Bool, true, false, ◌&&◌, ◌==◌, leb, T, List, [], ◌∷◌, ◌++◌, length, take, drop, get_or, slice_index_or, refl, sym, ap, ap₂, ◌∙◌, append_assoc, arith}
 use Rattle.std.proofs.lemmas.Bool.{eqb-true, leb-true}
-use Rattle.std.proofs.lemmas.List.{take-append-le, take-take, length-take, take_all}
+use Rattle.std.proofs.lemmas.List.{take-append-le, take-take, length-take, length-append, take_all}
 use Rattle.std.proofs.lemmas.Simd.{chunk-drop, length-chunk, put_chunk_is}
 use lib.Lanes.{chunk, put_chunk}
 use Rattle.line_rules.specs.Printing.{printed, printable}
@@ -37,6 +37,14 @@ front_placed a n m room bytes h k l =
 pub held : (old fill : List ℕ) (n end : ℕ) → n ≡ length old → n ≤ end → take n (take end old ++ fill) ≡ old
 held old fill n end e h =
     take-append-le n (take end old) fill (omega (arith, length-take end old, e)) ∙ take-take n end old h ∙ take_all n old (omega (arith, e))
+
+-- what was put into a room that was added, which is cut off behind it
+pub added_behind : (old fill all room text behind : List ℕ) (n end added : ℕ) → all ≡ take end old ++ fill → n ≡ length old → n ≤ end
+    → added ≤ length room → take added room ≡ text
+    → take (n + added) (take n all ++ (room ++ behind)) ≡ old ++ text
+added_behind old fill all room text behind n end added e long h within front =
+    let fits : n ≤ length all = omega (arith, ap length e, length-append (take end old) fill, length-take end old, long, h) in
+    placed n added all room behind fits within ∙ ap₂ (λ x y. x ++ y) (ap (take n) e ∙ held old fill n end long h) front
 
 -- ---- printed bytes at the front
 

@@ -104,26 +104,27 @@ split : (bytes : List ℕ) (i n : ℕ) → prefix_len is_plain (drop i bytes)
 split bytes i n = ap (prefix_len is_plain) (chunk-drop i n bytes) ∙ prefix_len-append is_plain (chunk i n bytes) (drop (i + n) bytes)
 
 -- no bit is set: the run goes on behind the vector
-pub run_through : (bytes : List ℕ) (i n : ℕ) → i + n ≤ length bytes → mask_l (map is_stop (chunk i n bytes)) ≡ 0
+pub run_through : (bytes : List ℕ) (i n found : ℕ) → found ≡ mask_l (map is_stop (chunk i n bytes)) → i + n ≤ length bytes → found ≡ 0
     → prefix_len is_plain (drop i bytes) ≡ n + prefix_len is_plain (drop (i + n) bytes)
-run_through bytes i n room none =
+run_through bytes i n found e room none =
     let c = chunk i n bytes in
     split bytes i n
-    ∙ ap (λ b. cond b (length c + prefix_len is_plain (drop (i + n) bytes)) (prefix_len is_plain c)) (eq-eqb _ _ (same_run c ∙ leading_from_mask_l is_stop c none))
+    ∙ ap (λ b. cond b (length c + prefix_len is_plain (drop (i + n) bytes)) (prefix_len is_plain c)) (eq-eqb _ _ (same_run c ∙ leading_from_mask_l is_stop c (sym e ∙ none)))
     ∙ ap (λ k. k + prefix_len is_plain (drop (i + n) bytes)) (length-chunk i n bytes room)
 
 -- a bit is set: the run ends at the lowest
-pub run_stops : (bytes : List ℕ) (i n : ℕ) → i + n ≤ length bytes → n ≤ 64 → 0 < mask_l (map is_stop (chunk i n bytes))
-    → prefix_len is_plain (drop i bytes) ≡ count_trailing_zeros 64 (mask_l (map is_stop (chunk i n bytes)))
-run_stops bytes i n room short some =
+pub run_stops : (bytes : List ℕ) (i n found : ℕ) → found ≡ mask_l (map is_stop (chunk i n bytes)) → i + n ≤ length bytes → n ≤ 64 → 0 < found
+    → prefix_len is_plain (drop i bytes) ≡ count_trailing_zeros 64 found
+run_stops bytes i n found e room short some =
     let c = chunk i n bytes in
     split bytes i n
-    ∙ ap (λ b. cond b (length c + prefix_len is_plain (drop (i + n) bytes)) (prefix_len is_plain c)) (ne_eqb _ _ (λ (e : prefix_len is_plain c ≡ length c). omega (arith, all_plain c e)))
-    ∙ same_run c ∙ sym (trailing_mask_l is_stop 64 c (omega (arith, length-chunk i n bytes room)) some)
+    ∙ ap (λ b. cond b (length c + prefix_len is_plain (drop (i + n) bytes)) (prefix_len is_plain c)) (ne_eqb _ _ (λ (all : prefix_len is_plain c ≡ length c). omega (arith, all_plain c all, e)))
+    ∙ same_run c ∙ sym (trailing_mask_l is_stop 64 c (omega (arith, length-chunk i n bytes room)) (omega (arith, e))) ∙ ap (count_trailing_zeros 64) (sym e)
 
 -- the lowest bit that is set lies within the vector
-pub stops_within : (bytes : List ℕ) (i n : ℕ) → i + n ≤ length bytes → n ≤ 64 → 0 < mask_l (map is_stop (chunk i n bytes))
-    → count_trailing_zeros 64 (mask_l (map is_stop (chunk i n bytes))) ≤ n
-stops_within bytes i n room short some =
+pub stops_within : (bytes : List ℕ) (i n found : ℕ) → found ≡ mask_l (map is_stop (chunk i n bytes)) → i + n ≤ length bytes → n ≤ 64 → 0 < found
+    → count_trailing_zeros 64 found ≤ n
+stops_within bytes i n found e room short some =
     let c = chunk i n bytes in
-    omega (arith, trailing_mask_l is_stop 64 c (omega (arith, length-chunk i n bytes room)) some, prefix_len-le-length (λ x. not (is_stop x)) c, length-chunk i n bytes room)
+    let long = length-chunk i n bytes room in
+    omega (arith, ap (count_trailing_zeros 64) e, trailing_mask_l is_stop 64 c (omega (arith, long)) (omega (arith, e)), prefix_len-le-length (λ x. not (is_stop x)) c, long)

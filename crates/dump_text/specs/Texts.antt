@@ -9,7 +9,6 @@ use Rattle.dump_text.specs.declared.text.ReadText.{ReadText}
 
 abbrev pub piece_is : Piece → reading.Piece
 piece_is pieces.Nothing = reading.Nothing
-piece_is (pieces.Plain byte rest) = reading.Spelled byte rest.now
 piece_is (pieces.Spelled byte rest) = reading.Spelled byte rest.now
 piece_is (pieces.Separator rest) = reading.Separator rest.now
 piece_is pieces.Unfit = reading.Unfit

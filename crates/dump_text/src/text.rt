@@ -1,11 +1,11 @@
 //! Reading of the printable form of bytes.
 
-ghost use Rattle.std.specs.Prelude.{◌≡◌, ◌+◌, ◌≤◌, ◌∷◌, length, drop, IfOk, OnOk};
+ghost use Rattle.std.specs.Prelude.{◌≡◌, ◌+◌, ◌≤◌, ◌∷◌, length, take, drop, IfOk, OnOk};
 ghost use Rattle.std.specs.List.{prefix_len, take_while};
 ghost use Rattle.std.specs.Vec.{vec_len};
 ghost use Rattle.line_rules.specs.Printing.{is_plain};
 ghost use Rattle.line_rules.specs.Reading.{piece_at, escaped_piece, hexadecimal_piece, digit_of, text_of};
-ghost use Rattle.dump_text.specs.Texts.{piece_is, stop_is, text_is, passed};
+ghost use Rattle.dump_text.specs.Texts.{piece_is, stop_is, text_is, with_front, passed};
 
 use crate::plain::{is_plain, split_plain};
 use crate::room::{put, put_plain};
@@ -17,9 +17,7 @@ use std::alloc::{AllocError, Global};
 pub enum Piece<'a> {
     /// No byte is left.
     Nothing,
-    /// A byte stands for itself.
-    Plain(u8, &'a [u8]),
-    /// A byte is spelled otherwise.
+    /// A byte is spelled, by itself or otherwise.
     Spelled(u8, &'a [u8]),
     /// The separator stands.
     Separator(&'a [u8]),
@@ -109,7 +107,7 @@ fn piece_of(bytes: &[u8]) -> Piece<'_>
     match bytes {
         [] => Piece::Nothing,
         [b'\\', rest @ ..] => escaped_piece(rest),
-        [byte, rest @ ..] if is_plain(*byte) => Piece::Plain(*byte, rest),
+        [byte, rest @ ..] if is_plain(*byte) => Piece::Spelled(*byte, rest),
         _ => Piece::Unfit,
     }
 }
@@ -140,6 +138,31 @@ fn make_room(scratch: &mut Vec<u8>, len: usize) -> Result<(), AllocError>
     Ok(())
 }
 
+// Puts bytes at a place that stand for themselves: those that `bytes` begins with, sixteen at a time, but not always all of
+// them. Where they end, and what is left. No run is looked for among fewer than eight bytes, nor where a backslash stands
+// at the front. It takes no memory.
+#[inline(always)]
+fn put_run<'a>(room: &mut [u8], at: usize, bytes: &'a [u8]) -> (usize, &'a [u8])
+    requires { at + length bytes.now ≤ length room.old }
+    ensures read { with_front (take result.0 room.new) (text_of result.1.now) ≡ with_front (take at room.old) (text_of bytes.now) }
+    ensures place { result.0 + length result.1.now ≡ at + length bytes.now }
+    ensures within { length result.1.now ≤ length bytes.now }
+    ensures len { length room.new ≡ length room.old }
+{
+    if bytes.len() < 8 || bytes[0] == b'\\' {
+        return (at, bytes);
+    }
+    let mut end = at;
+    let mut left = bytes;
+    let mut count = 16;
+    while count == 16 {
+        count = put_plain(room, end, left);
+        end += count;
+        left = &left[count..];
+    }
+    (end, left)
+}
+
 // What bytes spell. It is built in the scratch buffer, whatever that held: no more bytes are spelled than are left.
 #[inline(never)]
 fn read_on<'a>(
@@ -155,23 +178,18 @@ fn read_on<'a>(
     let mut len = 0;
     let mut left = bytes;
     loop {
-        match piece_of(left) {
-            Piece::Plain(byte, rest) => {
-                put(room, len, byte);
-                let count = put_plain(room, len + 1, rest);
-                len += 1 + count;
-                left = &rest[count..];
-            }
+        let (end, behind) = put_run(room, len, left);
+        match piece_of(behind) {
             Piece::Spelled(byte, rest) => {
-                put(room, len, byte);
-                len += 1;
+                put(room, end, byte);
+                len = end + 1;
                 left = rest;
             }
-            Piece::Nothing => return copy_up_to(alloc, &room[..len], Stop::AtEnd, left),
+            Piece::Nothing => return copy_up_to(alloc, &room[..end], Stop::AtEnd, behind),
             Piece::Separator(rest) => {
-                return copy_up_to(alloc, &room[..len], Stop::AtSeparator, rest);
+                return copy_up_to(alloc, &room[..end], Stop::AtSeparator, rest);
             }
-            Piece::Unfit => return copy_up_to(alloc, &room[..len], Stop::AtFault, left),
+            Piece::Unfit => return copy_up_to(alloc, &room[..end], Stop::AtFault, behind),
         }
     }
 }
