@@ -1,4 +1,4 @@
-use Rattle.std.proofs.Common.{◌≡◌, ℕ, List, ap, ◌∙◌}
+use Rattle.std.proofs.Common.{ℕ, List, ap, ◌∙◌}
 use Rattle.std.specs.Map.{values_of}
 use Rattle.machine_rules.specs.Machines.{silent}
 use Rattle.machine_rules.specs.Runs.{at_rest, started}
