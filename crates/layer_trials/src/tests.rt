@@ -10,6 +10,7 @@ use shelf::Shelf;
 use std::alloc::{AllocError, Global};
 use std::fmt::Write;
 
+mod by_name;
 mod refusals;
 mod rows;
 mod shelf;

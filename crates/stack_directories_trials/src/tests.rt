@@ -384,3 +384,46 @@ fn faults_have_names(rt: HostRuntime) -> Result<(), Fail> {
     assert_eq!(rt; digits_of(rt.alloc(), 2017)?.as_slice(), b"2017".as_slice());
     Ok(())
 }
+
+// The index of the current object, the one that is taken in place of that of null, and those that the numbers 3 and 4 are.
+fn indices(alloc: Global) -> Result<(usize, usize, [Option<usize>; 2]), Fail> {
+    let mut list = list_of(alloc)?;
+    list.choose(2);
+    let numbers = [list.index_in(3), list.index_in(4)];
+    Ok((list.index(), list.error_index(), numbers))
+}
+
+#[test]
+fn a_list_has_two_indices(rt: HostRuntime) -> Result<(), Fail> {
+    assert_eq!(rt; indices(rt.alloc())?, (2, 1, [Some(3), None]));
+    Ok(())
+}
+
+// The current object where this index is chosen, or null where the list, which has four objects, has none.
+fn current(alloc: Global, index: usize) -> Result<String, Fail> {
+    let (mut list, mut text) = (list_of(alloc)?, String::new(alloc));
+    list.choose(index);
+    let null = Object::Null;
+    add_object(&mut text, list.current_or(&null))?;
+    Ok(text)
+}
+
+// The object of the index that an integer is, where there is one.
+fn numbered(alloc: Global, number: i128) -> Result<String, Fail> {
+    let (list, mut text) = (list_of(alloc)?, String::new(alloc));
+    match list.object_at(number) {
+        Some(object) => add_object(&mut text, object)?,
+        None => write!(text, "none")?,
+    }
+    Ok(text)
+}
+
+#[test]
+fn an_object_has_an_index(rt: HostRuntime) -> Result<(), Fail> {
+    assert_eq!(rt; current(rt.alloc(), 1)?.as_str(), "subspace 73");
+    assert_eq!(rt; current(rt.alloc(), 4)?.as_str(), "null");
+    assert_eq!(rt; numbered(rt.alloc(), 0)?.as_str(), "layer FE ");
+    assert_eq!(rt; numbered(rt.alloc(), 2)?.as_str(), "directory");
+    assert_eq!(rt; numbered(rt.alloc(), -1)?.as_str(), "none");
+    Ok(())
+}

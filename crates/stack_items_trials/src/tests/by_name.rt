@@ -134,6 +134,19 @@ fn left_by_tuple_sort(alloc: Global) -> Result<usize, StackFault> {
     Ok(stack.len())
 }
 
+// The two integers on top, and how many items a look came past with them.
+fn looked_at(alloc: Global) -> Result<(i128, i128, usize), StackFault> {
+    let stack = integers(alloc, &[4, 5, -6])?;
+    let mut operands = stack.operands();
+    let (first, second) = (operands.int()?, operands.int()?);
+    Ok((first, second, operands.popped()))
+}
+
+#[test]
+fn integers_are_looked_at_by_name(rt: HostRuntime) {
+    assert!(rt; looked_at(rt.alloc()) == Ok((-6, 5, 2)));
+}
+
 #[test]
 fn items_are_moved_by_name(rt: HostRuntime) -> Result<(), Fail> {
     let alloc = rt.alloc();
