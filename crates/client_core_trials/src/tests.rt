@@ -27,6 +27,15 @@ mod plain_writes;
 mod promises;
 mod reads;
 
+// A value, where it was made whole. Values with much in them end by this, or by `drop`: the proof of a function in which
+// one ends of itself goes over all that it holds, at each place where it may end.
+fn made<T: Drop>(value: T, done: Result<(), AllocError>) -> Result<T, AllocError> {
+    match done {
+        Ok(()) => Ok(value),
+        Err(error) => Err(error),
+    }
+}
+
 // What a request is answered, as a test writes it. Pairs, and instructions, are spelled.
 #[derive(Clone, Copy, PartialEq, Eq)]
 enum Told<'a> {
@@ -68,16 +77,14 @@ fn tell(reply: &Reply) -> Option<Told<'_>> {
 // Whether a reply is this.
 fn is_told(alloc: Global, reply: &Reply, wanted: Told<'_>) -> Result<bool, AllocError> {
     match (reply, wanted) {
-        (Reply::PairsAre(pairs), Told::Pairs(text)) => {
-            Ok(spelled(alloc, pairs)?.as_slice() == text)
-        }
+        (Reply::PairsAre(pairs), Told::Pairs(text)) => is_spelled(spelled(alloc, pairs), text),
         (
             Reply::Started {
                 machine,
                 instructions,
             },
             Told::Started(number, text),
-        ) => Ok(*machine == number && spelled(alloc, instructions)?.as_slice() == text),
+        ) => Ok(*machine == number && is_spelled(spelled(alloc, instructions), text)?),
         _ => Ok(tell(reply) == Some(wanted)),
     }
 }
@@ -133,24 +140,27 @@ fn is_told_of(
     last: u64,
 ) -> Result<bool, AllocError> {
     let (reply, is_counted) = apply_counted(core, request, last);
-    Ok(is_counted && is_told(alloc, &reply, wanted)?)
+    let is_told = is_told(alloc, &reply, wanted);
+    drop(reply);
+    Ok(is_counted && is_told?)
 }
 
 impl Asked for Core {
     fn is_answered(&mut self, alloc: Global, row: Row) -> Result<bool, AllocError> {
         let (ask, wanted, last) = row;
         let request = request_of(alloc, ask)?;
-        is_told_of(alloc, self, &request, wanted, last)
+        let is_told = is_told_of(alloc, self, &request, wanted, last);
+        drop(request);
+        is_told
     }
 
     fn is_left(&self, alloc: Global, wanted: &[u8]) -> Result<bool, AllocError> {
-        Ok(shown(alloc, self)?.as_slice() == wanted)
+        is_spelled(shown(alloc, self), wanted)
     }
 
     fn is_between(&self, alloc: Global, span: Span) -> Result<bool, AllocError> {
         let (begin, end, wanted) = span;
-        let found = between(alloc, self, begin, end)?;
-        Ok(found.as_slice() == wanted)
+        is_spelled(between(alloc, self, begin, end), wanted)
     }
 }
 
@@ -196,12 +206,17 @@ fn pair_of(alloc: Global, loaded: Loaded) -> Result<Pair, AllocError> {
     Ok(Pair { key, value })
 }
 
-fn pairs_of(alloc: Global, loaded: &[Loaded]) -> Result<Pairs, AllocError> {
-    let mut pairs = Pairs::new(alloc);
+fn add_pairs(alloc: Global, pairs: &mut Pairs, loaded: &[Loaded]) -> Result<(), AllocError> {
     for pair in loaded {
         pairs.push(pair_of(alloc, *pair)?)?;
     }
-    Ok(pairs)
+    Ok(())
+}
+
+fn pairs_of(alloc: Global, loaded: &[Loaded]) -> Result<Pairs, AllocError> {
+    let mut pairs = Pairs::new(alloc);
+    let done = add_pairs(alloc, &mut pairs, loaded);
+    made(pairs, done)
 }
 
 fn arguments_of(alloc: Global) -> Result<RunArgs, AllocError> {
@@ -213,9 +228,13 @@ fn arguments_of(alloc: Global) -> Result<RunArgs, AllocError> {
 }
 
 fn core_of(alloc: Global, loaded: &[Loaded]) -> Result<Core, AllocError> {
-    let pairs = pairs_of(alloc, loaded)?;
     let arguments = arguments_of(alloc)?;
-    Core::load(alloc, &arguments, pairs)
+    let core = match pairs_of(alloc, loaded) {
+        Ok(pairs) => Core::load(alloc, &arguments, pairs),
+        Err(error) => Err(error),
+    };
+    drop(arguments);
+    core
 }
 
 const TWO: &[Loaded] = &[(b"b", b"1"), (b"a", b"2"), (b"b", b"3")];
@@ -233,27 +252,66 @@ fn spell(text: &mut Vec<u8>, key: &[u8], value: &[u8]) -> Result<(), AllocError>
     Ok(())
 }
 
-// Each pair as `key=value;`.
-fn spelled(alloc: Global, pairs: &Pairs) -> Result<Vec<u8>, AllocError> {
-    let mut text = Vec::new(alloc);
+// Adds each pair as `key=value;`.
+fn spell_pairs(text: &mut Vec<u8>, pairs: &Pairs) -> Result<(), AllocError> {
     for pair in pairs.as_slice() {
-        spell(&mut text, pair.key.as_slice(), pair.value.as_slice())?;
+        spell(text, pair.key.as_slice(), pair.value.as_slice())?;
     }
-    Ok(text)
+    Ok(())
 }
 
-// Each pair at the last version as `key=value;`.
+fn spelled(alloc: Global, pairs: &Pairs) -> Result<Vec<u8>, AllocError> {
+    let mut text = Vec::new(alloc);
+    let done = spell_pairs(&mut text, pairs);
+    made(text, done)
+}
+
+// Adds each pair at the last version as `key=value;`.
+fn show(text: &mut Vec<u8>, core: &Core) -> Result<(), AllocError> {
+    for (key, value) in core.pairs_left() {
+        spell(text, key.as_slice(), value.as_slice())?;
+    }
+    Ok(())
+}
+
 fn shown(alloc: Global, core: &Core) -> Result<Vec<u8>, AllocError> {
     let mut text = Vec::new(alloc);
-    for (key, value) in core.pairs_left() {
-        spell(&mut text, key.as_slice(), value.as_slice())?;
-    }
-    Ok(text)
+    let done = show(&mut text, core);
+    made(text, done)
+}
+
+// Whether a text is this.
+fn is_spelled(text: Result<Vec<u8>, AllocError>, wanted: &[u8]) -> Result<bool, AllocError> {
+    let text = text?;
+    let is_spelled = text.as_slice() == wanted;
+    drop(text);
+    Ok(is_spelled)
+}
+
+// The same of pairs, each as `key=value;`.
+fn spelled_of(alloc: Global, pairs: Result<Pairs, AllocError>) -> Result<Vec<u8>, AllocError> {
+    let pairs = pairs?;
+    let text = spelled(alloc, &pairs);
+    drop(pairs);
+    text
 }
 
 // The place of the first request that a new core answers otherwise.
 fn first_wrong_of_new(alloc: Global, rows: &[Row]) -> Result<Option<usize>, AllocError> {
     first_wrong_in(alloc, new_core(alloc)?, rows)
+}
+
+// Fails with the place of what is answered otherwise.
+fn none_wrong(wrong: Option<usize>) -> Result<(), Fail> {
+    match wrong {
+        None => Ok(()),
+        Some(place) => Err(Fail::new(place)),
+    }
+}
+
+// Fails where a new core answers a request otherwise.
+fn expect_answers(alloc: Global, rows: &[Row]) -> Result<(), Fail> {
+    none_wrong(first_wrong_of_new(alloc, rows)?)
 }
 
 // The same of a core over these pairs.
@@ -263,6 +321,11 @@ fn first_wrong_over(
     rows: &[Row],
 ) -> Result<Option<usize>, AllocError> {
     first_wrong_in(alloc, core_of(alloc, loaded)?, rows)
+}
+
+// Fails where a core over these pairs answers a request otherwise.
+fn expect_answers_over(alloc: Global, loaded: &[Loaded], rows: &[Row]) -> Result<(), Fail> {
+    none_wrong(first_wrong_over(alloc, loaded, rows)?)
 }
 
 // The place of the first request that a new core answers otherwise, and whether these pairs are left.
@@ -284,6 +347,30 @@ fn outcome_over(
     outcome_of(alloc, core_of(alloc, loaded)?, rows, wanted)
 }
 
+// Fails with the place of what is answered otherwise, or where other pairs are left.
+fn none_wrong_and_left(outcome: (Option<usize>, bool)) -> Result<(), Fail> {
+    match outcome {
+        (Some(place), _) => Err(Fail::new(place)),
+        (None, false) => Err(Fail::new("other pairs are left")),
+        (None, true) => Ok(()),
+    }
+}
+
+// Fails where a new core answers a request otherwise, or other pairs are left.
+fn expect_left(alloc: Global, rows: &[Row], wanted: &[u8]) -> Result<(), Fail> {
+    none_wrong_and_left(outcome(alloc, rows, wanted)?)
+}
+
+// The same of a core over these pairs.
+fn expect_left_over(
+    alloc: Global,
+    loaded: &[Loaded],
+    rows: &[Row],
+    wanted: &[u8],
+) -> Result<(), Fail> {
+    none_wrong_and_left(outcome_over(alloc, loaded, rows, wanted)?)
+}
+
 // Two keys, and the pairs between them.
 type Span = (&'static [u8], &'static [u8], &'static [u8]);
 
@@ -298,7 +385,9 @@ const SPANS: &[Span] = &[
 // The pairs between two keys.
 fn between(alloc: Global, core: &Core, begin: &[u8], end: &[u8]) -> Result<Vec<u8>, AllocError> {
     let range = range_of(alloc, begin, end)?;
-    spelled(alloc, &core.pairs_between(&range.begin, &range.end)?)
+    let text = spelled_of(alloc, core.pairs_between(&range.begin, &range.end));
+    drop(range);
+    text
 }
 
 // The place of the first span of which other pairs are there.
@@ -318,25 +407,40 @@ fn first_other_of_new(alloc: Global) -> Result<Option<usize>, AllocError> {
 
 // The pairs of a dump.
 fn dumped(alloc: Global, core: &Core) -> Result<Vec<u8>, AllocError> {
-    spelled(alloc, &core.dump_pairs()?)
+    spelled_of(alloc, core.dump_pairs())
 }
 
 // The last version of a core, how many requests it took, and whether these are its pairs.
 fn state_of(alloc: Global, core: &Core, wanted: &[u8]) -> Result<(u64, u64, bool), AllocError> {
-    let is_dumped = dumped(alloc, core)?.as_slice() == wanted;
+    let is_dumped = is_spelled(dumped(alloc, core), wanted)?;
     Ok((core.last(), core.applied(), is_dumped))
 }
 
 // The same of a new core.
 fn loaded(alloc: Global, wanted: &[u8]) -> Result<(u64, u64, bool), AllocError> {
-    state_of(alloc, &new_core(alloc)?, wanted)
+    let core = new_core(alloc)?;
+    let state = state_of(alloc, &core, wanted);
+    drop(core);
+    state
+}
+
+// Fails where a new core is at another version than the first, took a request, or has other pairs.
+fn expect_loaded(alloc: Global, wanted: &[u8]) -> Result<(), Fail> {
+    match loaded(alloc, wanted)? {
+        (1, 0, true) => Ok(()),
+        _ => Err(Fail::new("another state is loaded")),
+    }
+}
+
+// Fails where a new core has other pairs in a span.
+fn expect_spans(alloc: Global) -> Result<(), Fail> {
+    none_wrong(first_other_of_new(alloc)?)
 }
 
 #[test]
 fn loads_pairs(rt: HostRuntime) -> Result<(), Fail> {
-    assert_eq!(rt; loaded(rt.alloc(), b"a=2;b=3;")?, (1, 0, true));
-    assert_eq!(rt; first_other_of_new(rt.alloc())?, None);
-    Ok(())
+    expect_loaded(rt.alloc(), b"a=2;b=3;")?;
+    expect_spans(rt.alloc())
 }
 
 const P: &[u8] = b"p";
@@ -354,8 +458,7 @@ const SETS: &[Row] = &[
 
 #[test]
 fn sets_and_commits(rt: HostRuntime) -> Result<(), Fail> {
-    assert_eq!(rt; outcome(rt.alloc(), SETS, b"a=6;b=3;c=4;")?, (None, true));
-    Ok(())
+    expect_left(rt.alloc(), SETS, b"a=6;b=3;c=4;")
 }
 
 const READS: &[Row] = &[
@@ -380,8 +483,7 @@ const READS: &[Row] = &[
 
 #[test]
 fn reads_its_own_writes_at_its_own_version(rt: HostRuntime) -> Result<(), Fail> {
-    assert_eq!(rt; outcome(rt.alloc(), READS, b"")?, (None, true));
-    Ok(())
+    expect_left(rt.alloc(), READS, b"")
 }
 
 const LIVES: &[Row] = &[
@@ -408,8 +510,7 @@ const LIVES: &[Row] = &[
 
 #[test]
 fn a_life_ends_with_its_commit(rt: HostRuntime) -> Result<(), Fail> {
-    assert_eq!(rt; outcome(rt.alloc(), LIVES, b"a=2;b=3;c=4;")?, (None, true));
-    Ok(())
+    expect_left(rt.alloc(), LIVES, b"a=2;b=3;c=4;")
 }
 
 const CANCELLED: &[Row] = &[
@@ -433,8 +534,7 @@ const CANCELLED: &[Row] = &[
 
 #[test]
 fn a_cancelled_life_takes_no_call(rt: HostRuntime) -> Result<(), Fail> {
-    assert_eq!(rt; first_wrong_of_new(rt.alloc(), CANCELLED)?, None);
-    Ok(())
+    expect_answers(rt.alloc(), CANCELLED)
 }
 
 // Codes, and whether a transaction may be tried again after an error of each.
@@ -471,19 +571,23 @@ fn is_handled(alloc: Global, code: u16, may_retry: bool) -> Result<bool, AllocEr
 }
 
 // The first code that is handled otherwise.
-fn first_mishandled(alloc: Global) -> Result<Option<u16>, AllocError> {
+fn first_mishandled(alloc: Global) -> Result<Option<usize>, AllocError> {
     for (code, may_retry) in CODES {
         if !is_handled(alloc, *code, *may_retry)? {
-            return Ok(Some(*code));
+            return Ok(Some(usize::from(*code)));
         }
     }
     Ok(None)
 }
 
+// Fails with the first code that is handled otherwise.
+fn expect_handled(alloc: Global) -> Result<(), Fail> {
+    none_wrong(first_mishandled(alloc)?)
+}
+
 #[test]
 fn an_error_begins_anew_or_cancels(rt: HostRuntime) -> Result<(), Fail> {
-    assert_eq!(rt; first_mishandled(rt.alloc())?, None);
-    Ok(())
+    expect_handled(rt.alloc())
 }
 
 const RENEWED: &[Row] = &[
@@ -495,8 +599,7 @@ const RENEWED: &[Row] = &[
 
 #[test]
 fn a_new_transaction_takes_the_place_of_the_old(rt: HostRuntime) -> Result<(), Fail> {
-    assert_eq!(rt; first_wrong_of_new(rt.alloc(), RENEWED)?, None);
-    Ok(())
+    expect_answers(rt.alloc(), RENEWED)
 }
 
 const APART: &[Row] = &[
@@ -520,8 +623,7 @@ const APART: &[Row] = &[
 
 #[test]
 fn a_call_on_the_database_is_committed(rt: HostRuntime) -> Result<(), Fail> {
-    assert_eq!(rt; outcome(rt.alloc(), APART, b"c=4;")?, (None, true));
-    Ok(())
+    expect_left(rt.alloc(), APART, b"c=4;")
 }
 
 const LOGS: &[Row] = &[
@@ -546,9 +648,5 @@ const LOGS: &[Row] = &[
 
 #[test]
 fn logs_all_entries_or_none(rt: HostRuntime) -> Result<(), Fail> {
-    assert_eq!(rt;
-        outcome(rt.alloc(), LOGS, b"a=2;b=3;c=4;log/1=y;log/2=z;")?,
-        (None, true)
-    );
-    Ok(())
+    expect_left(rt.alloc(), LOGS, b"a=2;b=3;c=4;log/1=y;log/2=z;")
 }

@@ -5,6 +5,7 @@ use database_rules::{AtomicOp, Code, Mode, Selector, Tried};
 use fdb_calls::{Outcome, Reply, Tr, TrFault, TxnCall};
 use key_bytes::{Bytes, Key, KeyRange, Pair, Pairs};
 use std::alloc::{AllocError, Global};
+use std::mem;
 use std::test::Fail;
 use txn_core::{Answer, Txn, TxnOn, Verdict};
 use version_store::Store;
@@ -76,6 +77,15 @@ enum Row {
     Named(Named),
 }
 
+// A value, where it was made whole. Values with much in them end by this, or by `drop`: the proof of a function in which
+// one ends of itself goes over all that it holds, at each place where it may end.
+fn made<T: Drop>(value: T, done: Result<(), AllocError>) -> Result<T, AllocError> {
+    match done {
+        Ok(()) => Ok(value),
+        Err(error) => Err(error),
+    }
+}
+
 fn tell(answer: &Answer) -> Told<'_> {
     match &answer.reply {
         Reply::Done if answer.drew_life => Told::NewLife,
@@ -90,6 +100,14 @@ fn tell(answer: &Answer) -> Told<'_> {
         // no call of a transaction answers these
         _ => Told::NoMemory,
     }
+}
+
+// Whether an answer is this.
+fn is_told(answer: Result<Answer, AllocError>, wanted: Told<'static>) -> Result<bool, AllocError> {
+    let answer = answer?;
+    let is_told = tell(&answer) == wanted;
+    drop(answer);
+    Ok(is_told)
 }
 
 // The versionstamp with which a test asks which keys a transaction declares.
@@ -118,18 +136,30 @@ fn close(text: &mut Vec<u8>, last: Option<&Key>) -> Result<(), AllocError> {
 }
 
 // Each range of a set as `begin-end;`, those that touch as one.
-fn spelled(alloc: Global, ranges: &RangeSet) -> Result<Vec<u8>, AllocError> {
-    let mut text = Vec::new(alloc);
+fn spell(text: &mut Vec<u8>, ranges: &RangeSet) -> Result<(), AllocError> {
     let mut last = None;
     for (begin, end) in ranges.ranges() {
         if !goes_on(last, begin) {
-            close(&mut text, last)?;
-            open(&mut text, begin)?;
+            close(text, last)?;
+            open(text, begin)?;
         }
         last = Some(end);
     }
-    close(&mut text, last)?;
-    Ok(text)
+    close(text, last)
+}
+
+fn spelled(alloc: Global, ranges: &RangeSet) -> Result<Vec<u8>, AllocError> {
+    let mut text = Vec::new(alloc);
+    let done = spell(&mut text, ranges);
+    made(text, done)
+}
+
+// Whether a text is this.
+fn is_spelled(text: Result<Vec<u8>, AllocError>, wanted: &[u8]) -> Result<bool, AllocError> {
+    let text = text?;
+    let is_spelled = text.as_slice() == wanted;
+    drop(text);
+    Ok(is_spelled)
 }
 
 // What rows ask of two transactions over their store. What goes over rows knows no more of a session, so that its proof
@@ -193,12 +223,15 @@ impl Session {
     // The keys that it declares to write.
     fn declares(&mut self) -> Result<Vec<u8>, AllocError> {
         let ranges = self.on().write_ranges(STAMP)?;
-        spelled(self.alloc, &ranges)
+        let text = spelled(self.alloc, &ranges);
+        drop(ranges);
+        text
     }
 
     // A transaction of the next life, at the last version.
     fn begin_anew(&mut self) {
-        self.txn = Txn::at_last(self.alloc, 1, &self.store);
+        let next = Txn::at_last(self.alloc, 1, &self.store);
+        drop(mem::replace(&mut self.txn, next));
     }
 }
 
@@ -210,31 +243,31 @@ impl Asked for Session {
         wanted: Told<'static>,
     ) -> Result<bool, AllocError> {
         let call = call_of(self.alloc, say, snapshot)?;
-        let answer = self.answer(&call)?;
-        Ok(tell(&answer) == wanted)
+        let answer = self.answer(&call);
+        drop(call);
+        is_told(answer, wanted)
     }
 
     fn is_answered_beside(&mut self, say: Say, wanted: Told<'static>) -> Result<bool, AllocError> {
         let call = call_of(self.alloc, say, false)?;
-        let answer = self.answer_other(&call)?;
-        Ok(tell(&answer) == wanted)
+        let answer = self.answer_other(&call);
+        drop(call);
+        is_told(answer, wanted)
     }
 
     fn is_read(&mut self, say: Say, wanted: &[Entry]) -> Result<bool, AllocError> {
         let call = call_of(self.alloc, say, false)?;
-        let answer = self.answer(&call)?;
-        Ok(match &answer.reply {
-            Reply::PairsAre(pairs) => are(pairs, wanted),
-            _ => false,
-        })
+        let answer = self.answer(&call);
+        drop(call);
+        are_told(answer, wanted)
     }
 
     fn is_resting_on(&mut self, wanted: &[u8]) -> Result<bool, AllocError> {
-        Ok(self.rests()?.as_slice() == wanted)
+        is_spelled(self.rests(), wanted)
     }
 
     fn is_declaring(&mut self, wanted: &[u8]) -> Result<bool, AllocError> {
-        Ok(self.declares()?.as_slice() == wanted)
+        is_spelled(self.declares(), wanted)
     }
 
     fn begins_anew(&mut self, version: u64) -> bool {
@@ -271,6 +304,21 @@ fn are(pairs: &Pairs, wanted: &[Entry]) -> bool {
             .all(|(pair, entry)| is_entry(pair, entry))
 }
 
+fn has_pairs(answer: &Answer, wanted: &[Entry]) -> bool {
+    match &answer.reply {
+        Reply::PairsAre(pairs) => are(pairs, wanted),
+        _ => false,
+    }
+}
+
+// Whether an answer has these pairs.
+fn are_told(answer: Result<Answer, AllocError>, wanted: &[Entry]) -> Result<bool, AllocError> {
+    let answer = answer?;
+    let are_told = has_pairs(&answer, wanted);
+    drop(answer);
+    Ok(are_told)
+}
+
 // The place of the first row that does not hold.
 fn first_wrong_of<A: Asked + AskedByName>(
     asked: &mut A,
@@ -297,6 +345,25 @@ fn first_wrong(alloc: Global, rows: &[Row]) -> Result<Option<usize>, AllocError>
     first_wrong_in(new_session(alloc), rows)
 }
 
+// Fails with the place of a row that does not hold.
+fn none_wrong(wrong: Option<usize>) -> Result<(), Fail> {
+    match wrong {
+        None => Ok(()),
+        Some(place) => Err(Fail::new(place)),
+    }
+}
+
+// Fails where a row does not hold of a new transaction over an empty store.
+fn hold(alloc: Global, rows: &[Row]) -> Result<(), Fail> {
+    none_wrong(first_wrong(alloc, rows)?)
+}
+
+// The same of two new transactions, each over a store of its own.
+fn hold_apart(alloc: Global, rows: &[Row], others: &[Row]) -> Result<(), Fail> {
+    hold(alloc, rows)?;
+    hold(alloc, others)
+}
+
 const END_DECLARED: &[Row] = &[Row::Named(Named::DeclaresKey(
     b"\xff",
     Err(TrFault::Code(Code(2004))),
@@ -304,6 +371,5 @@ const END_DECLARED: &[Row] = &[Row::Named(Named::DeclaresKey(
 
 #[test]
 fn a_declared_key_lies_below_the_end(rt: HostRuntime) -> Result<(), Fail> {
-    assert_eq!(rt; first_wrong(rt.alloc(), END_DECLARED)?, None);
-    Ok(())
+    hold(rt.alloc(), END_DECLARED)
 }

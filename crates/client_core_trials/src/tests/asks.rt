@@ -78,8 +78,9 @@ fn selector_of(alloc: Global, place: Place) -> Result<Selector, AllocError> {
     })
 }
 
-fn get_of(key: Bytes, snapshot: bool) -> TxnCall {
-    TxnCall::Get { key, snapshot }
+fn get_of(alloc: Global, key: &[u8], snapshot: bool) -> Result<TxnCall, AllocError> {
+    let key = bytes_of(alloc, key)?;
+    Ok(TxnCall::Get { key, snapshot })
 }
 
 fn get_key_of(alloc: Global, place: Place, snapshot: bool) -> Result<TxnCall, AllocError> {
@@ -123,23 +124,48 @@ fn get_range_of(
     })
 }
 
-fn get_key_range_of(range: KeyRange, manner: Manner) -> TxnCall {
-    TxnCall::GetKeyRange {
-        range,
+fn get_key_range_of(
+    range: Result<KeyRange, AllocError>,
+    manner: Manner,
+) -> Result<TxnCall, AllocError> {
+    Ok(TxnCall::GetKeyRange {
+        range: range?,
         limit: manner.limit,
         reverse: manner.reverse,
         mode: manner.mode,
         snapshot: manner.snapshot,
+    })
+}
+
+// A key with its value, where both were made.
+fn both(
+    key: Result<Bytes, AllocError>,
+    value: Result<Bytes, AllocError>,
+) -> Result<(Bytes, Bytes), AllocError> {
+    match (key, value) {
+        (Ok(key), Ok(value)) => Ok((key, value)),
+        (Err(error), value) => {
+            drop(value);
+            Err(error)
+        }
+        (key, Err(error)) => {
+            drop(key);
+            Err(error)
+        }
     }
 }
 
-fn set_of(key: Bytes, value: Result<Bytes, AllocError>) -> Result<TxnCall, AllocError> {
-    let value = value?;
+fn set_of(
+    key: Result<Bytes, AllocError>,
+    value: Result<Bytes, AllocError>,
+) -> Result<TxnCall, AllocError> {
+    let (key, value) = both(key, value)?;
     Ok(TxnCall::Set { key, value })
 }
 
-fn clear_of(key: Bytes) -> TxnCall {
-    TxnCall::Clear { key }
+fn clear_of(key: Result<Bytes, AllocError>) -> Result<TxnCall, AllocError> {
+    let key = key?;
+    Ok(TxnCall::Clear { key })
 }
 
 fn long_range(alloc: Global, begin: usize, end: usize) -> Result<KeyRange, AllocError> {
@@ -148,8 +174,9 @@ fn long_range(alloc: Global, begin: usize, end: usize) -> Result<KeyRange, Alloc
     Ok(KeyRange { begin, end })
 }
 
-fn clear_range_of(range: KeyRange) -> TxnCall {
-    TxnCall::ClearRange { range }
+fn clear_range_of(range: Result<KeyRange, AllocError>) -> Result<TxnCall, AllocError> {
+    let range = range?;
+    Ok(TxnCall::ClearRange { range })
 }
 
 fn atomic_of(name: Bytes, key: Bytes, operand: Bytes) -> TxnCall {
@@ -181,7 +208,7 @@ fn long_atomic(
 // A read, which is by snapshot where that is said, or another call.
 fn call_of(alloc: Global, say: Say, snapshot: bool) -> Result<TxnCall, AllocError> {
     match say {
-        Say::Get(key) => Ok(get_of(bytes_of(alloc, key)?, snapshot)),
+        Say::Get(key) => get_of(alloc, key, snapshot),
         Say::GetKey(place) => get_key_of(alloc, place, snapshot),
         Say::GetRange(begin, end, limit, reverse, mode) => {
             get_range_of(
@@ -192,8 +219,8 @@ fn call_of(alloc: Global, say: Say, snapshot: bool) -> Result<TxnCall, AllocErro
             )
         }
         Say::GetKeyRange(begin, end, limit, reverse, mode) => {
-            let range = range_of(alloc, begin, end)?;
-            Ok(get_key_range_of(range, new_manner(limit, reverse, mode, snapshot)))
+            let range = range_of(alloc, begin, end);
+            get_key_range_of(range, new_manner(limit, reverse, mode, snapshot))
         }
         _ => write_of(alloc, say),
     }
@@ -201,32 +228,34 @@ fn call_of(alloc: Global, say: Say, snapshot: bool) -> Result<TxnCall, AllocErro
 
 fn write_of(alloc: Global, say: Say) -> Result<TxnCall, AllocError> {
     match say {
-        Say::Set(key, value) => set_of(bytes_of(alloc, key)?, bytes_of(alloc, value)),
-        Say::LongSet(key, value) => set_of(long(alloc, key)?, long(alloc, value)),
-        Say::Clear(key) => Ok(clear_of(bytes_of(alloc, key)?)),
-        Say::LongClear(key) => Ok(clear_of(long(alloc, key)?)),
-        Say::ClearRange(begin, end) => Ok(clear_range_of(range_of(alloc, begin, end)?)),
-        Say::LongClearRange(begin, end) => Ok(clear_range_of(long_range(alloc, begin, end)?)),
+        Say::Set(key, value) => set_of(bytes_of(alloc, key), bytes_of(alloc, value)),
+        Say::LongSet(key, value) => set_of(long(alloc, key), long(alloc, value)),
+        Say::Clear(key) => clear_of(bytes_of(alloc, key)),
+        Say::LongClear(key) => clear_of(long(alloc, key)),
+        Say::ClearRange(begin, end) => clear_range_of(range_of(alloc, begin, end)),
+        Say::LongClearRange(begin, end) => clear_range_of(long_range(alloc, begin, end)),
         Say::Atomic(name, key, operand) => short_atomic(alloc, name, key, operand),
         Say::LongAtomic(name, key, operand) => long_atomic(alloc, name, key, operand),
         _ => conflict_of(alloc, say),
     }
 }
 
-fn read_conflict_of(range: KeyRange) -> TxnCall {
-    TxnCall::ReadConflict { range }
+fn read_conflict_of(range: Result<KeyRange, AllocError>) -> Result<TxnCall, AllocError> {
+    let range = range?;
+    Ok(TxnCall::ReadConflict { range })
 }
 
-fn write_conflict_of(range: KeyRange) -> TxnCall {
-    TxnCall::WriteConflict { range }
+fn write_conflict_of(range: Result<KeyRange, AllocError>) -> Result<TxnCall, AllocError> {
+    let range = range?;
+    Ok(TxnCall::WriteConflict { range })
 }
 
 fn conflict_of(alloc: Global, say: Say) -> Result<TxnCall, AllocError> {
     match say {
-        Say::ReadConflict(begin, end) => Ok(read_conflict_of(range_of(alloc, begin, end)?)),
-        Say::LongReadConflict(begin, end) => Ok(read_conflict_of(long_range(alloc, begin, end)?)),
-        Say::WriteConflict(begin, end) => Ok(write_conflict_of(range_of(alloc, begin, end)?)),
-        Say::LongWriteConflict(begin, end) => Ok(write_conflict_of(long_range(alloc, begin, end)?)),
+        Say::ReadConflict(begin, end) => read_conflict_of(range_of(alloc, begin, end)),
+        Say::LongReadConflict(begin, end) => read_conflict_of(long_range(alloc, begin, end)),
+        Say::WriteConflict(begin, end) => write_conflict_of(range_of(alloc, begin, end)),
+        Say::LongWriteConflict(begin, end) => write_conflict_of(long_range(alloc, begin, end)),
         _ => Ok(short_of(say)),
     }
 }
@@ -246,15 +275,47 @@ fn short_of(say: Say) -> TxnCall {
     }
 }
 
+fn new(alloc: Global, name: &[u8]) -> Result<Request, AllocError> {
+    let name = bytes_of(alloc, name)?;
+    Ok(Request::New { name })
+}
+
 fn on(alloc: Global, name: &[u8], say: Say, snapshot: bool) -> Result<Request, AllocError> {
     let name = bytes_of(alloc, name)?;
     let call = call_of(alloc, say, snapshot)?;
     Ok(Request::On { name, call })
 }
 
-fn log_of(alloc: Global, prefix: &[u8], entries: Pairs) -> Result<Request, AllocError> {
+fn database(alloc: Global, say: Say) -> Result<Request, AllocError> {
+    let call = call_of(alloc, say, false)?;
+    Ok(Request::Database { call })
+}
+
+fn start(alloc: Global, prefix: &[u8]) -> Result<Request, AllocError> {
     let prefix = bytes_of(alloc, prefix)?;
-    Ok(Request::Log { prefix, entries })
+    Ok(Request::Start { prefix })
+}
+
+fn poll_empty(alloc: Global, prefix: &[u8]) -> Result<Request, AllocError> {
+    let prefix = bytes_of(alloc, prefix)?;
+    Ok(Request::PollEmpty { prefix })
+}
+
+fn log_of(
+    prefix: Result<Bytes, AllocError>,
+    entries: Result<Pairs, AllocError>,
+) -> Result<Request, AllocError> {
+    match (prefix, entries) {
+        (Ok(prefix), Ok(entries)) => Ok(Request::Log { prefix, entries }),
+        (Err(error), entries) => {
+            drop(entries);
+            Err(error)
+        }
+        (prefix, Err(error)) => {
+            drop(prefix);
+            Err(error)
+        }
+    }
 }
 
 fn long_pair(alloc: Global, key: usize, value: usize) -> Result<Pair, AllocError> {
@@ -263,42 +324,51 @@ fn long_pair(alloc: Global, key: usize, value: usize) -> Result<Pair, AllocError
     Ok(Pair { key, value })
 }
 
-fn long_log(alloc: Global, prefix: usize, key: usize, value: usize) -> Result<Request, AllocError> {
+fn add_long(
+    alloc: Global,
+    entries: &mut Pairs,
+    key: usize,
+    value: usize,
+) -> Result<(), AllocError> {
+    entries.push(long_pair(alloc, key, value)?)
+}
+
+// An entry, and one whose key and value have so many bytes.
+fn long_entries(alloc: Global, key: usize, value: usize) -> Result<Pairs, AllocError> {
     let mut entries = pairs_of(alloc, &[(b"1", b"x")])?;
-    entries.push(long_pair(alloc, key, value)?)?;
-    let prefix = long(alloc, prefix)?;
-    Ok(Request::Log { prefix, entries })
+    let done = add_long(alloc, &mut entries, key, value);
+    made(entries, done)
+}
+
+fn add_copies(entries: &mut Pairs, pair: &Pair, count: usize) -> Result<(), AllocError> {
+    for _ in 0..count {
+        entries.push(pair.copy()?)?;
+    }
+    Ok(())
 }
 
 // So many entries with the empty key and a value of 100000 bytes.
 fn full_entries(alloc: Global, count: usize) -> Result<Pairs, AllocError> {
     let pair = long_pair(alloc, 0, 100_000)?;
     let mut entries = Pairs::new(alloc);
-    for _ in 0..count {
-        entries.push(pair.copy()?)?;
-    }
-    Ok(entries)
+    let done = add_copies(&mut entries, &pair, count);
+    drop(pair);
+    made(entries, done)
 }
 
 pub fn request_of(alloc: Global, ask: Ask) -> Result<Request, AllocError> {
     match ask {
-        Ask::New(name) => Ok(Request::New {
-            name: bytes_of(alloc, name)?,
-        }),
+        Ask::New(name) => new(alloc, name),
         Ask::On(name, say) => on(alloc, name, say, false),
         Ask::Snapshot(name, say) => on(alloc, name, say, true),
-        Ask::Database(say) => Ok(Request::Database {
-            call: call_of(alloc, say, false)?,
-        }),
+        Ask::Database(say) => database(alloc, say),
         Ask::Poll(life) => Ok(Request::PollStamp { life }),
-        Ask::Start(prefix) => Ok(Request::Start {
-            prefix: bytes_of(alloc, prefix)?,
-        }),
-        Ask::Empty(prefix) => Ok(Request::PollEmpty {
-            prefix: bytes_of(alloc, prefix)?,
-        }),
-        Ask::Log(prefix, entries) => log_of(alloc, prefix, pairs_of(alloc, entries)?),
-        Ask::LongLog(prefix, key, value) => long_log(alloc, prefix, key, value),
-        Ask::FullLog(prefix, count) => log_of(alloc, prefix, full_entries(alloc, count)?),
+        Ask::Start(prefix) => start(alloc, prefix),
+        Ask::Empty(prefix) => poll_empty(alloc, prefix),
+        Ask::Log(prefix, entries) => log_of(bytes_of(alloc, prefix), pairs_of(alloc, entries)),
+        Ask::LongLog(prefix, key, value) => {
+            log_of(long(alloc, prefix), long_entries(alloc, key, value))
+        }
+        Ask::FullLog(prefix, count) => log_of(bytes_of(alloc, prefix), full_entries(alloc, count)),
     }
 }

@@ -17,9 +17,14 @@ struct Beside {
 }
 
 fn new_beside(alloc: Global, loaded: &[Loaded]) -> Result<Beside, AllocError> {
-    let core = core_of(alloc, loaded)?;
     let plain = Plain::new(alloc, pairs_of(alloc, loaded)?)?;
-    Ok(Beside { core, plain })
+    match core_of(alloc, loaded) {
+        Ok(core) => Ok(Beside { core, plain }),
+        Err(error) => {
+            drop(plain);
+            Err(error)
+        }
+    }
 }
 
 fn are_same_pairs(one: &[Pair], other: &[Pair]) -> bool {
@@ -123,19 +128,29 @@ fn is_answered_alike(
     answers: &mut Answers,
 ) -> Result<bool, AllocError> {
     let wanted = beside.plain.take(request)?;
-    answers.add(&wanted)?;
+    let added = answers.add(&wanted);
     let reply = apply(&mut beside.core, request);
-    Ok(are_same(&reply, &wanted))
+    let is_same = are_same(&reply, &wanted);
+    drop(reply);
+    drop(wanted);
+    added?;
+    Ok(is_same)
+}
+
+// Whether pairs are these.
+fn are_pairs(found: Result<Pairs, AllocError>, wanted: &Pairs) -> Result<bool, AllocError> {
+    let found = found?;
+    let are_same = are_same_pairs(found.as_slice(), wanted.as_slice());
+    drop(found);
+    Ok(are_same)
 }
 
 // Whether the last version has the same number and the same pairs.
 fn is_alike(beside: &Beside) -> Result<bool, AllocError> {
     let wanted = beside.plain.pairs()?;
-    let found = beside.core.dump_pairs()?;
-    Ok(
-        are_same_pairs(found.as_slice(), wanted.as_slice())
-            && beside.core.last() == beside.plain.last() as u64,
-    )
+    let are_same = are_pairs(beside.core.dump_pairs(), &wanted);
+    drop(wanted);
+    Ok(are_same? && beside.core.last() == beside.plain.last() as u64)
 }
 
 // What lists of requests ask of the two.
@@ -160,7 +175,9 @@ impl Taken for Beside {
         answers: &mut Answers,
     ) -> Result<bool, AllocError> {
         let request = request_of(alloc, ask)?;
-        Ok(is_answered_alike(self, &request, answers)? && is_alike(self)?)
+        let is_answered = is_answered_alike(self, &request, answers);
+        drop(request);
+        Ok(is_answered? && is_alike(self)?)
     }
 
     fn passed(&self) -> usize {

@@ -28,11 +28,7 @@ const CONFLICTS: &[Row] = &[
 fn a_commit_is_refused_for_what_was_declared_since_its_version(
     rt: HostRuntime,
 ) -> Result<(), Fail> {
-    assert_eq!(rt;
-        outcome_over(rt.alloc(), K, CONFLICTS, b"k=2;")?,
-        (None, true)
-    );
-    Ok(())
+    expect_left_over(rt.alloc(), K, CONFLICTS, b"k=2;")
 }
 
 // Calls on the database and logs declare too.
@@ -52,8 +48,7 @@ const ABOUT: &[Row] = &[
 
 #[test]
 fn each_commit_declares_what_it_wrote(rt: HostRuntime) -> Result<(), Fail> {
-    assert_eq!(rt; outcome(rt.alloc(), ABOUT, b"b=3;c1=y;x=1;")?, (None, true));
-    Ok(())
+    expect_left(rt.alloc(), ABOUT, b"b=3;c1=y;x=1;")
 }
 
 const SNAPSHOTS: &[Row] = &[
@@ -67,11 +62,7 @@ const SNAPSHOTS: &[Row] = &[
 
 #[test]
 fn no_commit_is_refused_for_reads_by_snapshot(rt: HostRuntime) -> Result<(), Fail> {
-    assert_eq!(rt;
-        outcome_over(rt.alloc(), K, SNAPSHOTS, b"k=2;")?,
-        (None, true)
-    );
-    Ok(())
+    expect_left_over(rt.alloc(), K, SNAPSHOTS, b"k=2;")
 }
 
 const SILENT: &[Row] = &[
@@ -85,8 +76,7 @@ const SILENT: &[Row] = &[
 
 #[test]
 fn no_commit_is_refused_for_a_silent_write(rt: HostRuntime) -> Result<(), Fail> {
-    assert_eq!(rt; outcome_over(rt.alloc(), K, SILENT, b"k=1;")?, (None, true));
-    Ok(())
+    expect_left_over(rt.alloc(), K, SILENT, b"k=1;")
 }
 
 // A commit of declared keys alone makes a version; one of an empty range makes none.
@@ -110,8 +100,7 @@ const TOLD: &[Row] = &[
 
 #[test]
 fn a_transaction_is_told_what_it_rests_on_and_declares(rt: HostRuntime) -> Result<(), Fail> {
-    assert_eq!(rt; outcome_over(rt.alloc(), K, TOLD, b"")?, (None, true));
-    Ok(())
+    expect_left_over(rt.alloc(), K, TOLD, b"")
 }
 
 const VERSIONS: &[Row] = &[
@@ -144,11 +133,7 @@ const VERSIONS: &[Row] = &[
 
 #[test]
 fn a_version_is_taken_set_and_made(rt: HostRuntime) -> Result<(), Fail> {
-    assert_eq!(rt;
-        outcome_over(rt.alloc(), K, VERSIONS, b"k=2;")?,
-        (None, true)
-    );
-    Ok(())
+    expect_left_over(rt.alloc(), K, VERSIONS, b"k=2;")
 }
 
 // Each making of a transaction and each reset draws the next number.
@@ -174,8 +159,7 @@ const PROMISES: &[Row] = &[
 
 #[test]
 fn a_versionstamp_is_promised_by_the_number_of_the_life(rt: HostRuntime) -> Result<(), Fail> {
-    assert_eq!(rt; first_wrong_of_new(rt.alloc(), PROMISES)?, None);
-    Ok(())
+    expect_answers(rt.alloc(), PROMISES)
 }
 
 const STAMP_KEY: &[u8] = b"SET_VERSIONSTAMPED_KEY";
@@ -221,6 +205,5 @@ const STAMPED: &[u8] =
 
 #[test]
 fn a_commit_fills_its_versionstamp_in(rt: HostRuntime) -> Result<(), Fail> {
-    assert_eq!(rt; outcome_over(rt.alloc(), K, STAMPS, STAMPED)?, (None, true));
-    Ok(())
+    expect_left_over(rt.alloc(), K, STAMPS, STAMPED)
 }

@@ -95,14 +95,19 @@ trait Called {
 
 // Whether a request is answered so.
 fn is_so_of(core: &mut Core, request: &Request, wanted: Answered) -> bool {
-    is_so(&apply(core, request), wanted)
+    let reply = apply(core, request);
+    let is_so = is_so(&reply, wanted);
+    drop(reply);
+    is_so
 }
 
 impl Called for Core {
     fn is_called(&mut self, alloc: Global, call: Call) -> Result<bool, Fail> {
         let (name, kind, path, wanted, last) = call;
         let request = request_on(alloc, name, kind, &[path])?;
-        Ok(is_so_of(self, &request, wanted) && self.last() == last)
+        let is_so = is_so_of(self, &request, wanted);
+        drop(request);
+        Ok(is_so && self.last() == last)
     }
 }
 

@@ -48,8 +48,7 @@ const LONG: &[Row] = &[
 
 #[test]
 fn keys_and_values_have_limits(rt: HostRuntime) -> Result<(), Fail> {
-    assert_eq!(rt; first_wrong_of_new(rt.alloc(), LONG)?, None);
-    Ok(())
+    expect_answers(rt.alloc(), LONG)
 }
 
 const ENDS: &[Row] = &[
@@ -124,8 +123,7 @@ const ENDS: &[Row] = &[
 
 #[test]
 fn keys_have_an_end_and_atomic_operations_a_name(rt: HostRuntime) -> Result<(), Fail> {
-    assert_eq!(rt; first_wrong_of_new(rt.alloc(), ENDS)?, None);
-    Ok(())
+    expect_answers(rt.alloc(), ENDS)
 }
 
 const FULL_SET: Row = (Ask::On(P, Say::LongSet(0, 100_000)), Told::Done, 1);
@@ -162,6 +160,11 @@ fn first_wrong_after(
     first_wrong_behind(alloc, new_core(alloc)?, sets, rows)
 }
 
+// Fails where a new core answers a request otherwise after so many sets of 100000 bytes.
+fn expect_answers_after(alloc: Global, sets: usize, rows: &[Row]) -> Result<(), Fail> {
+    none_wrong(first_wrong_after(alloc, sets, rows)?)
+}
+
 // Behind 100 sets.
 const JUST_FITS: &[Row] = &[
     (Ask::On(P, Say::LongSet(0, 0)), Told::Done, 1),
@@ -177,9 +180,8 @@ const IS_TOO_LARGE: &[Row] = &[
 
 #[test]
 fn a_transaction_of_more_than_10_000_000_bytes_is_too_large(rt: HostRuntime) -> Result<(), Fail> {
-    assert_eq!(rt; first_wrong_after(rt.alloc(), 100, JUST_FITS)?, None);
-    assert_eq!(rt; first_wrong_after(rt.alloc(), 100, IS_TOO_LARGE)?, None);
-    Ok(())
+    expect_answers_after(rt.alloc(), 100, JUST_FITS)?;
+    expect_answers_after(rt.alloc(), 100, IS_TOO_LARGE)
 }
 
 // Behind 99 sets: a clear of 20001 bytes and a clear of a range of 79999.
@@ -207,12 +209,8 @@ const CLEARS_ARE_TOO_LARGE: &[Row] = &[
 
 #[test]
 fn a_range_counts_its_ends_and_a_clear_its_key_twice(rt: HostRuntime) -> Result<(), Fail> {
-    assert_eq!(rt; first_wrong_after(rt.alloc(), 99, CLEARS_FIT)?, None);
-    assert_eq!(rt;
-        first_wrong_after(rt.alloc(), 99, CLEARS_ARE_TOO_LARGE)?,
-        None
-    );
-    Ok(())
+    expect_answers_after(rt.alloc(), 99, CLEARS_FIT)?;
+    expect_answers_after(rt.alloc(), 99, CLEARS_ARE_TOO_LARGE)
 }
 
 // Behind 99 sets: a range of 50000 bytes to rest on, and an empty one of as many to declare.
@@ -249,12 +247,8 @@ const CONFLICTS_ARE_TOO_LARGE: &[Row] = &[
 
 #[test]
 fn a_conflict_range_counts_its_ends(rt: HostRuntime) -> Result<(), Fail> {
-    assert_eq!(rt; first_wrong_after(rt.alloc(), 99, CONFLICTS_FIT)?, None);
-    assert_eq!(rt;
-        first_wrong_after(rt.alloc(), 99, CONFLICTS_ARE_TOO_LARGE)?,
-        None
-    );
-    Ok(())
+    expect_answers_after(rt.alloc(), 99, CONFLICTS_FIT)?;
+    expect_answers_after(rt.alloc(), 99, CONFLICTS_ARE_TOO_LARGE)
 }
 
 // Behind 99 sets: an operation of 16 bytes with the four of its place, and a set of 99984 bytes.
@@ -284,12 +278,8 @@ const STAMP_VALUE: &[u8] = b"SET_VERSIONSTAMPED_VALUE";
 
 #[test]
 fn stamped_bytes_count_with_their_place(rt: HostRuntime) -> Result<(), Fail> {
-    assert_eq!(rt; first_wrong_after(rt.alloc(), 99, STAMPS_FIT)?, None);
-    assert_eq!(rt;
-        first_wrong_after(rt.alloc(), 99, STAMPS_ARE_TOO_LARGE)?,
-        None
-    );
-    Ok(())
+    expect_answers_after(rt.alloc(), 99, STAMPS_FIT)?;
+    expect_answers_after(rt.alloc(), 99, STAMPS_ARE_TOO_LARGE)
 }
 
 // Logs of 10000000 bytes, and of 10000100.
@@ -301,8 +291,7 @@ const FULL_LOGS: &[Row] = &[
 
 #[test]
 fn a_log_of_more_than_10_000_000_bytes_is_too_large(rt: HostRuntime) -> Result<(), Fail> {
-    assert_eq!(rt; first_wrong_of_new(rt.alloc(), FULL_LOGS)?, None);
-    Ok(())
+    expect_answers(rt.alloc(), FULL_LOGS)
 }
 
 // A value of 99999 bytes takes one byte more, and no two.
@@ -336,6 +325,5 @@ const COMPARE: &[u8] = b"COMPARE_AND_CLEAR";
 
 #[test]
 fn a_value_is_appended_to_where_the_two_fit(rt: HostRuntime) -> Result<(), Fail> {
-    assert_eq!(rt; first_wrong_of_new(rt.alloc(), APPENDS)?, None);
-    Ok(())
+    expect_answers(rt.alloc(), APPENDS)
 }

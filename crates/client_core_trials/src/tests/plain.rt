@@ -1,6 +1,7 @@
 //! The step of each request, written plainly: each version is a whole map, and each commit is judged by all that came after
 //! its read version.
 
+use super::made;
 use super::plain_fates::{Fate, Fates};
 use super::plain_keys::{Span, alphabet, has_any};
 use super::plain_lives::{Life, Stage};
@@ -13,6 +14,7 @@ use fdb_calls::{Reply, Request, TxnCall};
 use key_bytes::{Bytes, Key, Pair, Pairs};
 use key_map::KeyMap;
 use std::alloc::{AllocError, Global};
+use std::mem;
 
 /// The map at each version and the keys that its commit declared, and the transactions by name.
 #[derive(Drop)]
@@ -36,6 +38,29 @@ fn fault(code: u16) -> Reply {
 
 fn is_fault(reply: &Reply) -> bool {
     matches!(reply, Reply::Fault(_))
+}
+
+// The fault of a commit, else the reply.
+fn fault_or(reply: Reply, committed: Reply) -> Reply {
+    if is_fault(&committed) {
+        drop(reply);
+        committed
+    } else {
+        drop(committed);
+        reply
+    }
+}
+
+// A reply where it was read, else the fault of an unreadable key.
+fn read_or_hidden(reply: Reply, is_read: Result<bool, AllocError>) -> Result<Reply, AllocError> {
+    match is_read {
+        Ok(true) => Ok(reply),
+        Ok(false) => {
+            drop(reply);
+            Ok(fault(1036))
+        }
+        Err(error) => made(reply, Err(error)),
+    }
 }
 
 fn range_code(begin: &Key, end: &Key, limit: u32, mode: Mode) -> Option<u16> {
@@ -156,7 +181,8 @@ impl Plain {
     // A new life in place of this one, which ends.
     fn begin_anew(&mut self, life: &mut Life) -> Result<(), AllocError> {
         self.fates.decide(life.number, Fate::Unstamped(1025));
-        *life = self.begin()?;
+        let next = self.begin()?;
+        drop(mem::replace(life, next));
         Ok(())
     }
 
@@ -181,36 +207,68 @@ impl Plain {
         }
     }
 
+    // Keeps a life under a name.
+    fn keep(&mut self, name: &Bytes, life: Life) -> Result<(), AllocError> {
+        match name.copy() {
+            Ok(name) => {
+                drop(self.lives.insert(name, life)?);
+                Ok(())
+            }
+            Err(error) => {
+                drop(life);
+                Err(error)
+            }
+        }
+    }
+
     // A new life under a name, which ends the one that is there.
     fn make_new(&mut self, name: &Bytes) -> Result<Reply, AllocError> {
         if let Some(life) = self.lives.remove(name) {
             self.fates.decide(life.number, Fate::Unstamped(1025));
+            drop(life);
         }
         let life = self.begin()?;
-        self.lives.insert(name.copy()?, life)?;
+        self.keep(name, life)?;
         Ok(Reply::Done)
     }
 
     // A call on the life of a name.
     fn take_on(&mut self, name: &Bytes, call: &TxnCall) -> Result<Reply, AllocError> {
         let mut life = self.life_of(name)?;
-        let reply = self.call(&mut life, call)?;
-        self.lives.insert(name.copy()?, life)?;
-        Ok(reply)
+        let reply = self.call(&mut life, call);
+        let kept = self.keep(name, life);
+        made(reply?, kept)
+    }
+
+    fn call_and_commit(&mut self, life: &mut Life, call: &TxnCall) -> Result<Reply, AllocError> {
+        let reply = self.call(life, call)?;
+        self.and_commit(life, reply)
     }
 
     // A call that is committed.
     fn take_apart(&mut self, call: &TxnCall) -> Result<Reply, AllocError> {
         let mut life = self.begin_at_last()?;
-        let reply = self.call(&mut life, call)?;
-        self.and_commit(&mut life, reply)
+        let reply = self.call_and_commit(&mut life, call);
+        drop(life);
+        reply
+    }
+
+    fn log_and_commit(
+        &mut self,
+        life: &mut Life,
+        prefix: &Bytes,
+        entries: &Pairs,
+    ) -> Result<Reply, AllocError> {
+        let reply = self.log(life, prefix, entries)?;
+        self.and_commit(life, reply)
     }
 
     // Entries that are committed.
     fn take_log(&mut self, prefix: &Bytes, entries: &Pairs) -> Result<Reply, AllocError> {
         let mut life = self.begin_at_last()?;
-        let reply = self.log(&mut life, prefix, entries)?;
-        self.and_commit(&mut life, reply)
+        let reply = self.log_and_commit(&mut life, prefix, entries);
+        drop(life);
+        reply
     }
 
     fn poll_empty(&self, prefix: &Bytes) -> Result<Reply, AllocError> {
@@ -248,7 +306,9 @@ impl Plain {
         entry: &Pair,
     ) -> Result<Reply, AllocError> {
         let call = logged(prefix, entry)?;
-        self.call(life, &call)
+        let reply = self.call(life, &call);
+        drop(call);
+        reply
     }
 
     // Writes entries, until one is refused.
@@ -263,6 +323,7 @@ impl Plain {
             if is_fault(&reply) {
                 return Ok(reply);
             }
+            drop(reply);
         }
         Ok(Reply::Done)
     }
@@ -272,11 +333,10 @@ impl Plain {
         if is_fault(&reply) {
             return Ok(reply);
         }
-        let committed = self.call(life, &TxnCall::Commit)?;
-        if is_fault(&committed) {
-            return Ok(committed);
+        match self.call(life, &TxnCall::Commit) {
+            Ok(committed) => Ok(fault_or(reply, committed)),
+            Err(error) => made(reply, Err(error)),
         }
-        Ok(reply)
     }
 
     fn call(&mut self, life: &mut Life, call: &TxnCall) -> Result<Reply, AllocError> {
@@ -402,10 +462,23 @@ impl Plain {
         match self.maps.get(version) {
             Some(map) => {
                 let pairs = life.sees(map)?;
-                self.read_pairs(life, call, &pairs)
+                let reply = self.read_pairs(life, call, &pairs);
+                drop(pairs);
+                reply
             }
             None => Ok(fault(1009)),
         }
+    }
+
+    // Rests on what a read rests on, where it reads no key that is unreadable. Whether that is so.
+    fn rest(&self, life: &mut Life, call: &TxnCall, spans: &[Span]) -> Result<bool, AllocError> {
+        if life.is_hidden(self.keys.as_slice(), spans) {
+            return Ok(false);
+        }
+        if !is_by_snapshot(call) {
+            life.rest_on(self.keys.as_slice(), spans)?;
+        }
+        Ok(true)
     }
 
     // A read of pairs that a life sees.
@@ -416,13 +489,13 @@ impl Plain {
         pairs: &Pairs,
     ) -> Result<Reply, AllocError> {
         let reply = answer(self.alloc, pairs, call)?;
-        let spans = interval(self.alloc, pairs, call, &reply)?;
-        if life.is_hidden(self.keys.as_slice(), spans.as_slice()) {
-            return Ok(fault(1036));
+        match interval(self.alloc, pairs, call, &reply) {
+            Ok(spans) => {
+                let is_read = self.rest(life, call, spans.as_slice());
+                drop(spans);
+                read_or_hidden(reply, is_read)
+            }
+            Err(error) => made(reply, Err(error)),
         }
-        if !is_by_snapshot(call) {
-            life.rest_on(self.keys.as_slice(), spans.as_slice())?;
-        }
-        Ok(reply)
     }
 }

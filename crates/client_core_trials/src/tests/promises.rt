@@ -41,8 +41,7 @@ const DECIDED: &[Row] = &[
 
 #[test]
 fn a_life_is_decided_once(rt: HostRuntime) -> Result<(), Fail> {
-    assert_eq!(rt; first_wrong_of_new(rt.alloc(), DECIDED)?, None);
-    Ok(())
+    expect_answers(rt.alloc(), DECIDED)
 }
 
 // A commit that conflicts, one on the database, and a refused commit of too high a version.
@@ -63,6 +62,5 @@ const REFUSED: &[Row] = &[
 
 #[test]
 fn a_refused_life_has_the_code_of_its_commit(rt: HostRuntime) -> Result<(), Fail> {
-    assert_eq!(rt; first_wrong_of_new(rt.alloc(), REFUSED)?, None);
-    Ok(())
+    expect_answers(rt.alloc(), REFUSED)
 }

@@ -80,72 +80,82 @@ fn between(alloc: Global, begin: &[u8], end: &[u8], snapshot: bool) -> Result<Tx
     })
 }
 
-fn get_of(key: Bytes, snapshot: bool) -> TxnCall {
-    TxnCall::Get { key, snapshot }
+fn get_of(alloc: Global, key: &[u8], snapshot: bool) -> Result<TxnCall, AllocError> {
+    let key = Bytes::from_slice(alloc, key)?;
+    Ok(TxnCall::Get { key, snapshot })
 }
 
-fn get_key_of(selector: Selector, snapshot: bool) -> TxnCall {
-    TxnCall::GetKey { selector, snapshot }
+fn get_key_of(
+    selector: Result<Selector, AllocError>,
+    snapshot: bool,
+) -> Result<TxnCall, AllocError> {
+    let selector = selector?;
+    Ok(TxnCall::GetKey { selector, snapshot })
 }
 
 fn get_key_range_of(
-    range: KeyRange,
+    range: Result<KeyRange, AllocError>,
     limit: u32,
     reverse: bool,
     mode: Mode,
     snapshot: bool,
-) -> TxnCall {
-    TxnCall::GetKeyRange {
+) -> Result<TxnCall, AllocError> {
+    let range = range?;
+    Ok(TxnCall::GetKeyRange {
         range,
         limit,
         reverse,
         mode,
         snapshot,
-    }
+    })
 }
 
 // A read, which is by snapshot where that is said, or another call.
 pub fn call_of(alloc: Global, say: Say, snapshot: bool) -> Result<TxnCall, AllocError> {
     match say {
-        Say::Get(key) => Ok(get_of(Bytes::from_slice(alloc, key)?, snapshot)),
+        Say::Get(key) => get_of(alloc, key, snapshot),
         Say::GetKey(key, or_equal, offset) => {
-            Ok(get_key_of(selector_of(alloc, key, or_equal, offset)?, snapshot))
+            get_key_of(selector_of(alloc, key, or_equal, offset), snapshot)
         }
         Say::Range(begin, end, limit, reverse, mode) => {
-            let range = range_of(alloc, begin, end)?;
-            Ok(get_key_range_of(range, limit, reverse, mode, snapshot))
+            let range = range_of(alloc, begin, end);
+            get_key_range_of(range, limit, reverse, mode, snapshot)
         }
         Say::Between(begin, end) => between(alloc, begin, end, snapshot),
         _ => write_of(alloc, say),
     }
 }
 
-fn clear_of(key: Bytes) -> TxnCall {
-    TxnCall::Clear { key }
+fn clear_of(alloc: Global, key: &[u8]) -> Result<TxnCall, AllocError> {
+    let key = Bytes::from_slice(alloc, key)?;
+    Ok(TxnCall::Clear { key })
 }
 
-fn clear_range_of(range: KeyRange) -> TxnCall {
-    TxnCall::ClearRange { range }
+fn clear_range_of(range: Result<KeyRange, AllocError>) -> Result<TxnCall, AllocError> {
+    let range = range?;
+    Ok(TxnCall::ClearRange { range })
 }
 
-fn read_conflict_of(range: KeyRange) -> TxnCall {
-    TxnCall::ReadConflict { range }
+fn read_conflict_of(range: Result<KeyRange, AllocError>) -> Result<TxnCall, AllocError> {
+    let range = range?;
+    Ok(TxnCall::ReadConflict { range })
 }
 
-fn write_conflict_of(range: KeyRange) -> TxnCall {
-    TxnCall::WriteConflict { range }
+fn write_conflict_of(range: Result<KeyRange, AllocError>) -> Result<TxnCall, AllocError> {
+    let range = range?;
+    Ok(TxnCall::WriteConflict { range })
 }
 
 fn write_of(alloc: Global, say: Say) -> Result<TxnCall, AllocError> {
     match say {
         Say::Set(key, value) => set_of(alloc, key, value),
-        Say::Clear(key) => Ok(clear_of(Bytes::from_slice(alloc, key)?)),
-        Say::ClearRange(begin, end) => Ok(clear_range_of(range_of(alloc, begin, end)?)),
+        Say::Clear(key) => clear_of(alloc, key),
+        Say::ClearRange(begin, end) => clear_range_of(range_of(alloc, begin, end)),
         Say::Append(key, operand) => atomic_of(alloc, b"APPEND_IF_FITS", key, operand),
         Say::StampKey(key, value) => atomic_of(alloc, b"SET_VERSIONSTAMPED_KEY", key, value),
         Say::StampValue(key, value) => atomic_of(alloc, b"SET_VERSIONSTAMPED_VALUE", key, value),
-        Say::ReadConflict(begin, end) => Ok(read_conflict_of(range_of(alloc, begin, end)?)),
-        Say::WriteConflict(begin, end) => Ok(write_conflict_of(range_of(alloc, begin, end)?)),
+        Say::ReadConflict(begin, end) => read_conflict_of(range_of(alloc, begin, end)),
+        Say::WriteConflict(begin, end) => write_conflict_of(range_of(alloc, begin, end)),
         _ => Ok(short_of(say)),
     }
 }

@@ -96,12 +96,16 @@ fn is_plainly_so<A: AskedByName>(asked: &mut A, named: Named) -> bool {
 impl AskedByName for Session {
     fn is_written(&mut self) -> Result<bool, AllocError> {
         let range = range_of(self.alloc, b"l", b"n")?;
-        Ok(write(&mut self.on(), &range).is_ok())
+        let is_written = write(&mut self.on(), &range).is_ok();
+        drop(range);
+        Ok(is_written)
     }
 
     fn is_told_to_declare(&mut self) -> Result<bool, AllocError> {
         let range = range_of(self.alloc, b"m", b"p")?;
-        Ok(declare_range(&mut self.on(), &range).is_ok())
+        let is_told = declare_range(&mut self.on(), &range).is_ok();
+        drop(range);
+        Ok(is_told)
     }
 
     fn is_declaring_key(&mut self, key: &[u8], wanted: Result<(), TrFault>) -> bool {
@@ -112,7 +116,8 @@ impl AskedByName for Session {
         let alloc = self.alloc;
         let range = range_of(alloc, b"m", b"p")?;
         let text = rests_when_told(&mut self.on(), alloc, &range);
-        Ok(is_text(&text, wanted))
+        drop(range);
+        Ok(is_text(text, wanted))
     }
 
     fn is_set(&mut self, key: &[u8], value: &[u8], wanted: Result<(), TrFault>) -> bool {
@@ -124,12 +129,17 @@ impl AskedByName for Session {
     }
 
     fn is_read_as(&mut self, key: &[u8], wanted: Option<&[u8]>) -> bool {
-        is_value(&self.on().get(key, false), wanted)
+        let read = self.on().get(key, false);
+        let is_read = is_value(&read, wanted);
+        drop(read);
+        is_read
     }
 
     fn is_counted(&mut self, snapshot: bool, wanted: [usize; 4]) -> Result<bool, AllocError> {
         let places = places_read(self.alloc)?;
-        Ok(counts_by(&mut self.on(), &places, snapshot) == Ok(wanted))
+        let is_counted = counts_by(&mut self.on(), &places, snapshot) == Ok(wanted);
+        drop(places);
+        Ok(is_counted)
     }
 
     fn is_logged(
@@ -143,7 +153,8 @@ impl AskedByName for Session {
     }
 
     fn is_indexed(&mut self) -> Result<bool, AllocError> {
-        self.index = written_index(self.alloc)?;
+        let index = written_index(self.alloc)?;
+        drop(mem::replace(&mut self.index, index));
         Ok(true)
     }
 
@@ -153,7 +164,9 @@ impl AskedByName for Session {
 
     fn is_changing(&mut self, wanted: usize) -> Result<bool, AllocError> {
         let changes = self.on().changes(STAMP)?;
-        Ok(changes.len() == wanted)
+        let count = changes.len();
+        drop(changes);
+        Ok(count == wanted)
     }
 
     fn is_living_so(&mut self, living: Living) -> bool {
@@ -185,8 +198,7 @@ const LAYER: &[Row] = &[
 
 #[test]
 fn a_layer_works_over_a_transaction_on_a_store(rt: HostRuntime) -> Result<(), Fail> {
-    assert_eq!(rt; first_wrong(rt.alloc(), LAYER)?, None);
-    Ok(())
+    hold(rt.alloc(), LAYER)
 }
 
 // A set that declares nothing, a set, and a key that is declared, over any transaction.
@@ -209,8 +221,7 @@ const DECLARED: &[Row] = &[
 
 #[test]
 fn a_transaction_declares_what_it_wrote_and_was_told(rt: HostRuntime) -> Result<(), Fail> {
-    assert_eq!(rt; first_wrong(rt.alloc(), DECLARED)?, None);
-    Ok(())
+    hold(rt.alloc(), DECLARED)
 }
 
 // The keys that a transaction rests on which was told to.
@@ -223,19 +234,20 @@ fn rests_when_told(
     Ok(spelled(alloc, on.read_ranges())?)
 }
 
-fn is_text(text: &Result<Vec<u8>, TrFault>, wanted: &[u8]) -> bool {
-    match text {
+fn is_text(text: Result<Vec<u8>, TrFault>, wanted: &[u8]) -> bool {
+    let is_text = match &text {
         Ok(text) => text.as_slice() == wanted,
         Err(_) => false,
-    }
+    };
+    drop(text);
+    is_text
 }
 
 const TOLD_TO_REST: &[Row] = &[Row::Named(Named::Rests(b"m-p;"))];
 
 #[test]
 fn a_transaction_rests_on_what_it_was_told(rt: HostRuntime) -> Result<(), Fail> {
-    assert_eq!(rt; first_wrong(rt.alloc(), TOLD_TO_REST)?, None);
-    Ok(())
+    hold(rt.alloc(), TOLD_TO_REST)
 }
 
 const REFUSED: Result<Verdict, TrFault> = Err(TrFault::Code(Code(1020)));
@@ -251,17 +263,35 @@ const JUDGED: &[Row] = &[
 
 #[test]
 fn a_commit_is_judged_by_its_parts(rt: HostRuntime) -> Result<(), Fail> {
-    assert_eq!(rt; first_wrong(rt.alloc(), JUDGED)?, None);
-    Ok(())
+    hold(rt.alloc(), JUDGED)
 }
 
-// The index of a commit that made version 1 and declared the keys from `a` to `c`.
-fn written_index(alloc: Global) -> Result<WriteIndex, AllocError> {
+// Adds the keys from `a` to `c`.
+fn add_written(alloc: Global, ranges: &mut RangeSet) -> Result<(), AllocError> {
+    let range = range_of(alloc, b"a", b"c")?;
+    let done = ranges.add(&range);
+    drop(range);
+    done
+}
+
+fn written_ranges(alloc: Global) -> Result<RangeSet, AllocError> {
     let mut ranges = RangeSet::new(alloc);
-    ranges.add(&range_of(alloc, b"a", b"c")?)?;
+    let done = add_written(alloc, &mut ranges);
+    made(ranges, done)
+}
+
+// The index of a commit that made version 1 and declared these keys.
+fn written_index(alloc: Global) -> Result<WriteIndex, AllocError> {
+    let ranges = written_ranges(alloc)?;
     let mut index = WriteIndex::new(alloc);
-    index.reserve(&ranges, 1)?;
-    index.install(ranges, 1);
+    match index.reserve(&ranges, 1) {
+        Ok(()) => index.install(ranges, 1),
+        Err(error) => {
+            drop(ranges);
+            drop(index);
+            return Err(error);
+        }
+    }
     Ok(index)
 }
 
@@ -282,9 +312,7 @@ const BESIDE: &[Row] = &[
 
 #[test]
 fn a_commit_is_judged_by_the_index(rt: HostRuntime) -> Result<(), Fail> {
-    assert_eq!(rt; first_wrong(rt.alloc(), INSIDE)?, None);
-    assert_eq!(rt; first_wrong(rt.alloc(), BESIDE)?, None);
-    Ok(())
+    hold_apart(rt.alloc(), INSIDE, BESIDE)
 }
 
 fn pair_of(alloc: Global, key: &[u8], value: &[u8]) -> Result<Pair, AllocError> {
@@ -293,14 +321,20 @@ fn pair_of(alloc: Global, key: &[u8], value: &[u8]) -> Result<Pair, AllocError> 
     Ok(Pair { key, value })
 }
 
-// The entries of a log: one that can be written, and where asked one that is too long.
-fn entries_of(alloc: Global, too_long: bool) -> Result<Pairs, AllocError> {
-    let mut entries = Pairs::new(alloc);
+// Adds an entry that can be written, and where asked one that is too long.
+fn add_entries(alloc: Global, entries: &mut Pairs, too_long: bool) -> Result<(), AllocError> {
     entries.push(pair_of(alloc, b"1", b"x")?)?;
     if too_long {
         entries.push(pair_of(alloc, &[b'2'; 10_000], b"y")?)?;
     }
-    Ok(entries)
+    Ok(())
+}
+
+// The entries of a log.
+fn entries_of(alloc: Global, too_long: bool) -> Result<Pairs, AllocError> {
+    let mut entries = Pairs::new(alloc);
+    let done = add_entries(alloc, &mut entries, too_long);
+    made(entries, done)
 }
 
 const LOGGED: &[Row] = &[
@@ -315,9 +349,7 @@ const LOGGED_IN_PART: &[Row] = &[
 
 #[test]
 fn entries_are_logged_until_one_is_refused(rt: HostRuntime) -> Result<(), Fail> {
-    assert_eq!(rt; first_wrong(rt.alloc(), LOGGED)?, None);
-    assert_eq!(rt; first_wrong(rt.alloc(), LOGGED_IN_PART)?, None);
-    Ok(())
+    hold_apart(rt.alloc(), LOGGED, LOGGED_IN_PART)
 }
 
 // What is read: a range, and the places of the first key and of `l`.
@@ -335,14 +367,29 @@ fn places_read(alloc: Global) -> Result<Places, AllocError> {
     Ok(Places { range, first, end })
 }
 
+// How many bytes the key of a place has.
+fn key_len(on: &mut TxnOn<'_>, place: &Selector, snapshot: bool) -> Result<usize, TrFault> {
+    let key = on.get_key(place, snapshot)?;
+    let len = key.len();
+    drop(key);
+    Ok(len)
+}
+
+fn count(pairs: Result<Pairs, TrFault>) -> Result<usize, TrFault> {
+    let pairs = pairs?;
+    let count = pairs.len();
+    drop(pairs);
+    Ok(count)
+}
+
 // How many bytes the first key has, and how many pairs the calls for more than one read.
 fn counts_by(on: &mut TxnOn<'_>, places: &Places, snapshot: bool) -> Result<[usize; 4], TrFault> {
     let (first, end, range) = (&places.first, &places.end, &places.range);
-    let key = on.get_key(first, snapshot)?;
-    let selected = on.get_range(first, end, 0, true, Mode::Serial, snapshot)?;
-    let ranged = on.get_key_range(range, 1, false, Mode::Exact, snapshot)?;
-    let all = on.range(range, 0, true, snapshot)?;
-    Ok([key.len(), selected.len(), ranged.len(), all.len()])
+    let len = key_len(on, first, snapshot)?;
+    let selected = count(on.get_range(first, end, 0, true, Mode::Serial, snapshot))?;
+    let ranged = count(on.get_key_range(range, 1, false, Mode::Exact, snapshot))?;
+    let all = count(on.range(range, 0, true, snapshot))?;
+    Ok([len, selected, ranged, all])
 }
 
 const COUNTED: &[Row] = &[
@@ -361,7 +408,5 @@ const COUNTED_BY_SNAPSHOT: &[Row] = &[
 
 #[test]
 fn a_transaction_on_a_store_reads_keys_and_ranges(rt: HostRuntime) -> Result<(), Fail> {
-    assert_eq!(rt; first_wrong(rt.alloc(), COUNTED)?, None);
-    assert_eq!(rt; first_wrong(rt.alloc(), COUNTED_BY_SNAPSHOT)?, None);
-    Ok(())
+    hold_apart(rt.alloc(), COUNTED, COUNTED_BY_SNAPSHOT)
 }

@@ -16,8 +16,7 @@ const COMMITTED: &[Row] = &[
 
 #[test]
 fn a_commit_makes_a_version(rt: HostRuntime) -> Result<(), Fail> {
-    assert_eq!(rt; first_wrong(rt.alloc(), COMMITTED)?, None);
-    Ok(())
+    hold(rt.alloc(), COMMITTED)
 }
 
 const OWN_WRITES: &[Row] = &[
@@ -34,8 +33,7 @@ const OWN_WRITES: &[Row] = &[
 
 #[test]
 fn a_transaction_reads_its_own_writes(rt: HostRuntime) -> Result<(), Fail> {
-    assert_eq!(rt; first_wrong(rt.alloc(), OWN_WRITES)?, None);
-    Ok(())
+    hold(rt.alloc(), OWN_WRITES)
 }
 
 const CLEARED: &[Row] = &[
@@ -57,8 +55,7 @@ const CLEARED: &[Row] = &[
 
 #[test]
 fn a_range_is_cleared_without_its_end(rt: HostRuntime) -> Result<(), Fail> {
-    assert_eq!(rt; first_wrong(rt.alloc(), CLEARED)?, None);
-    Ok(())
+    hold(rt.alloc(), CLEARED)
 }
 
 const CLEARED_KEYS: &[Row] = &[
@@ -89,8 +86,7 @@ const CLEARED_KEYS: &[Row] = &[
 
 #[test]
 fn a_commit_removes_cleared_keys_and_does_atomic_operations(rt: HostRuntime) -> Result<(), Fail> {
-    assert_eq!(rt; first_wrong(rt.alloc(), CLEARED_KEYS)?, None);
-    Ok(())
+    hold(rt.alloc(), CLEARED_KEYS)
 }
 
 const PENDING_RANGE: &[Row] = &[
@@ -121,8 +117,7 @@ const PENDING_RANGE: &[Row] = &[
 
 #[test]
 fn ranges_are_read_under_the_pending_writes(rt: HostRuntime) -> Result<(), Fail> {
-    assert_eq!(rt; first_wrong(rt.alloc(), PENDING_RANGE)?, None);
-    Ok(())
+    hold(rt.alloc(), PENDING_RANGE)
 }
 
 const SELECTORS: &[Row] = &[
@@ -142,8 +137,7 @@ const SELECTORS: &[Row] = &[
 
 #[test]
 fn selectors_mean_keys_among_the_pending_writes(rt: HostRuntime) -> Result<(), Fail> {
-    assert_eq!(rt; first_wrong(rt.alloc(), SELECTORS)?, None);
-    Ok(())
+    hold(rt.alloc(), SELECTORS)
 }
 
 const REFUSED: &[Row] = &[
@@ -156,8 +150,7 @@ const REFUSED: &[Row] = &[
 
 #[test]
 fn writes_are_refused_by_their_first_failing_check(rt: HostRuntime) -> Result<(), Fail> {
-    assert_eq!(rt; first_wrong(rt.alloc(), REFUSED)?, None);
-    Ok(())
+    hold(rt.alloc(), REFUSED)
 }
 
 const RETRIED: &[Row] = &[
@@ -175,8 +168,7 @@ const RETRIED: &[Row] = &[
 
 #[test]
 fn an_error_that_may_be_retried_begins_a_new_life(rt: HostRuntime) -> Result<(), Fail> {
-    assert_eq!(rt; first_wrong(rt.alloc(), RETRIED)?, None);
-    Ok(())
+    hold(rt.alloc(), RETRIED)
 }
 
 const CANCELLED: &[Row] = &[
@@ -188,6 +180,5 @@ const CANCELLED: &[Row] = &[
 
 #[test]
 fn a_cancelled_transaction_takes_no_call_but_a_reset(rt: HostRuntime) -> Result<(), Fail> {
-    assert_eq!(rt; first_wrong(rt.alloc(), CANCELLED)?, None);
-    Ok(())
+    hold(rt.alloc(), CANCELLED)
 }

@@ -20,8 +20,7 @@ const CONFLICT: &[Row] = &[
 
 #[test]
 fn a_commit_that_rests_on_a_key_declared_since_is_refused(rt: HostRuntime) -> Result<(), Fail> {
-    assert_eq!(rt; first_wrong(rt.alloc(), CONFLICT)?, None);
-    Ok(())
+    hold(rt.alloc(), CONFLICT)
 }
 
 // The other's first commit is at this one's read version, and its second declares a key next to those read.
@@ -41,8 +40,7 @@ const NO_CONFLICT: &[Row] = &[
 
 #[test]
 fn a_commit_that_rests_on_other_keys_is_not_refused(rt: HostRuntime) -> Result<(), Fail> {
-    assert_eq!(rt; first_wrong(rt.alloc(), NO_CONFLICT)?, None);
-    Ok(())
+    hold(rt.alloc(), NO_CONFLICT)
 }
 
 const SNAPSHOT: &[Row] = &[
@@ -61,8 +59,7 @@ const SNAPSHOT: &[Row] = &[
 
 #[test]
 fn no_commit_is_refused_for_a_read_by_snapshot(rt: HostRuntime) -> Result<(), Fail> {
-    assert_eq!(rt; first_wrong(rt.alloc(), SNAPSHOT)?, None);
-    Ok(())
+    hold(rt.alloc(), SNAPSHOT)
 }
 
 // One that only reads, one that only writes, and one that reads what it wrote.
@@ -84,8 +81,7 @@ const NEVER: &[Row] = &[
 
 #[test]
 fn a_commit_that_rests_on_nothing_is_not_refused(rt: HostRuntime) -> Result<(), Fail> {
-    assert_eq!(rt; first_wrong(rt.alloc(), NEVER)?, None);
-    Ok(())
+    hold(rt.alloc(), NEVER)
 }
 
 // A refused write leaves it so that the next one declares nothing.
@@ -118,8 +114,7 @@ const SILENT: &[Row] = &[
 
 #[test]
 fn the_next_write_declares_nothing_where_it_is_told(rt: HostRuntime) -> Result<(), Fail> {
-    assert_eq!(rt; first_wrong(rt.alloc(), SILENT)?, None);
-    Ok(())
+    hold(rt.alloc(), SILENT)
 }
 
 // The other one's set of `a` declares nothing, and that of `b` does.
@@ -139,8 +134,7 @@ const BESIDE_SILENT: &[Row] = &[
 
 #[test]
 fn no_commit_is_refused_for_a_write_that_declares_nothing(rt: HostRuntime) -> Result<(), Fail> {
-    assert_eq!(rt; first_wrong(rt.alloc(), BESIDE_SILENT)?, None);
-    Ok(())
+    hold(rt.alloc(), BESIDE_SILENT)
 }
 
 const DECLARED: &[Row] = &[
@@ -162,8 +156,7 @@ const DECLARED: &[Row] = &[
 
 #[test]
 fn a_transaction_may_declare_keys_that_it_does_not_write(rt: HostRuntime) -> Result<(), Fail> {
-    assert_eq!(rt; first_wrong(rt.alloc(), DECLARED)?, None);
-    Ok(())
+    hold(rt.alloc(), DECLARED)
 }
 
 // The keys are added also where the transaction decides them, and no version is taken.
@@ -190,8 +183,7 @@ const TOLD_TO_REST: &[Row] = &[
 
 #[test]
 fn a_transaction_may_rest_on_keys_that_it_does_not_read(rt: HostRuntime) -> Result<(), Fail> {
-    assert_eq!(rt; first_wrong(rt.alloc(), TOLD_TO_REST)?, None);
-    Ok(())
+    hold(rt.alloc(), TOLD_TO_REST)
 }
 
 // A version that was set before both commits.
@@ -214,6 +206,5 @@ const BELOW: &[Row] = &[
 
 #[test]
 fn a_commit_at_or_below_the_read_version_refuses_none(rt: HostRuntime) -> Result<(), Fail> {
-    assert_eq!(rt; first_wrong(rt.alloc(), BELOW)?, None);
-    Ok(())
+    hold(rt.alloc(), BELOW)
 }

@@ -67,7 +67,8 @@ pub fn is_so_of_life<A: AskedOfLife>(asked: &mut A, living: Living) -> bool {
 
 impl AskedOfLife for Session {
     fn begins(&mut self, life: u64) -> bool {
-        self.txn = Txn::new(self.alloc, life);
+        let next = Txn::new(self.alloc, life);
+        drop(mem::replace(&mut self.txn, next));
         true
     }
 
@@ -139,8 +140,7 @@ const TRIED: &[Row] = &[
 
 #[test]
 fn what_was_tried_takes_no_call(rt: HostRuntime) -> Result<(), Fail> {
-    assert_eq!(rt; first_wrong(rt.alloc(), TRIED)?, None);
-    Ok(())
+    hold(rt.alloc(), TRIED)
 }
 
 // The last is judged after a cancel.
@@ -155,6 +155,5 @@ const ENDED: &[Row] = &[
 
 #[test]
 fn a_life_ends_by_reset_cancel_and_errors(rt: HostRuntime) -> Result<(), Fail> {
-    assert_eq!(rt; first_wrong(rt.alloc(), ENDED)?, None);
-    Ok(())
+    hold(rt.alloc(), ENDED)
 }

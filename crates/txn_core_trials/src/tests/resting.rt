@@ -67,7 +67,10 @@ impl Session {
     // The keys that a new transaction rests on after a read, which is by snapshot where that is said.
     fn rests_after(&mut self, say: Say, snapshot: bool) -> Result<Vec<u8>, AllocError> {
         self.begin_anew();
-        self.answer(&call_of(self.alloc, say, snapshot)?)?;
+        let call = call_of(self.alloc, say, snapshot)?;
+        let answer = self.answer(&call);
+        drop(call);
+        drop(answer?);
         self.rests()
     }
 }
@@ -75,8 +78,8 @@ impl Session {
 impl Rested for Session {
     fn is_resting(&mut self, resting: Resting) -> Result<bool, AllocError> {
         let (say, wanted) = resting;
-        let is_bare = self.rests_after(say, true)?.is_empty();
-        Ok(is_bare && self.rests_after(say, false)?.as_slice() == wanted)
+        let is_bare = is_spelled(self.rests_after(say, true), b"")?;
+        Ok(is_bare && is_spelled(self.rests_after(say, false), wanted)?)
     }
 }
 
@@ -107,16 +110,19 @@ fn first_other(alloc: Global, readings: &[Resting]) -> Result<Option<usize>, All
     first_other_over(new_session(alloc), readings)
 }
 
+// Fails where a read over the stored pairs rests on other keys.
+fn rest_so(alloc: Global, readings: &[Resting]) -> Result<(), Fail> {
+    none_wrong(first_other(alloc, readings)?)
+}
+
 #[test]
 fn a_read_of_a_key_rests_on_what_lies_up_to_it(rt: HostRuntime) -> Result<(), Fail> {
-    assert_eq!(rt; first_other(rt.alloc(), KEYS)?, None);
-    Ok(())
+    rest_so(rt.alloc(), KEYS)
 }
 
 #[test]
 fn a_read_of_a_range_rests_on_what_it_went_over(rt: HostRuntime) -> Result<(), Fail> {
-    assert_eq!(rt; first_other(rt.alloc(), SPANS)?, None);
-    Ok(())
+    rest_so(rt.alloc(), SPANS)
 }
 
 // The place of the first row that does not hold behind others.
@@ -132,6 +138,11 @@ fn first_wrong_behind<A: Asked + AskedByName + Drop>(
 // The place of the first row that does not hold of a new transaction over the stored pairs.
 fn first_wrong_over(alloc: Global, rows: &[Row]) -> Result<Option<usize>, AllocError> {
     first_wrong_behind(new_session(alloc), STORED, rows)
+}
+
+// Fails where a row does not hold of a new transaction over the stored pairs.
+fn hold_over(alloc: Global, rows: &[Row]) -> Result<(), Fail> {
+    none_wrong(first_wrong_over(alloc, rows)?)
 }
 
 const DECIDED: &[Row] = &[
@@ -157,8 +168,7 @@ const DECIDED: &[Row] = &[
 
 #[test]
 fn a_read_does_not_rest_on_what_its_transaction_decides(rt: HostRuntime) -> Result<(), Fail> {
-    assert_eq!(rt; first_wrong_over(rt.alloc(), DECIDED)?, None);
-    Ok(())
+    hold_over(rt.alloc(), DECIDED)
 }
 
 const DECIDED_LATER: &[Row] = &[
@@ -173,8 +183,7 @@ const DECIDED_LATER: &[Row] = &[
 
 #[test]
 fn a_write_takes_back_nothing_that_was_read_before(rt: HostRuntime) -> Result<(), Fail> {
-    assert_eq!(rt; first_wrong_over(rt.alloc(), DECIDED_LATER)?, None);
-    Ok(())
+    hold_over(rt.alloc(), DECIDED_LATER)
 }
 
 const REFUSED_READS: &[Row] = &[
@@ -194,6 +203,5 @@ const REFUSED_READS: &[Row] = &[
 
 #[test]
 fn a_refused_read_adds_nothing(rt: HostRuntime) -> Result<(), Fail> {
-    assert_eq!(rt; first_wrong_over(rt.alloc(), REFUSED_READS)?, None);
-    Ok(())
+    hold_over(rt.alloc(), REFUSED_READS)
 }

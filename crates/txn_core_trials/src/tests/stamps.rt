@@ -28,8 +28,7 @@ const FILLED: &[Row] = &[
 
 #[test]
 fn a_commit_fills_in_its_versionstamp(rt: HostRuntime) -> Result<(), Fail> {
-    assert_eq!(rt; first_wrong(rt.alloc(), FILLED)?, None);
-    Ok(())
+    hold(rt.alloc(), FILLED)
 }
 
 const WITHOUT_ROOM: &[Row] = &[
@@ -76,8 +75,7 @@ const WITHOUT_ROOM: &[Row] = &[
 
 #[test]
 fn stamped_bytes_have_room_for_the_versionstamp(rt: HostRuntime) -> Result<(), Fail> {
-    assert_eq!(rt; first_wrong(rt.alloc(), WITHOUT_ROOM)?, None);
-    Ok(())
+    hold(rt.alloc(), WITHOUT_ROOM)
 }
 
 // Whatever is written to the key before and after.
@@ -110,8 +108,7 @@ const STAMPED_VALUE: &[Row] = &[
 
 #[test]
 fn the_key_of_a_stamped_value_is_unreadable(rt: HostRuntime) -> Result<(), Fail> {
-    assert_eq!(rt; first_wrong(rt.alloc(), STAMPED_VALUE)?, None);
-    Ok(())
+    hold(rt.alloc(), STAMPED_VALUE)
 }
 
 const FIRST: &[u8] = b"k\0\0\0\0\0\0\0\0\0\0";
@@ -153,8 +150,7 @@ const STAMPED_KEY: &[Row] = &[
 
 #[test]
 fn each_key_that_a_stamped_key_may_become_is_unreadable(rt: HostRuntime) -> Result<(), Fail> {
-    assert_eq!(rt; first_wrong(rt.alloc(), STAMPED_KEY)?, None);
-    Ok(())
+    hold(rt.alloc(), STAMPED_KEY)
 }
 
 // The other one rests on the key that is filled in, and then on its neighbour.
@@ -177,8 +173,7 @@ const DECLARED: &[Row] = &[
 
 #[test]
 fn a_stamped_key_is_declared_as_it_is_filled_in(rt: HostRuntime) -> Result<(), Fail> {
-    assert_eq!(rt; first_wrong(rt.alloc(), DECLARED)?, None);
-    Ok(())
+    hold(rt.alloc(), DECLARED)
 }
 
 // The next life is the ninth; the operations and the keys that are unreadable end with the life.
@@ -197,6 +192,5 @@ const LIVES: &[Row] = &[
 
 #[test]
 fn a_life_ends_with_its_stamped_operations(rt: HostRuntime) -> Result<(), Fail> {
-    assert_eq!(rt; first_wrong(rt.alloc(), LIVES)?, None);
-    Ok(())
+    hold(rt.alloc(), LIVES)
 }

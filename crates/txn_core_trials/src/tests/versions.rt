@@ -17,8 +17,7 @@ const ALREADY_SET: Result<(), TrFault> = Err(TrFault::Code(Code(2010)));
 
 #[test]
 fn a_version_is_set_once_and_above_0(rt: HostRuntime) -> Result<(), Fail> {
-    assert_eq!(rt; first_wrong(rt.alloc(), SET_BY_NAME)?, None);
-    Ok(())
+    hold(rt.alloc(), SET_BY_NAME)
 }
 
 // What is promised in a life, after a reset, after a cancel, and after a commit that was tried.
@@ -35,8 +34,7 @@ const PROMISED: &[Row] = &[
 
 #[test]
 fn a_life_promises_its_versionstamp(rt: HostRuntime) -> Result<(), Fail> {
-    assert_eq!(rt; first_wrong(rt.alloc(), PROMISED)?, None);
-    Ok(())
+    hold(rt.alloc(), PROMISED)
 }
 
 // The version that a commit made, before it and after it.
@@ -48,8 +46,7 @@ const COMMITTED: &[Row] = &[
 
 #[test]
 fn a_transaction_tells_the_version_that_was_made(rt: HostRuntime) -> Result<(), Fail> {
-    assert_eq!(rt; first_wrong(rt.alloc(), COMMITTED)?, None);
-    Ok(())
+    hold(rt.alloc(), COMMITTED)
 }
 
 const SET: &[Row] = &[
@@ -69,8 +66,7 @@ const SET: &[Row] = &[
 
 #[test]
 fn a_version_is_taken_or_set(rt: HostRuntime) -> Result<(), Fail> {
-    assert_eq!(rt; first_wrong(rt.alloc(), SET)?, None);
-    Ok(())
+    hold(rt.alloc(), SET)
 }
 
 const AHEAD: &[Row] = &[
@@ -93,8 +89,7 @@ const AHEAD: &[Row] = &[
 
 #[test]
 fn a_version_above_the_last_is_refused_when_it_is_used(rt: HostRuntime) -> Result<(), Fail> {
-    assert_eq!(rt; first_wrong(rt.alloc(), AHEAD)?, None);
-    Ok(())
+    hold(rt.alloc(), AHEAD)
 }
 
 const MADE: &[Row] = &[
@@ -124,8 +119,7 @@ const MADE: &[Row] = &[
 
 #[test]
 fn a_commit_tells_the_version_that_it_made(rt: HostRuntime) -> Result<(), Fail> {
-    assert_eq!(rt; first_wrong(rt.alloc(), MADE)?, None);
-    Ok(())
+    hold(rt.alloc(), MADE)
 }
 
 const ENDED: &[Row] = &[
@@ -150,8 +144,7 @@ const ENDED: &[Row] = &[
 
 #[test]
 fn a_life_that_ended_takes_no_call_for_versions_and_conflicts(rt: HostRuntime) -> Result<(), Fail> {
-    assert_eq!(rt; first_wrong(rt.alloc(), ENDED)?, None);
-    Ok(())
+    hold(rt.alloc(), ENDED)
 }
 
 // What became of a life before its end, and after a cancel.
@@ -166,8 +159,7 @@ const PHASES: &[Row] = &[
 
 #[test]
 fn an_outcome_follows_from_the_phase(rt: HostRuntime) -> Result<(), Fail> {
-    assert_eq!(rt; first_wrong(rt.alloc(), PHASES)?, None);
-    Ok(())
+    hold(rt.alloc(), PHASES)
 }
 
 const STAMP_OF_7: Outcome = Outcome::HasStamp([0, 0, 0, 0, 0, 0, 0, 7, 0, 0]);
@@ -182,6 +174,5 @@ const OUTCOMES: &[Row] = &[
 
 #[test]
 fn an_outcome_follows_from_what_a_commit_came_to(rt: HostRuntime) -> Result<(), Fail> {
-    assert_eq!(rt; first_wrong(rt.alloc(), OUTCOMES)?, None);
-    Ok(())
+    hold(rt.alloc(), OUTCOMES)
 }
