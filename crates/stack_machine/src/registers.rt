@@ -202,10 +202,7 @@ impl Registers {
         let request = request_of(&mut operands, self.alloc, operation, name, self.last_seen);
         let popped = operands.popped();
         match self.stack.settle(popped, request) {
-            Ok(request) => {
-                let asked = SharedRequest::new(self.alloc, request)?;
-                Ok(Act::Asks(asked, awaits_of(operation)))
-            }
+            Ok(asked) => Ok(Act::Asks(asked, awaits_of(operation))),
             Err(fault) => refused(self.alloc, number, fault),
         }
     }

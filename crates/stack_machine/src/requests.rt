@@ -1,11 +1,11 @@
 //! Requests on the current transaction by the operands of an instruction.
 
-ghost use Rattle.std.specs.Prelude.{◌≡◌};
+ghost use Rattle.std.specs.Prelude.{◌≡◌, IfOk, IfErr};
 ghost use Rattle.machine_rules.specs.Calls.{request_of, awaits_of, on_error_request, range_request, key_request};
 ghost use Rattle.stack_items.specs.Looks.{LooksUnlessFull};
 ghost use Rattle.stack_machine.specs.Ranges.{range_operand, one_key_operand};
 
-use fdb_calls::{Code, Request, TxnCall};
+use fdb_calls::{Code, Request, SharedRequest, TxnCall};
 use key_bytes::{Bytes, KeyRange};
 use machine_rules::{Awaits, TransactionOperation};
 use stack_items::{Operands, StackFault};
@@ -18,77 +18,99 @@ pub fn request_of(
     operation: TransactionOperation,
     name: Bytes,
     last_seen: i64,
-) -> Result<Request, StackFault>
+) -> Result<SharedRequest, StackFault>
     ensures { LooksUnlessFull (λ request. request) result (request_of operation name last_seen) operands.old operands.new }
 {
     match operation {
-        TransactionOperation::NewTransaction => Ok(Request::New { name }),
-        TransactionOperation::OnError => on_error_request(operands, name),
-        TransactionOperation::Reset => Ok(on(name, TxnCall::Reset)),
-        TransactionOperation::Cancel => Ok(on(name, TxnCall::Cancel)),
-        TransactionOperation::Commit => Ok(on(name, TxnCall::Commit)),
-        TransactionOperation::GetReadVersion => Ok(on(name, TxnCall::ReadVersion)),
+        TransactionOperation::NewTransaction => shared(alloc, Request::New { name }),
+        TransactionOperation::OnError => on_error_request(operands, alloc, name),
+        TransactionOperation::Reset => on(alloc, name, TxnCall::Reset),
+        TransactionOperation::Cancel => on(alloc, name, TxnCall::Cancel),
+        TransactionOperation::Commit => on(alloc, name, TxnCall::Commit),
+        TransactionOperation::GetReadVersion => on(alloc, name, TxnCall::ReadVersion),
         TransactionOperation::SetReadVersion => {
             let version = last_seen;
-            Ok(on(name, TxnCall::SetReadVersion { version }))
+            on(alloc, name, TxnCall::SetReadVersion { version })
         }
-        TransactionOperation::GetCommittedVersion => Ok(on(name, TxnCall::CommittedVersion)),
-        TransactionOperation::ReadConflictRange => read_range_request(operands, name),
-        TransactionOperation::WriteConflictRange => write_range_request(operands, name),
+        TransactionOperation::GetCommittedVersion => on(alloc, name, TxnCall::CommittedVersion),
+        TransactionOperation::ReadConflictRange => read_range_request(operands, alloc, name),
+        TransactionOperation::WriteConflictRange => write_range_request(operands, alloc, name),
         TransactionOperation::ReadConflictKey => read_key_request(operands, alloc, name),
         TransactionOperation::WriteConflictKey => write_key_request(operands, alloc, name),
-        TransactionOperation::DisableWriteConflict => Ok(on(name, TxnCall::NoWriteConflict)),
-        TransactionOperation::GetVersionstamp => Ok(on(name, TxnCall::Versionstamp)),
+        TransactionOperation::DisableWriteConflict => on(alloc, name, TxnCall::NoWriteConflict),
+        TransactionOperation::GetVersionstamp => on(alloc, name, TxnCall::Versionstamp),
     }
 }
 
-fn on(name: Bytes, call: TxnCall) -> Request
-    ensures { result ≡ Request.On name call }
+// A request in a block of its own.
+fn shared(alloc: Global, request: Request) -> Result<SharedRequest, StackFault>
+    ensures ok { IfOk result (λ shared. shared ≡ request) }
+    ensures err { IfErr result (λ fault. fault ≡ StackFault.NoMemory) }
 {
-    Request::On { name, call }
+    Ok(SharedRequest::new(alloc, request)?)
 }
 
-fn on_error_request(operands: &mut Operands<'_>, name: Bytes) -> Result<Request, StackFault>
+// The request of a call on the transaction of a name.
+fn on(alloc: Global, name: Bytes, call: TxnCall) -> Result<SharedRequest, StackFault>
+    ensures ok { IfOk result (λ shared. shared ≡ Request.On name call) }
+    ensures err { IfErr result (λ fault. fault ≡ StackFault.NoMemory) }
+{
+    shared(alloc, Request::On { name, call })
+}
+
+fn on_error_request(
+    operands: &mut Operands<'_>,
+    alloc: Global,
+    name: Bytes,
+) -> Result<SharedRequest, StackFault>
     ensures { LooksUnlessFull (λ request. request) result (on_error_request name) operands.old operands.new }
 {
     let code = Code(operands.code()?);
-    Ok(on(name, TxnCall::OnError { code }))
+    on(alloc, name, TxnCall::OnError { code })
 }
 
-fn read_range_request(operands: &mut Operands<'_>, name: Bytes) -> Result<Request, StackFault>
+fn read_range_request(
+    operands: &mut Operands<'_>,
+    alloc: Global,
+    name: Bytes,
+) -> Result<SharedRequest, StackFault>
     ensures { LooksUnlessFull (λ request. request) result (range_request name TxnCall.ReadConflict) operands.old operands.new }
 {
     let range = range_operand(operands)?;
-    Ok(on(name, TxnCall::ReadConflict { range }))
+    on(alloc, name, TxnCall::ReadConflict { range })
 }
 
-fn write_range_request(operands: &mut Operands<'_>, name: Bytes) -> Result<Request, StackFault>
+fn write_range_request(
+    operands: &mut Operands<'_>,
+    alloc: Global,
+    name: Bytes,
+) -> Result<SharedRequest, StackFault>
     ensures { LooksUnlessFull (λ request. request) result (range_request name TxnCall.WriteConflict) operands.old operands.new }
 {
     let range = range_operand(operands)?;
-    Ok(on(name, TxnCall::WriteConflict { range }))
+    on(alloc, name, TxnCall::WriteConflict { range })
 }
 
 fn read_key_request(
     operands: &mut Operands<'_>,
     alloc: Global,
     name: Bytes,
-) -> Result<Request, StackFault>
+) -> Result<SharedRequest, StackFault>
     ensures { LooksUnlessFull (λ request. request) result (key_request name TxnCall.ReadConflict) operands.old operands.new }
 {
     let range = one_key_operand(operands, alloc)?;
-    Ok(on(name, TxnCall::ReadConflict { range }))
+    on(alloc, name, TxnCall::ReadConflict { range })
 }
 
 fn write_key_request(
     operands: &mut Operands<'_>,
     alloc: Global,
     name: Bytes,
-) -> Result<Request, StackFault>
+) -> Result<SharedRequest, StackFault>
     ensures { LooksUnlessFull (λ request. request) result (key_request name TxnCall.WriteConflict) operands.old operands.new }
 {
     let range = one_key_operand(operands, alloc)?;
-    Ok(on(name, TxnCall::WriteConflict { range }))
+    on(alloc, name, TxnCall::WriteConflict { range })
 }
 
 /// The two ends of a range.

@@ -1,6 +1,6 @@
 //! Rendering the dump of a run.
 
-ghost use Rattle.std.specs.Prelude.{◌≡◌, ℕ, ◌++◌, length, IfOk, OnOk};
+ghost use Rattle.std.specs.Prelude.{◌≡◌, ℕ, ◌++◌, [], length, IfOk, OnOk};
 ghost use Rattle.std.specs.List.{flat_map};
 ghost use Rattle.line_rules.specs.Printing.{order_line};
 ghost use Rattle.machine_rules.specs.Calls.{item_bytes};
@@ -19,23 +19,35 @@ use machine_seat::Seat;
 use stack_machine::{End, Machine, State};
 use std::alloc::{AllocError, Global};
 
-/// The dump of machines that have stopped, of the order, and of the pairs of the map at the last version.
+/// The dump of machines that have stopped, of the order, and of the pairs of the map at the last version. Room for so many bytes is
+/// asked for at once, so that a long dump is moved seldom; where there is no memory for it, the dump grows from nothing.
 #[tactic(auto, unfolding(crate::specs::Dumps::dump_of))]
 pub fn render(
     alloc: Global,
     seats: &[Seat],
     order: &Order,
     core: &Core,
+    room: usize,
 ) -> Result<Vec<u8>, AllocError>
     ensures { IfOk result (λ dump. dump.items ≡ dump_of seats.now order.now (newest_pairs core.now.store)) }
 {
-    let mut dump = Vec::new(alloc);
+    let mut dump = with_room(alloc, room);
     add_end_lines(&mut dump, seats)?;
     add_stacks(alloc, &mut dump, seats)?;
     add_errors(&mut dump, seats)?;
     add_order_lines(&mut dump, order)?;
     add_pair_lines(&mut dump, core)?;
     Ok(dump)
+}
+
+// No bytes, with room for so many, if there is memory for it.
+fn with_room(alloc: Global, room: usize) -> Vec<u8>
+    ensures { result.items ≡ [] }
+{
+    match Vec::with_capacity(alloc, room) {
+        Ok(bytes) => bytes,
+        Err(_) => Vec::new(alloc),
+    }
 }
 
 fn add_end_lines(to: &mut Vec<u8>, seats: &[Seat]) -> Result<(), AllocError>

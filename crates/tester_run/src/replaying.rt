@@ -28,6 +28,7 @@ pub fn replay(alloc: Global, arguments: &RunArgs, input: Input) -> Result<Render
         order: given,
         pairs,
     } = input;
+    let loaded = pairs.len();
     let mut core = Core::load(alloc, arguments, pairs)?;
     let mut seats = first_seats(alloc, arguments, &core)?;
     let mut words = PcgWords::new(arguments.seed);
@@ -46,7 +47,7 @@ pub fn replay(alloc: Global, arguments: &RunArgs, input: Input) -> Result<Render
     if first_asking(&seats, 0).is_some() {
         return Err(OrderFault::EndsEarly);
     }
-    Ok(rendered_of(alloc, core, seats, order)?)
+    Ok(rendered_of(alloc, core, seats, order, loaded)?)
 }
 
 // Takes the requests of the machines that an order names, one after the other, up to one that has none: why it stopped there.

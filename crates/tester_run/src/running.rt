@@ -39,6 +39,9 @@ const GEN_SEED: u64 = 0;
 /// How many polls a wait of `gen` has: as many as where a command line doesn't say it.
 const GEN_POLLS: u32 = 10_000;
 
+/// For how many bytes a dump begins with room, for each pair that was loaded: about as many as its line has.
+const PAIR_ROOM: usize = 48;
+
 /// What a run writes, before any of it is written: its dump or its summary, its order and its exit status.
 #[derive(Debug, Drop)]
 pub struct Rendered {
@@ -135,20 +138,22 @@ fn summary_of(
     })
 }
 
-/// What stands at the end of a run, rendered. The memory of the core and of the machines isn't given back then, which would be
-/// a walk through all of it: the program is about to end.
+/// What stands at the end of a run over so many pairs, rendered. The memory of the core and of the machines isn't given back then,
+/// which would be a walk through all of it: the program is about to end.
 pub fn rendered_of(
     alloc: Global,
     core: Core,
     seats: Vec<Seat>,
     order: Order,
+    loaded: usize,
 ) -> Result<Rendered, AllocError>
     ensures order { IfOk result (λ rendered. rendered.order ≡ order) }
     ensures dump { IfOk result (λ rendered. rendered.output.items ≡ dump_of seats.items order (newest_pairs core.store)) }
     ensures status { IfOk result (λ rendered. rendered.status
         ≡ (if list_all (λ seat. has_ended seat.machine.machine.state) seats.items then 0 else 3)) }
 {
-    let output = render(alloc, &seats, &order, &core)?;
+    let room = loaded.saturating_mul(PAIR_ROOM);
+    let output = render(alloc, &seats, &order, &core, room)?;
     let status = status_of(&seats);
     forget(core);
     forget(seats);

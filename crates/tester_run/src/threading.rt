@@ -79,11 +79,12 @@ pub fn run_threaded<R: Threads + Wait + Sync + Clone + Drop + Send + 'static, G:
 ) -> Result<Rendered, AllocError>
     ensures { IfOk result (Renders pairs arguments.now) }
 {
+    let loaded = pairs.len();
     let core = Core::load(alloc, arguments, pairs)?;
     let words = PcgWords::new(arguments.seed);
     let seat = first_seat(alloc, arguments, &core)?;
     let ended = run_all(rt, alloc, gate, CoreService { core, words }, seat)?;
-    rendered_of(alloc, ended.core, ended.seats, ended.order)
+    rendered_of(alloc, ended.core, ended.seats, ended.order, loaded)
 }
 
 // Runs machine 0 at its seat, over a core that has taken no request, and each machine that is started, until all have ended.
