@@ -19,7 +19,7 @@ use conflict_ranges::WriteIndex;
 use directory::{
     create, create_or_open, exists, list, log, move_to, open, remove, remove_if_exists,
 };
-use directory_types::{DirArgs, DirFault, DirKind, DirReply, Layer};
+use directory_types::{Boxed, DirArgs, DirFault, DirKind, DirReply, Layer};
 use fdb_calls::{Reply, Tr};
 use key_bytes::Bytes;
 use outside::Words;
@@ -34,9 +34,9 @@ impl Contents {
     pub fn call_directory<W: Words>(
         &mut self,
         name: &Option<Bytes>,
-        layer: &Layer,
+        layer: &Boxed<Layer>,
         kind: DirKind,
-        args: &DirArgs,
+        args: &Boxed<DirArgs>,
         words: &mut W,
     ) -> Result<Reply, AllocError>
         requires { IsSound (model_of self.old) (2 ^ 62) }
@@ -44,6 +44,7 @@ impl Contents {
             → TookDrawing reply (model_of self.new) (W.words words.new) (directory_step world name.now kind layer.now args.now)) }
         ensures applied { self.new.applied ≡ self.old.applied }
     {
+        let (layer, args) = (layer.get(), args.get());
         match name {
             Some(name) => {
                 self.make(name)?;
@@ -137,7 +138,7 @@ fn reply_on<W: Words>(
     let mut on = TxnOn { txn, store, index };
     let answered = answer_on(alloc, kind, layer, &mut on, words, args);
     let_go(on);
-    reply_to(answered)
+    reply_to(alloc, answered)
 }
 
 // The transaction stays as it was left.
@@ -197,11 +198,11 @@ fn call<T: Tr, W: Words>(
 }
 
 // The reply to what a call answered; want of memory has none.
-fn reply_to(answered: Result<DirReply, DirFault>) -> Result<Reply, AllocError>
+fn reply_to(alloc: Global, answered: Result<DirReply, DirFault>) -> Result<Reply, AllocError>
     ensures { IfOk result (RepliesTo answered) }
 {
     match answered {
-        Ok(answer) => Ok(Reply::Dir(answer)),
+        Ok(answer) => Ok(Reply::Dir(Boxed::new(alloc, answer)?)),
         Err(DirFault::NoMemory) => Err(AllocError),
         Err(fault) => Ok(Reply::DirFault(fault)),
     }

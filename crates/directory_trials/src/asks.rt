@@ -2,7 +2,7 @@
 
 use crate::making::Wanted;
 use crate::told::{Told, told_fault, told_reply};
-use directory_types::{DirArgs, DirFault, DirKind, Layer, Path};
+use directory_types::{Boxed, DirArgs, DirFault, DirKind, Layer, Path};
 use fdb_calls::{Reply, Request};
 use fdb_tuple::Text;
 use key_bytes::Bytes;
@@ -77,6 +77,10 @@ fn copy_of(space: &Layer) -> Result<Layer, AllocError> {
     })
 }
 
+fn boxed_copy(space: &Layer) -> Result<Boxed<Layer>, AllocError> {
+    Boxed::new(space.node.allocator(), copy_of(space)?)
+}
+
 // A call with these arguments.
 fn request_with(
     name: Option<Bytes>,
@@ -84,7 +88,8 @@ fn request_with(
     kind: DirKind,
     args: DirArgs,
 ) -> Result<Request, AllocError> {
-    let layer = copy_of(space)?;
+    let layer = boxed_copy(space)?;
+    let args = Boxed::new(space.node.allocator(), args)?;
     Ok(Request::Directory {
         name,
         layer,
@@ -107,7 +112,7 @@ pub fn request_of(
 /// A reply as it is told. One that is no directory layer's is told as want of memory.
 pub fn told_by(alloc: Global, reply: &Reply) -> Result<Told, AllocError> {
     match reply {
-        Reply::Dir(reply) => told_reply(alloc, reply),
+        Reply::Dir(reply) => told_reply(alloc, reply.get()),
         Reply::DirFault(fault) => told_fault(alloc, fault),
         _ => told_fault(alloc, &DirFault::NoMemory),
     }

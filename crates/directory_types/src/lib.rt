@@ -1,8 +1,10 @@
 //! What is asked of directories, and what they answer, as types (directory layer's documentation).
 #![tactic(auto)]
 
+mod boxed;
 mod fault;
 
+pub use boxed::Boxed;
 pub use fault::DirFault;
 use fdb_tuple::Text;
 use key_bytes::Bytes;

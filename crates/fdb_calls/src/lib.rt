@@ -11,7 +11,7 @@ mod tr;
 
 pub use database_rules::Code;
 use database_rules::{Mode, Selector};
-use directory_types::{DirArgs, DirFault, DirKind, DirReply, Layer};
+use directory_types::{Boxed, DirArgs, DirFault, DirKind, DirReply, Layer};
 pub use fault::TrFault;
 use key_bytes::{Bytes, Key, KeyRange, Pairs};
 pub use shared_request::SharedRequest;
@@ -120,9 +120,9 @@ pub enum Request {
     /// version, which is then committed where the call isn't refused (directory layer's documentation).
     Directory {
         name: Option<Bytes>,
-        layer: Layer,
+        layer: Boxed<Layer>,
         kind: DirKind,
-        args: DirArgs,
+        args: Boxed<DirArgs>,
     },
     /// Writes each entry under the prefix followed by its key, on a transaction of its own, which is then committed. The
     /// first write that is refused refuses all.
@@ -179,7 +179,7 @@ pub enum Reply {
     /// None was started: there are as many as may be.
     NoMachine,
     /// A call of a directory layer was answered so.
-    Dir(DirReply),
+    Dir(Boxed<DirReply>),
     /// A call of a directory layer was refused, or the commit behind it.
     DirFault(DirFault),
     /// The first check that failed has this code.

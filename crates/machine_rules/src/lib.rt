@@ -12,7 +12,7 @@
 mod directories;
 
 pub use directories::{DirectoryOperation, Object};
-use directory_types::Layer;
+use directory_types::{Boxed, Layer};
 use fdb_tuple::Elem;
 use key_bytes::Bytes;
 
@@ -109,7 +109,7 @@ pub enum Awaits {
     /// isn't so yet.
     Empty { prefix: Bytes, polled: u32 },
     /// The directory of this layer that was opened is appended to the list of directories, or null where the call is refused.
-    Opened { layer: Layer },
+    Opened { layer: Boxed<Layer> },
     /// Nothing is pushed of a call on a directory that has nothing to tell.
     DirectoryDone,
     /// The names of the directories are pushed, as one packed tuple.

@@ -11,7 +11,7 @@ use crate::directories::Directories;
 use crate::objects::{below, copied_path, copy_of, layer_name_of, layer_of};
 use crate::operands::{name_operand, path_if_given, path_operand};
 use crate::outcomes::{Directed, ListFault};
-use directory_types::{DirArgs, DirKind, Path};
+use directory_types::{Boxed, DirArgs, DirKind, Layer, Path};
 use fdb_calls::Request;
 use key_bytes::Bytes;
 use machine_rules::{Awaits, Object, Scope};
@@ -324,14 +324,9 @@ fn opened_call(
         return Ok(Directed::Faults(ListFault::NotADirectory));
     };
     let awaits = Awaits::Opened {
-        layer: copy_of(layer)?,
+        layer: boxed_copy(layer)?,
     };
-    let request = Request::Directory {
-        name,
-        layer: copy_of(layer)?,
-        kind,
-        args,
-    };
+    let request = request_of(layer, name, kind, args)?;
     Ok(Directed::Asks(request, awaits))
 }
 
@@ -349,11 +344,31 @@ fn layer_call(
     let Some(layer) = layer_of(object) else {
         return Ok(Directed::Faults(ListFault::NotADirectory));
     };
-    let request = Request::Directory {
+    let request = request_of(layer, name, kind, args)?;
+    Ok(Directed::Asks(request, awaits))
+}
+
+// The request that makes a call of a layer.
+fn request_of(
+    layer: &Layer,
+    name: Option<Bytes>,
+    kind: DirKind,
+    args: DirArgs,
+) -> Result<Request, AllocError>
+    ensures { IfOk result (λ request. request ≡ Request.Directory name layer.now kind args) }
+{
+    let args = Boxed::new(layer.node.allocator(), args)?;
+    Ok(Request::Directory {
         name,
-        layer: copy_of(layer)?,
+        layer: boxed_copy(layer)?,
         kind,
         args,
-    };
-    Ok(Directed::Asks(request, awaits))
+    })
+}
+
+// A copy of a layer in a block of its own.
+fn boxed_copy(layer: &Layer) -> Result<Boxed<Layer>, AllocError>
+    ensures { IfOk result (λ copy. copy ≡ layer.now) }
+{
+    Boxed::new(layer.node.allocator(), copy_of(layer)?)
 }

@@ -110,6 +110,7 @@ fn add_request(to: &mut String, request: &Request) -> Result<(), Fail> {
         return Ok(());
     };
     let kind: DirKind = *kind;
+    let args = args.get();
     write!(to, "{kind:?} {} {}", name.is_some(), args.snapshot)?;
     add_path(to, &args.path)?;
     add_path(to, &args.new_path)

@@ -27,16 +27,7 @@ impl Registers {
         ensures { IfOk result (λ act. act_with self.new act ≡ used number self.old (use_of (Awaits.Opened layer.now) reply.now)) }
     {
         match reply {
-            Reply::Dir(
-                DirReply::Opened {
-                    prefix,
-                    path,
-                    layer: layer_name,
-                },
-            ) => {
-                self.append(directory_of(self.alloc(), layer, path, prefix, layer_name)?)?;
-                Ok(Act::Does)
-            }
+            Reply::Dir(answer) => self.use_directory(layer, answer.get()),
             Reply::DirFault(fault) => self.use_fault(number, true, fault),
             _ => Ok(Act::Does),
         }
@@ -57,10 +48,7 @@ impl Registers {
         ensures { IfOk result (λ act. act_with self.new act ≡ used number self.old (use_of Awaits.Names reply.now)) }
     {
         match reply {
-            Reply::Dir(DirReply::Names(names)) => {
-                let packed = pack_names(self.alloc(), names.as_slice())?;
-                self.push(number, Elem::Bytes(packed))
-            }
+            Reply::Dir(answer) => self.push_names(number, answer.get()),
             Reply::DirFault(fault) => self.use_fault(number, false, fault),
             _ => Ok(Act::Does),
         }
@@ -71,7 +59,7 @@ impl Registers {
         ensures { IfOk result (λ act. act_with self.new act ≡ used number self.old (use_of Awaits.Existence reply.now)) }
     {
         match reply {
-            Reply::Dir(DirReply::Is(is)) => self.push(number, Elem::Int(i128::from(*is))),
+            Reply::Dir(answer) => self.push_existence(number, answer.get()),
             Reply::DirFault(fault) => self.use_fault(number, false, fault),
             _ => Ok(Act::Does),
         }
@@ -88,6 +76,43 @@ impl Registers {
             }
             _ => Ok(Act::Does),
         }
+    }
+
+    // The directory of this layer that was opened is appended.
+    fn use_directory(&mut self, layer: &Layer, answer: &DirReply) -> Result<Act, AllocError>
+        ensures { IfOk result (λ act. (number : ℕ) → act_with self.new act
+            ≡ used number self.old (use_of (Awaits.Opened layer.now) (Reply.Dir answer.now))) }
+    {
+        if let DirReply::Opened {
+            prefix,
+            path,
+            layer: layer_name,
+        } = answer
+        {
+            self.append(directory_of(self.alloc(), layer, path, prefix, layer_name)?)?;
+        }
+        Ok(Act::Does)
+    }
+
+    // The names that were answered are pushed.
+    fn push_names(&mut self, number: u64, answer: &DirReply) -> Result<Act, AllocError>
+        ensures { IfOk result (λ act. act_with self.new act ≡ used number self.old (use_of Awaits.Names (Reply.Dir answer.now))) }
+    {
+        if let DirReply::Names(names) = answer {
+            let packed = pack_names(self.alloc(), names.as_slice())?;
+            self.put(number, Elem::Bytes(packed))?;
+        }
+        Ok(Act::Does)
+    }
+
+    // 1 is pushed where it was answered that there is one, and else 0.
+    fn push_existence(&mut self, number: u64, answer: &DirReply) -> Result<Act, AllocError>
+        ensures { IfOk result (λ act. act_with self.new act ≡ used number self.old (use_of Awaits.Existence (Reply.Dir answer.now))) }
+    {
+        if let DirReply::Is(is) = answer {
+            self.put(number, Elem::Int(i128::from(*is)))?;
+        }
+        Ok(Act::Does)
     }
 
     // A call of a layer was refused.

@@ -30,7 +30,7 @@ impl Registers {
         ensures { IfOk result (λ act. act_with self.new act ≡ used number self.old (use_of awaits.now reply.now)) }
     {
         match (awaits, reply) {
-            (Awaits::Opened { layer }, _) => self.use_opened(number, layer, reply),
+            (Awaits::Opened { layer }, _) => self.use_opened(number, layer.get(), reply),
             (Awaits::DirectoryDone, _) => self.use_done(number, reply),
             (Awaits::Names, _) => self.use_names(number, reply),
             (Awaits::Existence, _) => self.use_existence(number, reply),

@@ -39,8 +39,10 @@ const GEN_SEED: u64 = 0;
 /// How many polls a wait of `gen` has: as many as where a command line doesn't say it.
 const GEN_POLLS: u32 = 10_000;
 
-/// For how many bytes a dump begins with room, for each pair that was loaded: about as many as its line has.
-const PAIR_ROOM: usize = 48;
+/// For how many bytes a dump begins with room, for each pair that was loaded: more than its line mostly has, and the lines of what
+/// the instruction in it asks. The system gives memory for a page of it when the page is first written, while a room that is too
+/// small by little is written twice.
+const PAIR_ROOM: usize = 64;
 
 /// What a run writes, before any of it is written: its dump or its summary, its order and its exit status.
 #[derive(Debug, Drop)]

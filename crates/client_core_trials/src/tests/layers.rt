@@ -1,7 +1,7 @@
 //! Calls of directory layers.
 
 use super::*;
-use directory_types::{DirArgs, DirFault, DirKind, DirReply, Layer, Path};
+use directory_types::{Boxed, DirArgs, DirFault, DirKind, DirReply, Layer, Path};
 use fdb_tuple::Text;
 use lists::List;
 
@@ -53,8 +53,8 @@ fn request_on(
     names: &[&str],
 ) -> Result<Request, Fail> {
     let name = name_of(alloc, name)?;
-    let layer = layer_of(alloc)?;
-    let args = args_of(alloc, names)?;
+    let layer = Boxed::new(alloc, layer_of(alloc)?)?;
+    let args = Boxed::new(alloc, args_of(alloc, names)?)?;
     Ok(Request::Directory {
         name,
         layer,
@@ -72,12 +72,17 @@ enum Answered {
     Code(u16),
 }
 
+fn is_told(reply: &DirReply, wanted: Answered) -> bool {
+    match (reply, wanted) {
+        (DirReply::Opened { prefix, .. }, Answered::Opened(other)) => prefix.as_slice() == other,
+        (DirReply::Is(is), Answered::Is(other)) => *is == other,
+        _ => false,
+    }
+}
+
 fn is_so(reply: &Reply, wanted: Answered) -> bool {
     match (reply, wanted) {
-        (Reply::Dir(DirReply::Opened { prefix, .. }), Answered::Opened(other)) => {
-            prefix.as_slice() == other
-        }
-        (Reply::Dir(DirReply::Is(is)), Answered::Is(other)) => *is == other,
+        (Reply::Dir(reply), _) => is_told(reply.get(), wanted),
         (Reply::DirFault(DirFault::Exists), Answered::Exists) => true,
         (Reply::DirFault(DirFault::Tr(code)), Answered::Code(other)) => code.0 == other,
         _ => false,
