@@ -14,6 +14,3 @@ pub use args::ArgWords;
 pub use command_rules::{Args, RunArgs};
 pub use fault::ArgFault;
 pub use reading::read_args;
-
-#[cfg(test)]
-mod tests;

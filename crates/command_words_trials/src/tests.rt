@@ -1,4 +1,4 @@
-use super::*;
+use command_words::{ArgFault, ArgWords, Args, RunArgs, read_args};
 use std::alloc::{AllocError, Global};
 use std::test::Fail;
 
