@@ -11,8 +11,6 @@
 
 mod seat;
 mod starting;
-#[cfg(test)]
-mod tests;
 
 pub use seat::Seat;
 pub use starting::{is_no_memory, prefix_of, seat_started, seat_started_by, start, start_with};

@@ -1,6 +1,8 @@
-use super::*;
 use fdb_calls::Reply;
 use key_bytes::{Bytes, Pair, Pairs};
+use machine_seat::{
+    Seat, is_no_memory, prefix_of, seat_started, seat_started_by, start, start_with,
+};
 use stack_machine::{End, State};
 use std::alloc::{AllocError, Global};
 use std::test::Fail;
