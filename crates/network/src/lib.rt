@@ -59,6 +59,3 @@ pub use post::Post;
 pub use receipts::Receipts;
 pub use service::Service;
 pub use serving::{Served, serve};
-
-#[cfg(test)]
-mod tests;

@@ -3,9 +3,9 @@ ghost use Rattle.future_cell.specs.declared.callback.Registered.TheVariants.{No}
 ghost use Rattle.future_cell.specs.Cells.{registration};
 ghost use Rattle.network.specs.Clients.{client_history};
 
-use super::*;
 use fdb_calls::{Reply, Request, SharedRequest};
 use key_bytes::{Bytes, Pairs};
+use network::{Asked, Client, Post, Served, Service, serve};
 use request_line::{Receiver, open};
 use std::alloc::{AllocError, Global};
 use std::sync::Wait;
