@@ -16,6 +16,3 @@ mod short;
 pub use bytes::{Bytes, Key, is_below};
 pub use pairs::{Pair, Pairs};
 pub use range::KeyRange;
-
-#[cfg(test)]
-mod tests;

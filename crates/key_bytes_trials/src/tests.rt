@@ -1,4 +1,4 @@
-use super::*;
+use key_bytes::{Bytes, KeyRange, Pair, Pairs, is_below};
 use std::alloc::{AllocError, Global};
 use std::cmp::Ordering;
 use std::test::Fail;
