@@ -15,6 +15,3 @@ pub use dump::{Lines, read_dump};
 pub use dump_text::{EndWord, Line, LineFault};
 pub use fault::PrintableFault;
 pub use printable::read_printable;
-
-#[cfg(test)]
-mod tests;

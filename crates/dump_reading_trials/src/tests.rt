@@ -1,4 +1,4 @@
-use super::*;
+use dump_reading::{EndWord, Line, LineFault, PrintableFault, read_dump, read_printable};
 use dump_text::{write_line, write_pair_line, write_printable};
 use key_bytes::Bytes;
 use std::alloc::{AllocError, Global};
