@@ -28,6 +28,3 @@ mod view;
 
 pub use ends::{Receiver, Sender, open};
 pub use history::History;
-
-#[cfg(test)]
-mod tests;

@@ -4,7 +4,7 @@ use Rattle.std.specs.List.{All, Any}
 use Rattle.request_line.specs.declared.history.History.{History}
 use Rattle.request_line.specs.History.{first_history, with_post, CoverAllNumbers}
 use Rattle.request_line.specs.Taking.{items_of, TakesAllWhereAsMany, IsOfThese}
-use Rattle.request_line.proofs.tests.post_three.Goals as goal
+use Rattle.request_line_trials.proofs.tests.post_three.Goals as goal
 
 abbrev one_sender : List (History ℕ)
 one_sender = with_post (with_post (with_post first_history 1) 2) 3 ∷ []
