@@ -38,6 +38,3 @@ pub use source::{Source, Taken};
 pub use streams::{ReadSource, WriteSink};
 pub use transfers::{Input, read_all, write_all};
 pub use words::Words;
-
-#[cfg(test)]
-mod tests;

@@ -1,6 +1,9 @@
 ghost use Rattle.std.specs.Prelude.{◌≡◌, ℕ, ◌+◌, IfOk};
 
-use super::*;
+use outside::{
+    CleanSink, CleanSource, Gate, Input, ListWords, MemSink, MemSource, OpenGate, PcgWords, Put,
+    ReadSource, Sink, Source, Taken, Words, WriteSink, read_all, write_all,
+};
 use std::alloc::{AllocError, Global};
 use std::io;
 use std::io::{ErrorKind, Read, Write};
