@@ -1,4 +1,5 @@
-//! What is asked of directories, and what they answer, as types (directory layer's documentation).
+//! What is asked of directories, and what they answer, as types (directory layer's documentation). `Boxed` has a value in a block of its
+//! own, for what only few requests and replies have.
 #![tactic(auto)]
 
 mod boxed;
