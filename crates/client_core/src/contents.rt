@@ -25,7 +25,6 @@ use txn_core::Txn;
 use version_store::Store;
 
 /// What a core keeps.
-#[derive(Drop)]
 pub struct Contents {
     pub alloc: Global,
     pub store: Store,
@@ -33,6 +32,20 @@ pub struct Contents {
     pub transactions: KeyMap<Txn>,
     pub lives: Lives,
     pub applied: u64,
+}
+
+// Written out, so that a caller's proof sees one call where all this ends, and nothing of what it is.
+impl Drop for Contents {
+    fn drop(self) {
+        let Contents {
+            alloc: _,
+            store: _,
+            index: _,
+            transactions: _,
+            lives: _,
+            applied: _,
+        } = self;
+    }
 }
 
 impl Contents {

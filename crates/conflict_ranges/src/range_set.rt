@@ -14,11 +14,17 @@ use std::marker::Model;
 /// A set of keys. Contracts see its ranges in rising order: its only one, or what lies between one edge and the next and is
 /// in the set, so they are not empty and lie apart. Which keys the set has is `covers` of them. Until a second range comes
 /// the set takes no memory but for copies of the two ends, and no search.
-#[derive(Drop)]
 pub struct RangeSet {
     // The only range that was added. While there is one, the edges say nothing.
     only: Option<KeyRange>,
     laid: EdgeRanges,
+}
+
+// Written out, so that a caller's proof sees one call where a set ends, and nothing of what lies in it.
+impl Drop for RangeSet {
+    fn drop(self) {
+        let RangeSet { only: _, laid: _ } = self;
+    }
 }
 
 impl Model for RangeSet {

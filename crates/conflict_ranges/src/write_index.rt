@@ -19,12 +19,22 @@ use std::marker::Model;
 /// The newest version of each key: that of the last commit that declared to write it, or 0 (API reference, "Transaction":
 /// conflict ranges). A range of one key is kept as that key, any other by its ends. Contracts see what is known of keys alone and
 /// of ranges; `newest_at` says of both the version of a key.
-#[derive(Drop)]
 pub struct WriteIndex {
     keys: KeyMap<u64>,
     ranges: EdgeMap<u64>,
     // No version is greater.
     newest: u64,
+}
+
+// Written out, so that a caller's proof sees one call where an index ends, and nothing of what lies in it.
+impl Drop for WriteIndex {
+    fn drop(self) {
+        let WriteIndex {
+            keys: _,
+            ranges: _,
+            newest: _,
+        } = self;
+    }
 }
 
 impl Model for WriteIndex {

@@ -13,7 +13,6 @@ use version_store::Store;
 use write_map::WriteMap;
 
 /// A transaction. Contracts see what it keeps, and for which transactions of the definitions it stands.
-#[derive(Drop)]
 pub struct Txn {
     pub(crate) life: u64,
     pub(crate) version: Option<u64>,
@@ -25,6 +24,23 @@ pub struct Txn {
     pub(crate) size: u64,
     pub(crate) is_silenced: bool,
     pub(crate) phase: Phase,
+}
+
+// Written out, so that a caller's proof sees one call where a transaction ends, and nothing of what lies in it.
+impl Drop for Txn {
+    fn drop(self) {
+        let Txn {
+            life: _,
+            version: _,
+            edits: _,
+            declares: _,
+            read_ranges: _,
+            write_ranges: _,
+            size: _,
+            is_silenced: _,
+            phase: _,
+        } = self;
+    }
 }
 
 impl Model for Txn {
@@ -74,11 +90,9 @@ impl Txn {
         ensures { (index : Index) (setting : Setting) → Keeps store.now index setting
             → StandsFor result (rules.with_version setting (rules.fresh life)) }
     {
-        let version = Some(store.last());
-        Txn {
-            version,
-            ..Txn::new(alloc, life)
-        }
+        let mut transaction = Txn::new(alloc, life);
+        transaction.version = Some(store.last());
+        transaction
     }
 
     // The allocator that it keeps.

@@ -24,7 +24,6 @@ use std::collections::BTreeMap;
 use std::marker::Model;
 
 /// The database at each of its versions.
-#[derive(Drop)]
 pub struct Store {
     alloc: Global,
     // The place of each key's newest node, which stays.
@@ -33,6 +32,19 @@ pub struct Store {
     last: u64,
     // The places of the keys of the changes that were reserved last, in their order.
     reserved: Vec<u32>,
+}
+
+// Written out, so that a caller's proof sees one call where a store ends, and nothing of what lies in it.
+impl Drop for Store {
+    fn drop(self) {
+        let Store {
+            alloc: _,
+            tree: _,
+            nodes: _,
+            last: _,
+            reserved: _,
+        } = self;
+    }
 }
 
 impl Model for Store {

@@ -31,13 +31,24 @@ const FEW: usize = 16;
 
 /// The pending mutations of a transaction. Contracts see the list of them in their order, and the edges between which all
 /// keys are alike.
-#[derive(Drop)]
 pub struct WriteMap {
     alloc: Global,
     levels: EdgeMap<Level>,
     log: Vec<Mutation>,
     // Whether a mutation has a versionstamp.
     is_stamped: bool,
+}
+
+// Written out, so that a caller's proof sees one call where such a map ends, and nothing of what lies in it.
+impl Drop for WriteMap {
+    fn drop(self) {
+        let WriteMap {
+            alloc: _,
+            levels: _,
+            log: _,
+            is_stamped: _,
+        } = self;
+    }
 }
 
 impl Model for WriteMap {

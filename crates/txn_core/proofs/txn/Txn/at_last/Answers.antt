@@ -7,4 +7,5 @@ use Rattle.txn_core.proofs.txn.Txn.at_last.Goals as goal
 pub returns : goal.returns
 returns c index setting keeps =
     versioned setting _ c.last.result (fresh c.args.life)
-    (subst (λ (kept : Kept). StandsFor kept (fresh c.args.life)) (sym c.result.view_is) c.new.ensures) (c.last.ensures ∙ keeps.last_is)
+    (subst (λ (kept : Kept). StandsFor kept (fresh c.args.life)) (sym c.transaction.view_is) c.new-transaction.ensures)
+    (c.last.ensures ∙ keeps.last_is)
