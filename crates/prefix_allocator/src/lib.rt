@@ -50,6 +50,3 @@ pub fn allocate<T: Tr, W: Words>(
     claim_number(tr, &keys, number)?;
     Ok(number)
 }
-
-#[cfg(test)]
-mod tests;
