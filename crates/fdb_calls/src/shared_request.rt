@@ -9,9 +9,16 @@ use std::sync::Arc;
 
 /// A request in a block of its own, so that what carries it is small. It can be shared: whoever lets go of it last gives the block
 /// back. Contracts see the request.
-#[derive(Debug, Drop)]
+#[derive(Debug)]
 pub struct SharedRequest {
     request: Arc<Request, Global>,
+}
+
+// Written out, so that a caller's proof sees one call where it ends, and nothing of the request.
+impl Drop for SharedRequest {
+    fn drop(self) {
+        let SharedRequest { request: _ } = self;
+    }
 }
 
 impl Model for SharedRequest {
