@@ -42,5 +42,5 @@ pub returns-clause-started : goal.returns-clause-started
 returns-clause-started g c =
     let heard = c.in_ok-waiter.ensures.heard in
     started_by_it c.args.self.now (after g c) _ _ _ (asked_once g c) c.in_ok-prefix.prefix c.in_ok-waiter.started
-    (c.in_ok-prefix.ensures ∙ ap start_prefix c.request-2.ensures)
+    (c.in_ok-prefix.ensures ∙ ap start_prefix c.request.ensures)
     (heard.3 ∙ ap (λ m. started_by c.in_ok-prefix.prefix m.machine.polls heard.0) c.hand_over-request.ensures.machine) c.in_ok-waiter.ensures.started
