@@ -23,7 +23,7 @@ impl Model for ArgWords {
 }
 
 impl ArgWords {
-    /// No words. It takes no memory, and keeps the allocator for what is added later.
+    /// Makes the list without a word.
     pub fn new(alloc: Global) -> ArgWords
         ensures { result ≡ [] }
     {
@@ -33,21 +33,21 @@ impl ArgWords {
         }
     }
 
-    /// How many words there are. It takes no memory.
+    /// Returns how many words there are.
     pub fn len(&self) -> usize
         ensures { result ≡ length self.now }
     {
         self.words.len()
     }
 
-    /// Whether there is no word. It takes no memory.
+    /// Tells whether there is no word.
     pub fn is_empty(&self) -> bool
         ensures { result ≡ (length self.now == 0) }
     {
         self.words.is_empty()
     }
 
-    /// The word at place `i`. It takes no memory.
+    /// Returns the word at place `i`.
     pub fn get(&self, i: usize) -> &Text
         requires { i < length self.now }
         ensures { slice_get self.now i ≡ Some result.now }

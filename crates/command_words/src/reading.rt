@@ -33,8 +33,8 @@ const POLLS_LIMIT: u64 = 100_000;
 // How many workers `gen` may be asked for at most.
 const WORKERS_LIMIT: u64 = 30;
 
-/// What the words after the program's name ask for. Usage comes only where they are no command, or a value isn't in its
-/// range, and NoMemory where memory ran out; `args` is only read.
+/// Reads what the words after the program's name ask for. Usage comes only where they are no command, or a
+/// value isn't in its range, and NoMemory where memory ran out; `args` is only read.
 pub fn read_args(alloc: Global, args: &ArgWords) -> Result<Args, ArgFault>
     ensures { MatchResult result (λ asked. args_of args.now ≡ Some asked) (λ fault. fault ≡ ArgFault.Usage → args_of args.now ≡ None) }
 {

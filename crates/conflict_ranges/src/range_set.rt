@@ -59,7 +59,7 @@ fn has_all(range: &KeyRange, other: &KeyRange) -> bool
 impl RangeSet {
     ghost use Rattle.conflict_ranges.specs.Segments.{range_between, AreApart};
 
-    /// The set without a key. It takes no memory, and keeps the allocator for what is added later.
+    /// Makes the set without a key.
     pub fn new(alloc: Global) -> RangeSet
         ensures { result ≡ [] }
     {
@@ -69,7 +69,7 @@ impl RangeSet {
         }
     }
 
-    /// Whether the set has no key. It takes no memory.
+    /// Tells whether the set has no key.
     pub fn is_empty(&self) -> bool
         ensures value { result ≡ (length self.now == 0) }
         ensures none { IsTrue result ↔ ((key : List ℕ) → covers self.now key ≡ false) }
@@ -162,8 +162,8 @@ impl RangeSet {
         Ok(())
     }
 
-    /// Whether some key is in the set and in the range. It takes no memory, and one search for each edge in the range that
-    /// it comes to, with one more for the begin; none where the set keeps its range in place.
+    /// Tells whether some key is both in the set and in the range. It takes one search for the range's begin,
+    /// and one for each edge in the range that it comes to; none where the set keeps its range in place.
     pub fn meets(&self, range: &KeyRange) -> bool
         ensures value { result ≡ list_any (λ own. meets own range.now) self.now }
         ensures common { IsTrue result
@@ -175,7 +175,7 @@ impl RangeSet {
         }
     }
 
-    /// The ranges of the set, in rising order, for a loop over them. It takes no memory.
+    /// Returns an iterator over the ranges of the set, in rising order.
     pub fn ranges(&self) -> RangesLeft<'_>
         ensures { result ≡ self.now }
     {
@@ -186,7 +186,7 @@ impl RangeSet {
         }
     }
 
-    /// How many ranges there are. It takes no memory, and walks over them.
+    /// Returns how many ranges there are. It walks over them.
     pub fn len(&self) -> usize
         ensures { result ≡ length self.now }
     {
@@ -196,7 +196,7 @@ impl RangeSet {
         }
     }
 
-    /// The range at a place, counted from 0 in rising order: its begin and its end. It takes no memory, and walks over the
+    /// Returns the range at a place, counted from 0 in rising order: its begin and its end. It walks over the
     /// ranges before it.
     pub fn get(&self, index: usize) -> (&Key, &Key)
         requires { index < length self.now }
@@ -208,7 +208,7 @@ impl RangeSet {
         }
     }
 
-    /// For proofs: that the ranges are not empty, lie apart and rise. It does nothing when it runs.
+    /// Shows to a proof that the ranges are not empty, lie apart and rise. It does nothing when it runs.
     pub fn shows_apart(&self)
         ensures { AreApart self.now }
     {

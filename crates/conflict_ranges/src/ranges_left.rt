@@ -71,7 +71,7 @@ impl<'a> Iterator for RangesLeft<'a> {
 
     ghost remaining = { λ left. at_most (length left) };
 
-    /// The first range that is left, which it takes. It takes no memory.
+    /// Takes the first range that is left, and returns its begin and its end.
     fn next(&mut self) -> Option<(&'a Key, &'a Key)> {
         match self.only.take() {
             Some(only) => Some((&only.begin, &only.end)),

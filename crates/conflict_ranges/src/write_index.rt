@@ -53,8 +53,7 @@ impl Model for WriteIndex {
 }
 
 impl WriteIndex {
-    /// The index where no key was written: each has version 0. It takes no memory, and keeps the allocator for what is added
-    /// later.
+    /// Makes the index where no key was written: each has version 0.
     pub fn new(alloc: Global) -> WriteIndex
         ensures empty { result ≡ record { keys = finite.empty; ranges = record { base = 0; entries = [] }; newest = 0 } }
         ensures unwritten { (key : List ℕ) → newest_at result key ≡ 0 }
@@ -66,7 +65,7 @@ impl WriteIndex {
         }
     }
 
-    /// The newest version that was installed; 0 where none was. No key has a newer one. It takes no memory.
+    /// Returns the newest version that was installed; 0 where none was. No key has a newer one.
     pub fn newest(&self) -> u64
         ensures is { result ≡ self.now.newest }
         ensures above { (key : List ℕ) → newest_at self.now key ≤ result }
@@ -74,8 +73,8 @@ impl WriteIndex {
         self.newest
     }
 
-    /// The newest version that a key of the range has; 0 where the range is empty. It takes no memory. For one key it takes two
-    /// searches, and else four, and one step for each key and each edge in the range.
+    /// Returns the newest version that a key of the range has; 0 where the range is empty. For one key it takes
+    /// two searches, and else four, and one step for each key and each edge in the range.
     pub fn newest_in(&self, range: &KeyRange) -> u64
         ensures above { (key : List ℕ) → has range.now key ≡ true → newest_at self.now key ≤ result }
         ensures reached { (result ≡ 0)
@@ -84,7 +83,8 @@ impl WriteIndex {
         self.newest_between(&range.begin, &range.end)
     }
 
-    /// The same for the keys from `begin` on that are less than `end`.
+    /// Returns the newest version that a key from `begin` on has that is less than `end`; 0 where there is no
+    /// such key.
     pub fn newest_between(&self, begin: &Key, end: &Key) -> u64
         ensures above { (key : List ℕ) → within begin.now end.now key ≡ true → newest_at self.now key ≤ result }
         ensures reached { (result ≡ 0)
@@ -165,8 +165,9 @@ impl WriteIndex {
         Ok(())
     }
 
-    /// Gives the keys of the ranges this version, after room was made for them. It takes no memory, one search for each range, and
-    /// one write for each edge in it; where a greater version is known, one step for each key besides.
+    /// Gives the keys of the ranges this version, after room was made for them. It takes one search for each
+    /// range, and one write for each edge in it; where a greater version is known, one step for each key
+    /// besides.
     pub fn install(&mut self, ranges: RangeSet, version: u64)
         requires { IsReadyFor self.old version ranges }
         ensures given { (key : List ℕ) → newest_at self.new key

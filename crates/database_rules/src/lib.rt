@@ -135,7 +135,7 @@ pub enum AtomicOp {
 impl AtomicOp {
     ghost use Rattle.database_rules.specs.Atomics.{is_versionstamped};
 
-    /// Whether a commit fills its versionstamp into the key or the value. It takes no memory.
+    /// Tells whether a commit fills its versionstamp into the key or the value.
     pub fn is_versionstamped(self) -> bool
         ensures { result ≡ is_versionstamped self }
     {

@@ -6,7 +6,7 @@
 
 ghost use Rattle.directory_laws.specs.Found.{AreOpenedFound, AreRemovedGone, DoesAllElseStay};
 
-/// For proofs: what holds of directories after calls. It does nothing when it runs.
+/// Shows to a proof what holds of directories after calls. It does nothing when it runs.
 pub fn directories_are_found()
     ensures opened { AreOpenedFound }
     ensures removed { AreRemovedGone }

@@ -7,7 +7,7 @@ pub trait Change<T> {
     // What an edge has afterwards.
     ghost changed: { Self → T → T };
 
-    /// Changes what an edge has. It takes no memory.
+    /// Changes the value of an edge.
     fn change(&self, level: &mut T)
         ensures { level.new ≡ changed self.now level.old };
 }

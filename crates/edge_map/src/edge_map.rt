@@ -49,7 +49,7 @@ impl<T> Model for EdgeMap<T> {
 impl<T> EdgeMap<T> {
     ghost use Rattle.edge_map.specs.Edges.{changed, edges_of, held, is_edge, split_both, with_edge, without_edge};
 
-    /// The map without an edge: each key has `base`. It takes no memory.
+    /// Makes the map without an edge: each key has `base`.
     pub fn new(alloc: Global, base: T) -> EdgeMap<T>
         ensures { result ≡ record { base = base; entries = [] } }
     {
@@ -59,7 +59,8 @@ impl<T> EdgeMap<T> {
         }
     }
 
-    /// What a key has: what the last edge that isn't above it has. It takes no memory.
+    /// Returns the value in force at `key`: that of the last edge at or below it, or the base where there is
+    /// none.
     pub fn at(&self, key: &Key) -> &T
         ensures { result.now ≡ held self.now key.now }
     {
@@ -69,7 +70,7 @@ impl<T> EdgeMap<T> {
         self.row.at(self.tree.base(), key)
     }
 
-    /// Whether a key is an edge. It takes no memory.
+    /// Tells whether a key is an edge.
     pub fn has_edge(&self, key: &Key) -> bool
         ensures { result ≡ is_edge key.now self.now }
     {
@@ -79,7 +80,7 @@ impl<T> EdgeMap<T> {
         self.row.has_edge(key)
     }
 
-    /// The first edge above a key, if there is one. It takes no memory.
+    /// Returns the first edge above a key, if there is one.
     pub fn next(&self, key: &Key) -> Option<&Key>
         ensures { option_map (λ edge. edge.now) result
             ≡ first (filter (key_lt key.now) (edges_of self.now)) }
@@ -90,7 +91,7 @@ impl<T> EdgeMap<T> {
         self.row.next(key)
     }
 
-    /// The last edge below a key, if there is one. It takes no memory.
+    /// Returns the last edge below a key, if there is one.
     pub fn prev(&self, key: &Key) -> Option<&Key>
         ensures { option_map (λ edge. edge.now) result
             ≡ last (filter (λ edge. key_lt edge key.now) (edges_of self.now)) }
@@ -101,8 +102,8 @@ impl<T> EdgeMap<T> {
         self.row.prev(key)
     }
 
-    /// What a key has, and the first edge above it, if there is one: one search of the edges where the key is an edge itself,
-    /// and else one more. It takes no memory.
+    /// Returns the value in force at `key`, and the first edge above it, if there is one: one search of the
+    /// edges where the key is an edge itself, and else one more.
     pub fn around(&self, key: &Key) -> (&T, Option<&Key>)
         ensures at { result.0.now ≡ held self.now key.now }
         ensures next { option_map (λ edge. edge.now) result.1
@@ -114,8 +115,8 @@ impl<T> EdgeMap<T> {
         self.row.around(self.tree.base(), key)
     }
 
-    /// The edges from `begin` on that are less than `end`, each with what it has, in the order of keys, for a loop over them:
-    /// one search for all of them. It takes no memory.
+    /// Returns an iterator over the edges from `begin` on that are less than `end`, each with its value, in the
+    /// order of keys. It takes one search for all of them.
     pub fn edges_between(&self, begin: &Key, end: &Key) -> EdgesLeft<'_, T>
         requires { IsTrue (key_lt begin.now end.now) }
         ensures { result ≡ filter (λ e. within begin.now end.now e.0) self.now.entries }
@@ -126,8 +127,8 @@ impl<T> EdgeMap<T> {
         EdgesLeft::in_row(self.row.between(begin, end))
     }
 
-    /// The edges above a key, each with what it has, in the order of keys, for a loop over them: one search for all of them. It
-    /// takes no memory.
+    /// Returns an iterator over the edges above a key, each with its value, in the order of keys. It takes one
+    /// search for all of them.
     pub fn edges_above(&self, key: &Key) -> EdgesLeft<'_, T>
         ensures { result ≡ filter (λ e. key_lt key.now e.0) self.now.entries }
     {
@@ -137,8 +138,8 @@ impl<T> EdgeMap<T> {
         EdgesLeft::in_row(self.row.above(key))
     }
 
-    /// Makes a key an edge, which gets what is spread of what the key had, and answers whether it was none before; where it
-    /// is an edge already nothing changes. After a refusal the map is as it was.
+    /// Makes a key an edge, whose value is spread from the one in force there, and returns whether it was no
+    /// edge before; where it is one already nothing changes. After a refusal the map is as it was.
     pub fn split(&mut self, key: &Key) -> Result<bool, AllocError>
     where
         T: Spread + Drop,
@@ -177,8 +178,9 @@ impl<T> EdgeMap<T> {
         self.tree.split_both(begin, end)
     }
 
-    /// Makes two keys edges as `split_both` does, gives `key` something else, and answers what it had: among a few edges by the
-    /// same walk where `key` is below `next`, and else by one search more. After a refusal the map is as it was.
+    /// Makes two keys edges as `split_both` does, gives `key` the value `level`, and returns the value that it
+    /// had: among a few edges by the same walk where `key` is below `next`, and else by one search more. After
+    /// a refusal the map is as it was.
     pub fn put(&mut self, key: &Key, next: &Key, level: T) -> Result<T, AllocError>
     where
         T: Spread + Drop,
@@ -197,7 +199,7 @@ impl<T> EdgeMap<T> {
         self.tree.put(key, next, level)
     }
 
-    /// Takes an edge away: keys from it on have what those before it have. It takes no memory.
+    /// Takes an edge away: the keys from it on get the value of the edge before it.
     pub fn remove_edge(&mut self, key: &Key)
     where
         T: Drop,
@@ -210,8 +212,8 @@ impl<T> EdgeMap<T> {
         }
     }
 
-    /// Takes all edges away: each key has what the keys below the first edge had. A few edges leave their room, and of more
-    /// all is given back. It takes no memory.
+    /// Takes all edges away: each key gets the value of the keys below the first edge. A few edges leave their
+    /// room, and of more all is given back.
     pub fn clear(&mut self)
     where
         T: Drop,
@@ -221,7 +223,7 @@ impl<T> EdgeMap<T> {
         self.tree.clear();
     }
 
-    /// Gives an edge something else, and answers what it had. It takes no memory.
+    /// Replaces the value of an edge, and returns the one that it had.
     pub fn replace(&mut self, key: &Key, level: T) -> T
         requires { IsTrue (is_edge key.now self.old) }
         ensures before { result ≡ held self.old key.now }
@@ -233,8 +235,8 @@ impl<T> EdgeMap<T> {
         self.row.replace(key, level)
     }
 
-    /// Changes what each edge from `begin` on has that is less than `end`. It takes no memory, one search, and one write for each
-    /// such edge.
+    /// Changes the value of each edge from `begin` on that is less than `end`. It takes one search, and one
+    /// write for each such edge.
     pub fn change<C: Change<T>>(&mut self, begin: &Key, end: &Key, change: &C)
         ensures { self.new
             ≡ changed (within begin.now end.now) (C.changed change.now) self.old }
@@ -246,7 +248,7 @@ impl<T> EdgeMap<T> {
         }
     }
 
-    /// For proofs: that the edges rise. It does nothing when it runs.
+    /// Shows to a proof that the edges rise. It does nothing when it runs.
     pub fn shows_rising(&self)
         ensures { IsStrictlySortedBy key_cmp (edges_of self.now) }
     {

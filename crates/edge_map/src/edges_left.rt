@@ -60,7 +60,7 @@ impl<'a, T> Iterator for EdgesLeft<'a, T> {
 
     ghost remaining = { λ left. at_most (length left) };
 
-    /// The first edge that is left, which it takes, and what it has. It takes no memory.
+    /// Takes the first edge that is left, and returns it with its value.
     fn next(&mut self) -> Option<(&'a Key, &'a T)> {
         match &mut self.form {
             Form::Row(left) => match left.next() {

@@ -7,7 +7,7 @@ pub trait Spread {
     // What a new edge gets.
     ghost spread: { Self → Self };
 
-    /// What a new edge gets. It takes no memory.
+    /// Returns the value that a new edge gets from the one in force where it is made.
     fn spread(&self) -> Self
         ensures { result ≡ spread self.now };
 }

@@ -31,7 +31,7 @@ impl Model for SharedRequest {
 }
 
 impl SharedRequest {
-    /// It is refused for want of memory alone.
+    /// Puts a request into a block that can be shared. It is refused for want of memory alone.
     pub fn new(alloc: Global, request: Request) -> Result<SharedRequest, AllocError>
         ensures { IfOk result (λ shared. shared ≡ request) }
     {
@@ -39,7 +39,7 @@ impl SharedRequest {
         Ok(SharedRequest { request })
     }
 
-    /// The same request in the same block. It is refused for want of memory alone.
+    /// Returns one more share of the block. It is refused for want of memory alone.
     pub fn share(&self) -> Result<SharedRequest, AllocError>
         ensures { IfOk result (λ shared. shared ≡ self.now) }
     {
@@ -47,7 +47,7 @@ impl SharedRequest {
         Ok(SharedRequest { request })
     }
 
-    /// The request. It takes no memory.
+    /// Returns the request.
     pub fn request(&self) -> &Request
         ensures { result.now ≡ self.now }
     {

@@ -29,15 +29,16 @@ pub trait Tr {
     // it is still over the same transaction, and the same of whatever else it reads and is judged by
     ghost same: { Self → Self → Type 0 };
 
-    /// The value of `key` that the transaction sees (`fdb_transaction_get`). A read by snapshot has the same answer, and adds
-    /// nothing to the keys that the transaction rests on.
+    /// Returns the value of `key` that the transaction sees (`fdb_transaction_get`). A read by snapshot has the
+    /// same answer, and adds nothing to the keys that the transaction rests on.
     fn get(&mut self, key: &[u8], snapshot: bool) -> Result<Option<Bytes>, TrFault>
         ensures answer { (setting : Setting) (t : Transaction) → stands self.old setting t
             → Answered reply.Value result (stands self.new setting) t (read_called setting t false snapshot (read.Get key.now)) }
         ensures same { same self.old self.new };
 
-    /// The pairs of `range` that the transaction sees, up to `limit`, or all where it is 0, in the order of their keys, or
-    /// in the other order where `reverse` holds (`fdb_transaction_get_range`, streaming mode `WANT_ALL`).
+    /// Returns the pairs of `range` that the transaction sees, up to `limit`, or all where it is 0, in the
+    /// order of their keys, or in the other order where `reverse` holds (`fdb_transaction_get_range`, streaming
+    /// mode `WANT_ALL`).
     fn range(
         &mut self,
         range: &KeyRange,

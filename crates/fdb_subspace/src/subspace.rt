@@ -19,7 +19,7 @@ pub struct Subspace {
 impl Subspace {
     ghost use Rattle.fdb_subspace.specs.Inside.{key_read, Gives, IsBehind};
 
-    /// The key of a tuple: the prefix, and the spelling of the tuple behind it.
+    /// Packs a tuple as a key: the prefix, and the spelling of the tuple behind it.
     pub fn pack(&self, tuple: &Tuple) -> Result<Bytes, AllocError>
         ensures { IfOk result (λ key. key ≡ self.now.prefix ++ spelling tuple.now) }
     {
@@ -28,8 +28,8 @@ impl Subspace {
         Bytes::from_vec(key)
     }
 
-    /// The tuple whose key this is. NotInside comes exactly where the key doesn't begin with the prefix; Unpack is the
-    /// fault of what follows the prefix, with places counted from there.
+    /// Unpacks the tuple whose key this is. NotInside comes exactly where the key doesn't begin with the
+    /// prefix; Unpack is the fault of what follows the prefix, with places counted from there.
     pub fn unpack(&self, alloc: Global, key: &[u8]) -> Result<Tuple, SubFault>
         ensures inside { (result ≡ Err SubFault.NotInside) ↔ (begins_with key.now self.now.prefix ≡ false) }
         ensures found { IfOk result (λ tuple. IsTuple tuple × (key.now ≡ self.now.prefix ++ spelling tuple)) }
@@ -42,7 +42,7 @@ impl Subspace {
         unpack_behind(alloc, &key[self.prefix.len()..])
     }
 
-    /// The range of the keys whose tuples begin with this one and have more elements.
+    /// Returns the range of the keys whose tuples begin with this one and have more elements.
     pub fn range(&self, tuple: &Tuple) -> Result<KeyRange, AllocError>
         ensures begin { IfOk result (λ range. range.begin ≡ self.now.prefix ++ spelling tuple.now ++ 0 ∷ []) }
         ensures end { IfOk result (λ range. range.end ≡ self.now.prefix ++ spelling tuple.now ++ 255 ∷ []) }
@@ -54,7 +54,7 @@ impl Subspace {
         Ok(KeyRange { begin, end })
     }
 
-    /// Whether a key begins with the prefix. It takes no memory.
+    /// Tells whether a key begins with the prefix.
     pub fn contains(&self, key: &[u8]) -> bool
         ensures { result ≡ begins_with key.now self.now.prefix }
     {

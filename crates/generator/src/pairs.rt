@@ -14,9 +14,10 @@ use fdb_tuple::{Elem, pack_element, pack_element_into};
 use key_bytes::{Bytes, Pair, Pairs};
 use std::alloc::{AllocError, Global};
 
-/// What a run of main and `count` workers loads: the packed instructions of main under `g`, those of each worker w from 1 on
-/// under `w` and its number, and for each worker the key `busy` and its number, with an empty value; in this order. An input may
-/// have these pairs where there are at most 30 workers. It is refused for want of memory alone.
+/// Makes what a run of main and `count` workers loads: the packed instructions of main under `g`, those of each
+/// worker w from 1 on under `w` and its number, and for each worker the key `busy` and its number, with an
+/// empty value; in this order. An input may have these pairs where there are at most 30 workers. It is refused
+/// for want of memory alone.
 pub fn gen_pairs(alloc: Global, count: u32) -> Result<Pairs, AllocError>
     ensures made { IfOk result (λ pairs. pairs ≡ gen_pairs count) }
     ensures small { IfOk result (λ pairs. count ≤ 30 → AllByRecursion IsSmall pairs) }

@@ -10,14 +10,14 @@
 ghost use Rattle.history_laws.specs.Steps.{AreBegunReached, AreReachedLegal, AreStepsReached};
 ghost use Rattle.history_laws.specs.Whole.{AreRunsLegal};
 
-/// For proofs: every run of an order of fewer than 2^62 places, over pairs that an input may have, leaves one legal history. It
-/// does nothing when it runs.
+/// Shows to a proof that every run of an order of fewer than 2^62 places, over pairs that an input may have,
+/// leaves one legal history. It does nothing when it runs.
 pub fn runs_are_legal()
     ensures { AreRunsLegal }
 {}
 
-/// For proofs: the same from step to step. What a world begins with, each request keeps, while versions are left; and a world
-/// that has it has one legal history. It does nothing when it runs.
+/// Shows to a proof that each step keeps one legal history. What a world begins with, each request keeps, while
+/// versions are left; and a world that has it has one legal history. It does nothing when it runs.
 pub fn steps_are_legal()
     ensures begins { AreBegunReached }
     ensures keeps { AreStepsReached }

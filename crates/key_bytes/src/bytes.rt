@@ -46,7 +46,7 @@ impl Model for Bytes {
 }
 
 impl Bytes {
-    /// The empty byte string. It takes no memory, and keeps the allocator for what is added later.
+    /// Makes the empty byte string.
     pub fn new(alloc: Global) -> Bytes
         ensures { result ≡ [] }
     {
@@ -56,7 +56,7 @@ impl Bytes {
         }
     }
 
-    /// A copy of `bytes`. Up to 22 of them take no memory.
+    /// Copies `bytes` into a byte string. Up to 22 of them take no memory.
     pub fn from_slice(alloc: Global, bytes: &[u8]) -> Result<Bytes, AllocError>
         ensures { IfOk result (λ copy. copy ≡ bytes.now) }
     {
@@ -66,7 +66,7 @@ impl Bytes {
         })
     }
 
-    /// The byte string that holds these items. Where there are more than 22 they stay where they are.
+    /// Makes the byte string that holds these items. Where there are more than 22 they stay where they are.
     pub fn from_vec(items: Vec<u8>) -> Result<Bytes, AllocError>
         ensures { IfOk result (λ bytes. bytes ≡ items.items) }
     {
@@ -76,7 +76,8 @@ impl Bytes {
         })
     }
 
-    /// A copy of this byte string. Up to 22 bytes take no memory, and those that are shared none but a count.
+    /// Returns a copy of this byte string. Up to 22 bytes take no memory, and those that are shared none but a
+    /// count.
     #[inline(always)]
     pub fn copy(&self) -> Result<Bytes, AllocError>
         ensures { IfOk result (λ copy. copy ≡ self.now) }
@@ -87,26 +88,26 @@ impl Bytes {
         })
     }
 
-    /// The allocator that this byte string was made with. It takes no memory.
+    /// Returns the allocator that this byte string was made with.
     pub fn allocator(&self) -> Global {
         self.alloc
     }
 
-    /// The bytes. It takes no memory.
+    /// Returns the bytes.
     pub fn as_slice(&self) -> &[u8]
         ensures { result.now ≡ self.now }
     {
         self.form.as_slice()
     }
 
-    /// How many bytes there are. It takes no memory.
+    /// Returns how many bytes there are.
     pub fn len(&self) -> usize
         ensures { result ≡ length self.now }
     {
         self.as_slice().len()
     }
 
-    /// Whether there is no byte. It takes no memory.
+    /// Tells whether there is no byte.
     pub fn is_empty(&self) -> bool
         ensures { result ≡ (length self.now == 0) }
     {
@@ -122,7 +123,7 @@ impl Bytes {
         self.form.extend(self.alloc, bytes)
     }
 
-    /// The least byte string above this one: this one followed by a `00`.
+    /// Returns the least byte string above this one: this one followed by a `00`.
     pub fn after(&self) -> Result<Bytes, AllocError>
         ensures { IfOk result (λ next. next ≡ after self.now) }
     {
@@ -132,9 +133,9 @@ impl Bytes {
         })
     }
 
-    /// The least byte string above every byte string that begins with this one: trailing `FF` bytes are dropped, and
-    /// the last byte that is left is raised by one. None exactly where all bytes are `FF`, or there are none
-    /// (the tuple layer's `strinc`).
+    /// Returns the least byte string above every byte string that begins with this one: trailing `FF` bytes are
+    /// dropped, and the last byte that is left is raised by one. None exactly where all bytes are `FF`, or
+    /// there are none (the tuple layer's `strinc`).
     pub fn strinc(&self) -> Result<Option<Bytes>, AllocError>
         ensures value { IfOk result (λ next. next ≡ strinc self.now) }
         ensures above { IfOk result (λ next. IfSome next (IsLeastAbove self.now)) }
@@ -151,14 +152,14 @@ impl Bytes {
         }
     }
 
-    /// Whether this byte string begins with `prefix`. It takes no memory.
+    /// Tells whether this byte string begins with `prefix`.
     pub fn starts_with(&self, prefix: &[u8]) -> bool
         ensures { result ≡ begins_with self.now prefix.now }
     {
         self.as_slice().starts_with(prefix)
     }
 
-    /// For proofs: that contracts see numbers from 0 to 255. It does nothing when it runs.
+    /// Shows to a proof that contracts see numbers from 0 to 255. It does nothing when it runs.
     pub fn shows_bytes(&self)
         ensures { IsByteString self.now }
     {
@@ -166,7 +167,7 @@ impl Bytes {
     }
 }
 
-/// Whether `a` stands before `b` in the order of keys. It takes no memory.
+/// Tells whether `a` stands before `b` in the order of keys.
 pub fn is_below(a: &[u8], b: &[u8]) -> bool
     ensures { result ≡ key_lt a.now b.now }
 {

@@ -14,7 +14,7 @@ pub struct Pair {
 }
 
 impl Pair {
-    /// A copy of the pair.
+    /// Returns a copy of the pair.
     pub fn copy(&self) -> Result<Pair, AllocError>
         ensures { IfOk result (λ copy. (copy.key ≡ self.now.key) × (copy.value ≡ self.now.value)) }
     {
@@ -43,7 +43,7 @@ impl Model for Pairs {
 impl Pairs {
     ghost use Rattle.key_bytes.specs.Entries.{entries_of, entry_of};
 
-    /// The empty list. It takes no memory.
+    /// Makes the empty list.
     pub fn new(alloc: Global) -> Pairs
         ensures { result ≡ [] }
     {
@@ -52,21 +52,21 @@ impl Pairs {
         }
     }
 
-    /// How many pairs there are. It takes no memory.
+    /// Returns how many pairs there are.
     pub fn len(&self) -> usize
         ensures { result ≡ length self.now }
     {
         self.items.len()
     }
 
-    /// Whether there is no pair. It takes no memory.
+    /// Tells whether there is no pair.
     pub fn is_empty(&self) -> bool
         ensures { result ≡ (length self.now == 0) }
     {
         self.items.is_empty()
     }
 
-    /// The pair at place `i`. It takes no memory.
+    /// Returns the pair at place `i`.
     pub fn get(&self, i: usize) -> &Pair
         requires { i < length self.now }
         ensures { slice_get self.now i ≡ Some (entry_of result.now) }
@@ -83,21 +83,21 @@ impl Pairs {
         Ok(())
     }
 
-    /// The pairs in order, for a loop over them. It takes no memory.
+    /// Returns the pairs in order, for a loop over them.
     pub fn as_slice(&self) -> &[Pair]
         ensures { entries_of result.now ≡ self.now }
     {
         self.items.as_slice()
     }
 
-    /// The pairs themselves, in order. It takes no memory.
+    /// Takes the list apart into its pairs, in order.
     pub fn into_vec(self) -> Vec<Pair>
         ensures { entries_of result.items ≡ self }
     {
         self.items
     }
 
-    /// A copy of the list.
+    /// Returns a copy of the list.
     pub fn copy(&self) -> Result<Pairs, AllocError>
         ensures { IfOk result (λ copy. copy ≡ self.now) }
     {

@@ -16,7 +16,7 @@ impl KeyRange {
     ghost use Rattle.key_bytes.specs.Keys.{after, key_lt};
     ghost use Rattle.key_bytes.specs.Ranges.{has, meets, IsInBoth};
 
-    /// The range of the one key `key`: from it to the key after it.
+    /// Makes the range of the one key `key`: from it to the key after it.
     pub fn single(alloc: Global, key: &Key) -> Result<KeyRange, AllocError>
         ensures { IfOk result (λ range. (range.begin ≡ key.now) × (range.end ≡ after key.now)) }
     {
@@ -26,21 +26,21 @@ impl KeyRange {
         })
     }
 
-    /// Whether no key is in the range: `begin` isn't less than `end`. It takes no memory.
+    /// Tells whether no key is in the range: `begin` isn't less than `end`.
     pub fn is_empty(&self) -> bool
         ensures { result ≡ not (key_lt self.now.begin self.now.end) }
     {
         !self.begin.cmp(&self.end).is_lt()
     }
 
-    /// Whether `key` is in the range. It takes no memory.
+    /// Tells whether `key` is in the range.
     pub fn has(&self, key: &[u8]) -> bool
         ensures { result ≡ has self.now key.now }
     {
         !is_below(key, self.begin.as_slice()) && is_below(key, self.end.as_slice())
     }
 
-    /// Whether some key is in both ranges: the greater begin is less than the lesser end. It takes no memory.
+    /// Tells whether some key is in both ranges: the greater begin is less than the lesser end.
     pub fn meets(&self, other: &KeyRange) -> bool
         ensures value { result ≡ meets self.now other.now }
         ensures common { IsTrue result ↔ ((key : List ℕ) × IsInBoth self.now other.now key) }

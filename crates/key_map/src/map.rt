@@ -42,7 +42,7 @@ impl<V> Model for KeyMap<V> {
 impl<V> KeyMap<V> {
     ghost use Rattle.key_map.specs.Lends.{LendsValue};
 
-    /// The empty map. It takes no memory, and keeps the allocator for what is added later.
+    /// Makes the empty map.
     pub fn new(alloc: Global) -> KeyMap<V>
         ensures { result ≡ finite.empty }
     {
@@ -52,21 +52,21 @@ impl<V> KeyMap<V> {
         }
     }
 
-    /// The value of `key`, if it has one. It takes no memory.
+    /// Returns the value of `key`, if it has one.
     pub fn get(&self, key: &Key) -> Option<&V>
         ensures { option_copied result ≡ finite.get self.now key.now }
     {
         self.tree.get(key)
     }
 
-    /// Whether `key` has a value. It takes no memory.
+    /// Tells whether `key` has a value.
     pub fn contains_key(&self, key: &Key) -> bool
         ensures { result ≡ finite.contains_key self.now key.now }
     {
         self.get(key).is_some()
     }
 
-    /// The value of `key`, if it has one, to write. It takes no memory.
+    /// Returns the value of `key`, if it has one, to write.
     pub fn get_mut(&mut self, key: &Key) -> Option<&mut V>
         // Once the borrow ends the key has what was written last. At `None` the map is unchanged.
         ensures* writes_back { sem 𝓛 (LendsValue V.row self.entry key.now result) }
@@ -100,7 +100,7 @@ impl<V> KeyMap<V> {
         Ok(())
     }
 
-    /// Removes `key`, and answers its value. It takes no memory.
+    /// Removes `key`, and answers its value.
     pub fn remove(&mut self, key: &Key) -> Option<V>
         ensures before { result ≡ finite.get self.old key.now }
         ensures removed { self.new ≡ finite.remove self.old key.now }
@@ -108,8 +108,8 @@ impl<V> KeyMap<V> {
         self.tree.remove(key)
     }
 
-    /// Removes the keys from `begin` up to `end`, `end` left out. It takes no memory. Where there is such a key, it
-    /// goes over the whole map.
+    /// Removes the keys from `begin` up to `end`, `end` left out. Where there is such a key, it goes over the
+    /// whole map.
     pub fn clear_range(&mut self, begin: &Key, end: &Key)
     where
         V: Drop,
@@ -118,7 +118,7 @@ impl<V> KeyMap<V> {
         keep_outside(&mut self.tree, begin, end);
     }
 
-    /// The first pair with a key that is at least `key`. It takes no memory.
+    /// Returns the first pair with a key that is at least `key`.
     pub fn next(&self, key: &Key) -> Option<(&Key, &V)>
         ensures { option_map deref_pair result
             ≡ first (filter (λ e. key_le key.now e.0) (finite.entries self.now)) }
@@ -126,7 +126,7 @@ impl<V> KeyMap<V> {
         self.tree.range(key..).next()
     }
 
-    /// The last pair with a key that is less than `key`. It takes no memory.
+    /// Returns the last pair with a key that is less than `key`.
     pub fn prev(&self, key: &Key) -> Option<(&Key, &V)>
         ensures { option_map deref_pair result
             ≡ last (filter (λ e. key_lt e.0 key.now) (finite.entries self.now)) }
@@ -134,8 +134,8 @@ impl<V> KeyMap<V> {
         self.tree.range(..key).next_back()
     }
 
-    /// The pairs with keys from `begin` up to `end`, `end` left out, in the order of their keys, for a loop over them: one search
-    /// for all of them. It takes no memory.
+    /// Returns an iterator over the pairs with keys from `begin` up to `end`, `end` left out, in the order of
+    /// their keys. It takes one search for all of them.
     pub fn between(&self, begin: &Key, end: &Key) -> Range<'_, Bytes, V>
         requires { IsTrue (key_lt begin.now end.now) }
         ensures between { result ≡ filter (λ e. within begin.now end.now e.0) (finite.entries self.now) }
@@ -144,7 +144,7 @@ impl<V> KeyMap<V> {
         self.tree.range(begin..end)
     }
 
-    /// The pairs themselves, in the order of their keys, for a loop that takes them. It takes no memory.
+    /// Takes the map apart into its pairs, in the order of their keys.
     pub fn into_entries(self) -> IntoIter<Bytes, V, Global>
     where
         V: Drop,
@@ -157,9 +157,9 @@ impl<V> KeyMap<V> {
 }
 
 impl KeyMap<Bytes> {
-    /// The map that these pairs make when they are inserted one by one: of two values of one key the later stays.
-    /// It moves the keys and values, and copies none. Pairs that are already in the order of their keys take two
-    /// comparisons each, and no search.
+    /// Makes the map of these pairs as if they were inserted one by one: of two values of one key the later
+    /// stays. It moves the keys and values, and copies none. Pairs that are already in the order of their keys
+    /// take two comparisons each, and no search.
     pub fn from_pairs(alloc: Global, pairs: Pairs) -> Result<KeyMap<Bytes>, AllocError>
         ensures { IfOk result (λ map. map ≡ inserted pairs finite.empty) }
     {
@@ -171,7 +171,7 @@ impl KeyMap<Bytes> {
         Ok(KeyMap { alloc, tree })
     }
 
-    /// A copy of the pairs, in the order of their keys.
+    /// Returns a copy of the pairs, in the order of their keys.
     pub fn pairs(&self) -> Result<Pairs, AllocError>
         ensures { IfOk result (λ pairs. pairs ≡ finite.entries self.now) }
     {

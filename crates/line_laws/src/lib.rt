@@ -8,8 +8,8 @@
 
 ghost use Rattle.line_laws.specs.Places.{AreOrderPlaces, ArePairPlaces};
 
-/// For proofs: the place that reading gives for a bad line of a pair, and for one of an order, is the length of the line's
-/// longest front. It does nothing when it runs.
+/// Shows to a proof that the place that reading gives for a bad line of a pair, and for one of an order, is the
+/// length of the line's longest front. It does nothing when it runs.
 pub fn bad_places_are_longest_fronts()
     ensures pairs { ArePairPlaces }
     ensures orders { AreOrderPlaces }

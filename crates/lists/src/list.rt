@@ -30,7 +30,7 @@ impl<T> Model for List<T> {
 }
 
 impl<T> List<T> {
-    /// The empty list. It takes no memory, and keeps the allocator for what is added later.
+    /// Makes the empty list.
     pub fn new(alloc: Global) -> List<T>
         ensures { result ≡ [] }
     {
@@ -39,21 +39,21 @@ impl<T> List<T> {
         }
     }
 
-    /// How many items there are. It takes no memory.
+    /// Returns how many items there are.
     pub fn len(&self) -> usize
         ensures { result ≡ length self.now }
     {
         self.items.len()
     }
 
-    /// Whether there is no item. It takes no memory.
+    /// Tells whether there is no item.
     pub fn is_empty(&self) -> bool
         ensures { result ≡ (length self.now == 0) }
     {
         self.items.is_empty()
     }
 
-    /// The item at place `i`, the first at 0. It takes no memory.
+    /// Returns the item at place `i`, the first at 0.
     pub fn get(&self, i: usize) -> &T
         requires { i < length self.now }
         ensures { slice_get self.now i ≡ Some result.now }
@@ -72,7 +72,7 @@ impl<T> List<T> {
         Ok(())
     }
 
-    /// The items in order, for a loop over them. It takes no memory.
+    /// Returns the items in order.
     pub fn as_slice(&self) -> &[T]
         ensures { result.now ≡ self.now }
     {

@@ -8,7 +8,8 @@
 
 ghost use Rattle.prefix_laws.specs.Prefixes.{ArePrefixesApart, RunsArePrefixesApart};
 
-/// For proofs: the numbers that an allocator granted in transactions that committed are apart. It does nothing when it runs.
+/// Shows to a proof that the numbers which an allocator granted in transactions that committed are apart. It
+/// does nothing when it runs.
 pub fn prefixes_are_apart()
     ensures requests { ArePrefixesApart }
     ensures runs { RunsArePrefixesApart }

@@ -6,8 +6,8 @@ ghost use Rattle.range_read.specs.Pages.{capped, full_size, page_size};
 
 use database_rules::Mode;
 
-/// Whether a mode wants a limit that is not there: a read of a range is then refused with 2210 (API reference of release
-/// 6.3, "fdb_transaction_get_range", `EXACT`). It takes no memory.
+/// Tells whether a mode wants a limit that is not there: a read of a range is then refused with 2210 (API
+/// reference of release 6.3, "fdb_transaction_get_range", `EXACT`).
 pub fn lacks_limit(mode: Mode, limit: u32) -> bool
     ensures { result ≡ lacks_limit mode limit }
 {

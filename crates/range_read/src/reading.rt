@@ -44,10 +44,11 @@ fn goes_on<V: OrderedView>(
     Ok(first_inside(view, left, reverse)?.is_some())
 }
 
-/// The pairs of `range` that `view` has, in the order of their keys, or in the other order where `reverse` holds; of
-/// these the first `limit`, or all where it is 0 (API reference of release 6.3, "fdb_transaction_get_range"). There are
-/// none where the range's begin isn't less than its end. NoLimit exactly where the mode is `Exact` and the limit is 0;
-/// else the mode changes nothing. NoMemory where memory runs out.
+/// Returns the pairs of `range` that `view` has, in the order of their keys, or in the other order where
+/// `reverse` holds; of these the first `limit`, or all where it is 0 (API reference of release 6.3,
+/// "fdb_transaction_get_range"). There are none where the range's begin isn't less than its end. NoLimit
+/// exactly where the mode is `Exact` and the limit is 0; else the mode changes nothing. NoMemory where memory
+/// runs out.
 pub fn all<V: OrderedView>(
     view: &V,
     range: &KeyRange,
@@ -65,12 +66,12 @@ pub fn all<V: OrderedView>(
     Ok(taken.pairs)
 }
 
-/// The first page of the slice that `all` answers: its first pairs, as many as the mode, the limit and the turn say
-/// (`page_size`), or all where there are no more; and whether the slice has pairs behind these (API reference of release
-/// 6.3, "fdb_transaction_get_range", streaming modes). Where more follow, the slice is the page followed by the slice of
-/// what is left: from the key after the page's last key to the end, or in reverse from the begin to the last key, with
-/// the limit less so many pairs. Turns are counted from 1. NoLimit exactly where the mode is `Exact` and the limit is 0.
-/// NoMemory where memory runs out.
+/// Returns the first page of the slice that `all` answers: its first pairs, as many as the mode, the limit and
+/// the turn say (`page_size`), or all where there are no more; and whether the slice has pairs behind these
+/// (API reference of release 6.3, "fdb_transaction_get_range", streaming modes). Where more follow, the slice
+/// is the page followed by the slice of what is left: from the key after the page's last key to the end, or in
+/// reverse from the begin to the last key, with the limit less so many pairs. Turns are counted from 1. NoLimit
+/// exactly where the mode is `Exact` and the limit is 0. NoMemory where memory runs out.
 pub fn page<V: OrderedView>(
     view: &V,
     range: &KeyRange,

@@ -80,10 +80,11 @@ fn start_key(selector: &Selector) -> Result<Key, AllocError>
     }
 }
 
-/// The key that a selector means among the keys of `view`: with c keys that are less than the selector's key, or less
-/// than or equal to it where `or_equal` holds, the key at place c - 1 + offset, counted from 0; the empty key where that
-/// place is negative, and `FF` where it is behind the last key (API reference of release 6.3, "Key selectors"). It makes
-/// no more steps than there are keys on the way. An error where memory runs out.
+/// Returns the key that a selector means among the keys of `view`: with c keys that are less than the
+/// selector's key, or less than or equal to it where `or_equal` holds, the key at place c - 1 + offset, counted
+/// from 0; the empty key where that place is negative, and `FF` where it is behind the last key (API reference
+/// of release 6.3, "Key selectors"). It makes no more steps than there are keys on the way. An error where
+/// memory runs out.
 pub fn resolve<V: OrderedView>(
     alloc: Global,
     view: &V,

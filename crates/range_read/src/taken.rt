@@ -15,7 +15,7 @@ pub struct Taken {
 }
 
 impl Taken {
-    /// No pair of a range, of which all is left.
+    /// Makes what takes no pair of a range, of which all is left.
     pub fn none(range: &KeyRange) -> Result<Taken, AllocError>
         ensures pairs { IfOk result (λ taken. taken.pairs ≡ []) }
         ensures left { IfOk result (λ taken. taken.left ≡ range.now) }

@@ -20,18 +20,19 @@ pub trait OrderedView {
     // the database that is seen
     ghost map: { Self → Database };
 
-    /// The first pair with a key that is at least `key`, copied. None exactly where there is none.
+    /// Returns the first pair with a key that is at least `key`, copied. None exactly where there is none.
     fn next(&self, key: &Key) -> Result<Option<Pair>, AllocError>
         ensures { IfOk result (λ pair. option_map entry_of pair
             ≡ first (filter (λ e. key_le key.now e.0) (finite.entries (map self.now)))) };
 
-    /// The last pair with a key that is less than `key`, copied. None exactly where there is none.
+    /// Returns the last pair with a key that is less than `key`, copied. None exactly where there is none.
     fn prev(&self, key: &Key) -> Result<Option<Pair>, AllocError>
         ensures { IfOk result (λ pair. option_map entry_of pair
             ≡ last (filter (λ e. key_lt e.0 key.now) (finite.entries (map self.now)))) };
 
-    /// Some first pairs of a range, copied, as a walk through it meets them, up to a limit, and what is left of the range
-    /// behind them; a limit of 0 is none. They are those that the view comes to without a search for each, which may be none.
+    /// Returns first pairs of a range, copied, in the order of a walk through it, up to a limit, and what is
+    /// left of the range behind them; a limit of 0 is none. Returns only pairs that the view reaches without a
+    /// search of its own for each; it may return none.
     fn run(&self, range: &KeyRange, limit: u32, down: bool) -> Result<Taken, AllocError>
         ensures whole { IfOk result (λ taken. taken.pairs ++ span (map self.now) taken.left.begin taken.left.end down
             ≡ span (map self.now) range.now.begin range.now.end down) }

@@ -82,7 +82,7 @@ fn left_behind(range: KeyRange, key: &Key, down: bool) -> Result<KeyRange, Alloc
     }
 }
 
-/// Whether so many pairs reach a limit; 0 is no limit.
+/// Tells whether so many pairs reach a limit; 0 is no limit.
 pub fn is_full(limit: u32, taken: usize) -> bool
     ensures full { result ≡ true → (0 < limit) × (limit ≤ taken) }
     ensures room { result ≡ false → 0 < limit → taken < limit }

@@ -34,8 +34,8 @@ fn after_edit(
     atomic_ops::apply(alloc, edit.op, old, edit.operand.as_slice())
 }
 
-/// What atomic operations make of a value, in their order; those with a versionstamp change nothing before the commit.
-/// The value itself is copied only where there is no operation.
+/// Applies atomic operations to a value, in their order, and returns what comes of it; those with a
+/// versionstamp change nothing before the commit. The value itself is copied only where there is no operation.
 pub fn applied(
     alloc: Global,
     edits: &[AtomicEdit],

@@ -90,8 +90,9 @@ fn left_of(pairs: Pairs, begin: Key, range: &KeyRange) -> Result<Taken, AllocErr
 }
 
 impl<'a> NearView<'a> {
-    /// A view for a walk up from a key, or down from it. It remembers the keys from there up to the first edge above, or
-    /// down to the last edge below, where no mutation touches them. An error where memory runs out.
+    /// Makes a view for a walk up from a key, or down from it. It remembers the keys from there up to the first
+    /// edge above, or down to the last edge below, where no mutation touches them. An error where memory runs
+    /// out.
     pub fn new(view: View<'a>, key: &Key, down: bool) -> Result<NearView<'a>, AllocError>
         ensures { IfOk result (λ near. seen near.view.edits.now.mutations (at near.view.store.now near.view.version)
             ≡ seen view.entry.edits.now.mutations (at view.entry.store.now view.entry.version)) }

@@ -13,7 +13,7 @@ use key_bytes::{Bytes, Key};
 use version_store::PairsLeft;
 
 impl<'a> View<'a> {
-    /// The value that is stored under a key, if there is one. It takes no memory.
+    /// Returns the value that is stored under a key, if there is one.
     pub fn stored(&self, key: &Key) -> Option<&'a [u8]>
         ensures { option_copied result ≡ finite.get (stored_of self.now) key.now }
     {
@@ -24,8 +24,8 @@ impl<'a> View<'a> {
         }
     }
 
-    /// The pairs that are stored from a key on, up to an edge of the mutations where one is given, in the order of their keys, for
-    /// a loop over them: one search of the store. It takes no memory.
+    /// Returns an iterator over the pairs that are stored from a key on, up to an edge of the mutations where
+    /// one is given, in the order of their keys. It takes one search of the store.
     pub fn stored_from(&self, from: &Key, edge: Option<&Key>) -> PairsLeft<'a>
         ensures { result ≡ stored_between (stored_of self.now) from.now (option_copied edge.entry) }
     {

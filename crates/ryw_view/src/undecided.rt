@@ -13,8 +13,8 @@ use key_bytes::{Key, KeyRange};
 use std::alloc::AllocError;
 use write_map::{KeyState, WriteMap};
 
-/// What the mutations make of a key, and how far all keys from it on are alike: up to an edge below the end of a range, or, where
-/// no edge is given, up to that end. It takes no memory, and one search.
+/// Returns what the mutations make of a key, and how far all keys from it on are alike: up to an edge below the
+/// end of a range, or, where no edge is given, up to that end. It takes no memory, and one search.
 pub fn around_below<'a>(
     edits: &'a WriteMap,
     from: &Key,
@@ -94,9 +94,10 @@ pub fn add_undecided(
     }
 }
 
-/// Whether a mutation with a versionstamp makes a key of a range unreadable, so that the range can't be read (API reference of
-/// release 6.3, "fdb_transaction_atomic_op"). It takes no memory. Where no mutation has a versionstamp it searches nothing;
-/// else it is one walk along the edges of the mutations that lie in the range, with one search for each.
+/// Tells whether a mutation with a versionstamp makes a key of a range unreadable, so that the range can't be
+/// read (API reference of release 6.3, "fdb_transaction_atomic_op"). Where no mutation has a versionstamp it
+/// searches nothing; else it is one walk along the edges of the mutations that lie in the range, with one
+/// search for each.
 pub fn hides(edits: &WriteMap, range: &KeyRange) -> bool
     ensures { result ≡ list_any (meets range.now) (unreadable edits.now.mutations) }
 {

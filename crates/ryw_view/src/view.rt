@@ -30,9 +30,9 @@ impl<'a> View<'a> {
     ghost use Rattle.write_map.specs.Answers.{IsStateUnder};
     ghost use Rattle.ryw_view.specs.Faults.{IsUnread};
 
-    /// The value of a key as the transaction sees it: that of the store at the version, after the transaction's own
-    /// mutations. Unreadable exactly where a mutation with a versionstamp makes the key unreadable, whatever is set or
-    /// cleared behind it. NoMemory where memory runs out.
+    /// Returns the value of a key as the transaction sees it: that of the store at the version, after the
+    /// transaction's own mutations. Unreadable exactly where a mutation with a versionstamp makes the key
+    /// unreadable, whatever is set or cleared behind it. NoMemory where memory runs out.
     pub fn get(&self, key: &Key) -> Result<Option<Bytes>, ViewFault>
         ensures value { IfOk result (λ value. value ≡ finite.get
             (seen self.now.edits.now.mutations (at self.now.store.now self.now.version)) key.now) }

@@ -36,8 +36,8 @@ impl Model for Directories {
 }
 
 impl Directories {
-    /// A machine's list at its start: the default layer alone, which is the current object. It is refused for want of memory
-    /// alone.
+    /// Makes a machine's list at its start: the default layer alone, which is the current object. It is refused
+    /// for want of memory alone.
     pub fn new(alloc: Global) -> Result<Directories, AllocError>
         ensures { IfOk result (λ directories. directories ≡ first_directories) }
     {
@@ -59,35 +59,35 @@ impl Directories {
         Ok(())
     }
 
-    /// The current object is that of this index from now on. It takes no memory.
+    /// Makes the object of this index the current one.
     pub fn choose(&mut self, index: usize)
         ensures { self.new ≡ record self.old { index = index } }
     {
         self.index = index;
     }
 
-    /// This index is taken in place of that of a null object from now on. It takes no memory.
+    /// Sets the error index: the one that is taken from now on in place of that of a null object.
     pub fn fall_to(&mut self, index: usize)
         ensures { self.new ≡ record self.old { error_index = index } }
     {
         self.error_index = index;
     }
 
-    /// The index of the current object. It takes no memory.
+    /// Returns the index of the current object.
     pub fn index(&self) -> usize
         ensures { result ≡ self.now.index }
     {
         self.index
     }
 
-    /// The index that is taken in place of that of a null object. It takes no memory.
+    /// Returns the index that is taken in place of that of a null object.
     pub fn error_index(&self) -> usize
         ensures { result ≡ self.now.error_index }
     {
         self.error_index
     }
 
-    /// The current object, or this one where the list has none of its index. It takes no memory.
+    /// Returns the current object, or this one where the list has none of its index.
     pub fn current_or<'a>(&'a self, other: &'a Object) -> &'a Object
         ensures { result.now ≡ unwrap_or (slice_get self.now.objects self.now.index) other.now }
     {
@@ -97,7 +97,7 @@ impl Directories {
         }
     }
 
-    /// The object of an index. It takes no memory.
+    /// Returns the object of an index.
     pub fn at(&self, index: usize) -> &Object
         requires { index < length self.now.objects }
         ensures { slice_get self.now.objects index ≡ Some result.now }
@@ -105,7 +105,7 @@ impl Directories {
         &self.objects[index]
     }
 
-    /// The index that a number from 0 upward is, where the list has an object of it. It takes no memory.
+    /// Returns the index that a number from 0 upward is, where the list has an object of it.
     pub fn index_in(&self, number: u128) -> Option<usize>
         ensures { MatchOption result (slice_get self.now.objects number ≡ None)
             (λ index. (index ≡ number) × (index < length self.now.objects)) }
@@ -117,7 +117,7 @@ impl Directories {
         }
     }
 
-    /// The object of the index that an integer is, where the list has one. It takes no memory.
+    /// Returns the object of the index that an integer is, where the list has one.
     pub fn object_at(&self, number: i128) -> Option<&Object>
         ensures { option_map (λ object. object.now) result ≡ object_at self.now.objects number }
     {

@@ -8,7 +8,8 @@ use itoa::Buffer;
 use key_bytes::Bytes;
 use std::alloc::{AllocError, Global};
 
-/// The name of a fault, without what it carries; of a code its digits. It is refused for want of memory alone.
+/// Returns the name of a fault, without what it carries; of a code its digits. It is refused for want of memory
+/// alone.
 pub fn fault_name(alloc: Global, fault: &DirFault) -> Result<Bytes, AllocError>
     ensures { IfOk result (λ name. name ≡ fault_name fault.now) }
 {
@@ -33,7 +34,7 @@ pub fn fault_name(alloc: Global, fault: &DirFault) -> Result<Bytes, AllocError>
     }
 }
 
-/// The digits of a code. It is refused for want of memory alone.
+/// Returns the digits of a code. It is refused for want of memory alone.
 pub fn digits_of(alloc: Global, code: u16) -> Result<Bytes, AllocError>
     ensures { IfOk result (λ digits. digits ≡ decimal code) }
 {

@@ -85,7 +85,8 @@ fn add_names(path: &mut Path, names: &[Text]) -> Result<(), AllocError>
     Ok(())
 }
 
-/// The directory of a layer, as it was opened: it has copies of these. It is refused for want of memory alone.
+/// Makes the directory of a layer as it was opened, with copies of these. It is refused for want of memory
+/// alone.
 pub fn directory_of(
     alloc: Global,
     layer: &Layer,

@@ -20,9 +20,10 @@ use machine_rules::{DirectoryOperation, Object, Scope};
 use stack_items::{Operands, StackFault};
 use std::alloc::Global;
 
-/// What an operation in its scope comes to, where this is the current name, by its operands. Where there is no item it answers
-/// Underflow; where an operand is of another kind it answers Operand, and the look came past it; where an item waits that is to
-/// be popped it answers Waits; where memory runs out it answers NoMemory. The directories stay as they are.
+/// Returns what an operation in its scope comes to, where this is the current name, by its operands. Where
+/// there is no item it answers Underflow; where an operand is of another kind it answers Operand, and the look
+/// came past it; where an item waits that is to be popped it answers Waits; where memory runs out it answers
+/// NoMemory. The directories stay as they are.
 #[tactic(auto, unfolding(machine_rules::specs::Directories::directed))]
 pub fn directed(
     operands: &mut Operands<'_>,

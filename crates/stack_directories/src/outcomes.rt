@@ -42,7 +42,7 @@ pub enum ListFault {
 }
 
 impl ListFault {
-    /// The name that is noted of the fault. It takes no memory.
+    /// Returns the name that is noted of the fault.
     pub fn name(self) -> &'static [u8]
         ensures { result.now ≡ name_of self }
     {
