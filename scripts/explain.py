@@ -1,0 +1,229 @@
+"""explain.py SCRIPT DUMP: prints what a script of the bindings tester did, as its dump tells it, for a person.
+
+SCRIPT is what `fdbtester run` or `replay` read, DUMP what it wrote. Printed are each machine's instructions by number,
+each beside what it left on the stack at the end and the errors that were noted at it; where and how each machine ended;
+the order in which requests were taken; and the pairs of the database beside the instructions. It reads and prints, and
+judges nothing.
+"""
+
+import collections
+import re
+import signal
+import sys
+from typing import NamedTuple
+
+from tuple_layer import NotATuple, pack, readable, unpack, unprintable
+
+# The names of the API reference, "Error Codes".
+ERRORS = {
+    1007: "transaction_too_old",
+    1009: "future_version",
+    1020: "not_committed",
+    1021: "commit_unknown_result",
+    1025: "transaction_cancelled",
+    1036: "accessed_unreadable",
+    1037: "process_behind",
+    2000: "client_invalid_operation",
+    2004: "key_outside_legal_range",
+    2005: "inverted_range",
+    2010: "read_version_already_set",
+    2011: "version_invalid",
+    2017: "used_during_commit",
+    2018: "invalid_mutation_type",
+    2021: "no_commit_version",
+    2101: "transaction_too_large",
+    2102: "key_too_large",
+    2103: "value_too_large",
+    2210: "exact_mode_without_limits",
+}
+
+ENDS = {
+    "ended": "ended after {} instructions",
+    "bad-instruction": "stopped at instruction {}: it is no instruction, or has an operand of a wrong kind or range",
+    "underflow": "stopped at instruction {}: the stack lacks an operand",
+    "wait-bound": "stopped at instruction {}: it waited in vain, for as many polls as --polls says",
+    "machine-limit": "stopped at instruction {}: 64 machines were started already",
+}
+
+# How many characters of a value are printed before the rest is left out.
+WIDEST = 160
+
+
+class Machine(NamedTuple):
+    """What a dump says of a machine: how it ended, its prefix, its items and its errors by instruction."""
+
+    end: str
+    number: int
+    prefix: bytes
+    items: dict
+    errors: dict
+
+
+class Dump(NamedTuple):
+    """The lines of a dump."""
+
+    machines: list
+    order: list
+    pairs: dict
+
+
+def pair_of(fields):
+    """Splits the fields of a K line into key and value."""
+    key, _, value = re.match(r"((?:[^\\]|\\\\|\\x..)*)(\\=)(.*)", fields, re.S).groups()
+    return unprintable(key), unprintable(value)
+
+
+def lines_of(path):
+    """Yields the kind and the fields of each line of a file."""
+    with open(path, encoding="latin-1", newline="\n") as file:
+        for line in file:
+            yield line[0], line[2:].rstrip("\n")
+
+
+def read_pairs(path):
+    """Reads the pairs of a script; of two lines with one key the later stays."""
+    return dict(pair_of(fields) for kind, fields in lines_of(path) if kind == "K")
+
+
+def read_dump(path):
+    """Reads a dump."""
+    dump = Dump([], [], {})
+    for kind, fields in lines_of(path):
+        if kind == "M":
+            _, end, number, prefix = fields.split(" ", 3)
+            dump.machines.append(Machine(end, int(number), unprintable(prefix), collections.defaultdict(list), collections.defaultdict(list)))
+        elif kind == "S":
+            machine, place, number, item = fields.split(" ", 3)
+            dump.machines[int(machine)].items[int(number)].append((int(place), unprintable(item)))
+        elif kind == "E":
+            machine, number, word = fields.split(" ", 2)
+            dump.machines[int(machine)].errors[int(number)].append(word)
+        elif kind == "O":
+            dump.order.append(int(fields))
+        elif kind == "K":
+            key, value = pair_of(fields)
+            dump.pairs[key] = value
+    return dump
+
+
+def cut(text):
+    """Returns a text, or the first of it where it is long."""
+    return text if len(text) <= WIDEST else f"{text[:WIDEST]}.. ({len(text)} characters)"
+
+
+def bytes_text(string):
+    """Returns bytes as they are, and beside them the tuple that they pack, where they seem to be one."""
+    try:
+        found = unpack(string)
+    except NotATuple:
+        found = ()
+    seems_packed = found and None not in found and found[0] != b"" and found[0] != ""
+    return cut(f"{string!r}, packs {readable(found)}" if seems_packed else repr(string))
+
+
+def item_text(string):
+    """Returns the packed item of an S line as a person writes it."""
+    if string == b"*":
+        return "(still waits)"
+    element = unpack(string)[0]
+    if isinstance(element, bytes):
+        try:
+            found = unpack(element)
+        except NotATuple:
+            found = ()
+        if found[:1] == (b"ERROR",) and len(found) == 2:
+            return f"error {error_text(found[1].decode())}"
+        return bytes_text(element)
+    return cut(readable(element))
+
+
+def error_text(word):
+    """Returns the code of an error with its name."""
+    name = ERRORS.get(int(word)) if word.isdigit() else None
+    return f"{word} {name}" if name else word
+
+
+def instruction_text(value):
+    """Returns an instruction as a person writes it, or says that it is none."""
+    try:
+        name, *elements = unpack(value)
+        name = name.decode() if isinstance(name, bytes) else name
+        return cut(" ".join([str(name), *map(readable, elements)]))
+    except (NotATuple, ValueError, UnicodeDecodeError):
+        return f"(no instruction: {cut(repr(value))})"
+
+
+def instructions_of(pairs, prefix):
+    """Returns the keys and values of the instructions under a prefix, in order."""
+    front = pack((prefix,))
+    return sorted((key, value) for key, value in pairs.items() if front + b"\x00" <= key < front + b"\xff")
+
+
+def notes_of(machine, number):
+    """Returns what is noted beside an instruction: the items that it left, and the errors that these don't tell."""
+    left = [f"leaves [{place}] {item_text(item)}" for place, item in machine.items.get(number, [])]
+    errors = [f"error {error_text(word)}" for word in machine.errors.get(number, [])]
+    return left + [it for it in errors if not any(note.endswith(it) for note in left)]
+
+
+def machine_lines(number, machine, pairs):
+    """Yields the lines on one machine."""
+    yield f"machine {number}, prefix {machine.prefix!r}: {ENDS[machine.end].format(machine.number)}"
+    stopped = machine.number if machine.end != "ended" else None
+    for place, (_, value) in enumerate(instructions_of(pairs, machine.prefix)):
+        front = f"  {'>' if place == stopped else ' '}{place:4}  {instruction_text(value)}"
+        notes = notes_of(machine, place)
+        yield f"{front:<44}  {notes[0]}" if notes else front
+        for note in notes[1:]:
+            yield f"{'':<44}  {note}"
+        if place == stopped:
+            return
+
+
+def order_lines(order):
+    """Yields the lines on the order: runs of places of one machine, with its requests, counted from 0."""
+    taken, begin = collections.Counter(), 0
+    for place, machine in enumerate(order):
+        if place + 1 < len(order) and order[place + 1] == machine:
+            continue
+        first, count = taken[machine], place + 1 - begin
+        taken[machine] += count
+        places = f"{begin + 1}" if count == 1 else f"{begin + 1} to {place + 1}"
+        requests = f"request {first}" if count == 1 else f"requests {first} to {first + count - 1}"
+        yield f"  {places}: machine {machine}, its {requests}"
+        begin = place + 1
+
+
+def database_lines(dump, pairs):
+    """Yields the lines on the database: its pairs beside the instructions, and the keys of the script that are gone."""
+    own = {key for machine in dump.machines for key, _ in instructions_of(pairs, machine.prefix)}
+    for key, value in dump.pairs.items():
+        if key not in own or pairs[key] != value:
+            yield f"  {bytes_text(key)} = {bytes_text(value)}"
+    for key in pairs:
+        if key not in dump.pairs:
+            yield f"  {bytes_text(key)} is gone"
+
+
+def explained(pairs, dump):
+    """Yields the lines of the whole explanation."""
+    for number, machine in enumerate(dump.machines):
+        yield from machine_lines(number, machine, pairs)
+        yield ""
+    yield f"order of requests, {len(dump.order)} places:"
+    yield from order_lines(dump.order)
+    yield ""
+    yield "database beside the instructions:"
+    yield from database_lines(dump, pairs)
+
+
+def main(words):
+    if len(words) != 2:
+        sys.exit(__doc__)
+    signal.signal(signal.SIGPIPE, signal.SIG_DFL)
+    for line in explained(read_pairs(words[0]), read_dump(words[1])):
+        print(line)
+
+
+if __name__ == "__main__":
+    main(sys.argv[1:])
