@@ -136,8 +136,7 @@ impl Core {
 
     /// Takes a request of a machine: its step in the world, and the reply that is fixed there. The random words are those
     /// of the world, and those that are left are the ones behind the drawn ones; only calls of directory layers draw any.
-    /// NoMemory comes for want of memory alone, nothing is said of the core and of the words then, and each further request
-    /// is answered so too.
+    /// After NoMemory nothing is promised of what the core holds and of the words that are left; the request counts as applied.
     pub fn apply<W: Words>(&mut self, _machine: u16, request: &Request, words: &mut W) -> Reply
         requires { self.old.applied < 2 ^ 62 }
         ensures step { (world : World) → StandsFor self.old world → HasWords world (W.words words.old)
@@ -147,6 +146,7 @@ impl Core {
         ensures started { HasStarted (start_prefix request.now) result self.old.started self.new.started }
     {
         self.contents.applied += 1;
+        // What stands after want of memory isn't known, so a core that ran out of it takes no further step.
         if self.is_out_of_memory {
             return Reply::NoMemory;
         }

@@ -62,8 +62,7 @@ impl Txn {
         }
     }
 
-    // The checks of a commit, and whether there is anything to write. A transaction that goes on to its version takes it. It
-    // takes no memory.
+    // The checks of a commit, and whether there is anything to write. A transaction that goes on to its version takes it.
     pub(crate) fn judge(&mut self, store: &Store, index: &WriteIndex) -> Result<Verdict, TrFault>
         ensures verdict { (setting : Setting) (t : rules.Transaction) → StandsFor self.old t → Keeps store.now index.now setting
             → Judged result (StandsFor self.new) setting t }

@@ -54,7 +54,7 @@ impl Txn {
         Ok(())
     }
 
-    // Lets the next write declare nothing. It takes no memory.
+    // Lets the next write declare nothing.
     #[tactic(auto, unfolding(database_rules::specs::Transactions::phase_code))]
     pub(crate) fn no_write_conflict(&mut self) -> Result<(), TrFault>
         ensures { Calls (λ _. reply.Done) result self.old self.new no_write_conflict_called }

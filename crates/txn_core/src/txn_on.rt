@@ -40,7 +40,7 @@ pub struct TxnOn<'a> {
 impl TxnOn<'_> {
     /// The checks of a commit, the first that fails by its code: 2101 where the mutations have too many bytes, 1009 where
     /// the read version is above the last one, 1020 exactly where a commit after it declared a key that the transaction rests
-    /// on; then whether there is anything to write. A transaction that goes on to its version takes it. It takes no memory.
+    /// on; then whether there is anything to write. A transaction that goes on to its version takes it.
     pub fn judge(&mut self) -> Result<Verdict, TrFault>
         ensures verdict { (setting : Setting) (t : Transaction) → StandsFor self.old.txn.now t → Keeps self.old.store.now self.old.index.now setting
             → Judged result (StandsFor self.new.txn.now) setting t }
@@ -166,7 +166,7 @@ impl TxnOn<'_> {
     }
 
     /// The read version, which is taken where there is none; it may be above the last one
-    /// (`fdb_transaction_get_read_version`). It takes no memory.
+    /// (`fdb_transaction_get_read_version`).
     pub fn read_version(&mut self) -> Result<u64, TrFault>
         ensures answer { (setting : Setting) (t : Transaction) → StandsFor self.old.txn.now t → Keeps self.old.store.now self.old.index.now setting
             → Answered (λ version. reply.Version (pos version)) result (StandsFor self.new.txn.now) t (read_version_called setting t) }
@@ -178,7 +178,7 @@ impl TxnOn<'_> {
     }
 
     /// Sets the read version (`fdb_transaction_set_read_version`): 2010 where it is set or taken, and 2011 where the version
-    /// isn't above 0. It takes no memory.
+    /// isn't above 0.
     pub fn set_read_version(&mut self, version: i64) -> Result<(), TrFault>
         ensures answer { (t : Transaction) → StandsFor self.old.txn.now t
             → Answered (λ _. reply.Done) result (StandsFor self.new.txn.now) t (set_read_version_called t version) }

@@ -19,7 +19,7 @@ use fdb_calls::{Outcome, TrFault};
 use version_store::Store;
 
 impl Txn {
-    // Takes the read version, and answers it, also where it is above the last one. It takes no memory.
+    // Takes the read version, and answers it, also where it is above the last one.
     #[tactic(auto, unfolding(database_rules::specs::Transactions::phase_code))]
     pub(crate) fn read_version(&mut self, store: &Store) -> Result<u64, TrFault>
         ensures { (index : Index) (setting : Setting) → Keeps store.now index setting
@@ -33,7 +33,7 @@ impl Txn {
         Ok(version)
     }
 
-    // Sets the read version. It takes no memory.
+    // Sets the read version.
     pub(crate) fn set_read_version(&mut self, version: i64) -> Result<(), TrFault>
         ensures { Calls (λ _. reply.Done) result self.old self.new (λ t. set_read_version_called t version) }
     {
