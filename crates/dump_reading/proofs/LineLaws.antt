@@ -7,6 +7,7 @@ use Rattle.line_rules.specs.Printing.{printable, separator, machine_line, item_l
 use Rattle.line_rules.specs.Reading.{Entry, Flaw, Bad, Fault, start, size_of, pair_at, joined, lines_of, is_pair, line_limit}
 use Rattle.line_rules.specs.Reading as reading
 use Rattle.input_rules.proofs.Machines.{choice_ok}
+use Rattle.input_rules.specs.Orders.{last_machine}
 use Rattle.dump_text.specs.declared.line.Line.{Line}
 use Rattle.dump_text.specs.declared.line.Line.TheVariants as line
 use Rattle.dump_text.specs.Ends.{word_of}
@@ -135,9 +136,9 @@ order_ended machine (byte ∷ rest) value e = absurd cc
 order_was : (fields : List ℕ) (value : Line) → order_fields fields ≡ Ok value → AreFields 79 fields value
 unfolding order_fields
 order_was fields value e =
-    let a = bind_ok (number_field greatest_machine fields) (λ machine. order_up_to machine.0 machine.1) value e in
+    let a = bind_ok (number_field last_machine fields) (λ machine. order_up_to machine.0 machine.1) value e in
     let ended = order_ended a.0.0 a.0.1 value a.2 in
-    let machine = number_field_was greatest_machine fields a.0 (omega arith) a.1 in
+    let machine = number_field_was last_machine fields a.0 (omega arith) a.1 in
     subst (AreFields 79 fields) ended.1 (record {
       spelled = one_field 79 fields (decimal a.0.0) a.0.1 machine.0 ended.0;
       lawful = machine.1;

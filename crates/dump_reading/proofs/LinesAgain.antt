@@ -10,7 +10,7 @@ use Rattle.line_rules.specs.Reading.{Entry, Fault, start, size_of, pair_at, join
 use Rattle.line_rules.specs.Reading as reading
 use Rattle.line_rules.proofs.Lines.{IsFeedless, IsFeedless-append, whole_first}
 use Rattle.line_rules.proofs.ReadLines as pairs
-use Rattle.input_rules.specs.Orders.{is_digit}
+use Rattle.input_rules.specs.Orders.{is_digit, last_machine}
 use Rattle.dump_text.specs.declared.line.EndWord.{EndWord}
 use Rattle.dump_text.specs.declared.line.EndWord.TheVariants as ends
 use Rattle.dump_text.specs.declared.line.Line.{Line}
@@ -102,7 +102,7 @@ feedless_content (line.E machine instruction word) h =
     let letters = feedless_by is_word letter_is_no_feed word h.2.letters in
     let numbered = feedless_field (decimal instruction) word (feedless_decimal greatest_number instruction h.1 (omega arith)) letters in
     (refl, (refl, feedless_field (decimal machine) (decimal instruction ++ spaced word) (feedless_decimal greatest_machine machine h.0 (omega arith)) numbered))
-feedless_content (line.O machine) h = (refl, (refl, feedless_decimal greatest_machine machine h (omega arith)))
+feedless_content (line.O machine) h = (refl, (refl, feedless_decimal last_machine machine h (omega arith)))
 feedless_content (line.K key value) h =
     let front = IsFeedless-append (printable key) separator (feedless_printable key) (refl, (refl, tt)) in
     (refl, (refl, IsFeedless-append (printable key ++ separator) (printable value) front (feedless_printable value)))
@@ -154,12 +154,12 @@ error_again machine instruction word h =
       word_field_again word h.2,
     ) refl
 
-order_again : (machine : ℕ) → machine ≤ greatest_machine → order_fields (spaced (decimal machine)) ≡ Ok (line.O machine)
+order_again : (machine : ℕ) → machine ≤ last_machine → order_fields (spaced (decimal machine)) ≡ Ok (line.O machine)
 unfolding order_fields
 order_again machine h =
-    let field : number_field greatest_machine (spaced (decimal machine)) ≡ Ok (machine, []) =
-    ap (λ (x : List ℕ). number_field greatest_machine (spaced x)) (sym (append-nil (decimal machine)))
-    ∙ number_field_again greatest_machine machine [] (omega arith) h refl in
+    let field : number_field last_machine (spaced (decimal machine)) ≡ Ok (machine, []) =
+    ap (λ (x : List ℕ). number_field last_machine (spaced x)) (sym (append-nil (decimal machine)))
+    ∙ number_field_again last_machine machine [] (omega arith) h refl in
     rw field refl
 
 first_of_one : (first : Result Entry Fault) (rest : Result (List Entry) Fault) (entry : Entry) → joined first rest ≡ Ok (entry ∷ [])

@@ -26,6 +26,10 @@ kinds_out_of_order : dump_in (codes "O 1" ++ 10 ∷ codes "E 1 2 1020" ++ 10 ∷
 unfolding dump_in read_lines read_line value_at order_fields number_field number_at value_after behind lines_of
 kinds_out_of_order = refl
 
-one_place : dump_in (codes "O 65535" ++ 10 ∷ []) ≡ Ok (line.O 65535 ∷ [])
+one_place : dump_in (codes "O 63" ++ 10 ∷ []) ≡ Ok (line.O 63 ∷ [])
 unfolding dump_in read_lines read_line value_at order_fields number_field number_at value_after behind lines_of
 one_place = refl
+
+place_too_great : dump_in (codes "O 64" ++ 10 ∷ []) ≡ Err (BadLine 1 2)
+unfolding dump_in read_lines read_line value_at order_fields number_field number_at value_after behind lines_of
+place_too_great = refl

@@ -5,12 +5,13 @@ use Rattle.key_bytes.specs.Keys.{IsByteString}
 use Rattle.line_rules.specs.Inputs.{IsSmall}
 use Rattle.line_rules.specs.Reading.{Flaw, Bad, Entry, Fault, TooMany, TooLong, Place, start, next_place, fault_of, pair_at, is_too_many, lines_of, input_limit, pairs_limit, line_limit}
 use Rattle.line_rules.specs.Reading as reading
+use Rattle.input_rules.specs.Orders.{last_machine}
 use Rattle.dump_text.specs.declared.line.Line.{Line}
 use Rattle.dump_text.specs.declared.line.Line.TheVariants as line
 use Rattle.dump_text.specs.Lines.{line_of}
 use Rattle.dump_reading.specs.Fields.{◌>>=◌, number_field, end_field, word_field, text_field, is_word}
 
--- the greatest number of a machine in a dump, and of anything else
+-- the greatest number of a machine in a line of another kind than the order's, and of anything else
 abbrev pub greatest_machine : ℕ
 greatest_machine = 65535
 
@@ -47,9 +48,10 @@ abbrev pub order_up_to : ℕ → List ℕ → Result Line ℕ
 order_up_to machine [] = Ok (line.O machine)
 order_up_to machine (byte ∷ rest) = Err (length (byte ∷ rest))
 
+-- a machine of the order is one that an input's order may name
 unfoldable pub order_fields : List ℕ → Result Line ℕ
 order_fields bytes = do
-  machine ← number_field greatest_machine bytes
+  machine ← number_field last_machine bytes
   order_up_to machine.0 machine.1
 
 -- ---- one line
@@ -152,7 +154,7 @@ IsLawful (line.M machine end number prefix) = (machine ≤ greatest_machine) × 
 IsLawful (line.S machine place instruction packed) =
     (machine ≤ greatest_machine) × (place ≤ greatest_number) × (instruction ≤ greatest_number) × IsByteString packed
 IsLawful (line.E machine instruction word) = (machine ≤ greatest_machine) × (instruction ≤ greatest_number) × IsWord word
-IsLawful (line.O machine) = machine ≤ greatest_machine
+IsLawful (line.O machine) = machine ≤ last_machine
 IsLawful (line.K key value) = IsSmall (key, value)
 
 -- a line that a dump may have: its length is told before its line feed

@@ -2,7 +2,7 @@
 
 ghost use Rattle.std.specs.Prelude.{◌≡◌, ◌^◌, [], ◌∷◌, Some, None, nat_lt, if◌then◌else◌, length, ◌≤◌, IfOk};
 ghost use Rattle.std.specs.List.{prefix_len};
-ghost use Rattle.input_rules.specs.Orders.{is_digit};
+ghost use Rattle.input_rules.specs.Orders.{is_digit, last_machine};
 ghost use Rattle.dump_reading.specs.declared.field.FieldFault.TheVariants.{NoMemory};
 ghost use Rattle.dump_reading.specs.FieldAnswers.{Gives};
 ghost use Rattle.dump_reading.specs.Dumps.{greatest_machine, greatest_number};
@@ -13,6 +13,9 @@ use crate::printable::read_printable;
 use dump_text::EndWord;
 use key_bytes::Bytes;
 use std::alloc::{AllocError, AllocFailed, Global};
+
+// The greatest number of a machine that a line of the order may name.
+const LAST_MACHINE: u64 = 63;
 
 /// Why a field could not be read.
 #[derive(Clone, Copy)]
@@ -135,6 +138,14 @@ pub fn machine_field(bytes: &[u8]) -> Result<(u16, &[u8]), FieldFault>
     ensures { Gives (λ x. (x.0, x.1.now)) result (number_field greatest_machine bytes.now) }
 {
     let (number, rest) = number_up_to(u64::from(u16::MAX), bytes)?;
+    Ok((number as u16, rest))
+}
+
+/// A space and the number of a machine of the order. It takes no memory.
+pub fn ordered_machine_field(bytes: &[u8]) -> Result<(u16, &[u8]), FieldFault>
+    ensures { Gives (λ x. (x.0, x.1.now)) result (number_field last_machine bytes.now) }
+{
+    let (number, rest) = number_up_to(LAST_MACHINE, bytes)?;
     Ok((number as u16, rest))
 }
 

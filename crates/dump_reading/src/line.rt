@@ -8,7 +8,10 @@ ghost use Rattle.dump_reading.specs.FieldAnswers as fields;
 ghost use Rattle.dump_reading.specs.Dumps.{machine_fields, item_fields, error_fields, order_up_to, order_fields, rank_of, placed, with_pair, value_at, judged};
 ghost use Rattle.dump_reading.specs.Seen.{line_is};
 
-use crate::field::{FieldFault, end_field, machine_field, number_field, text_field, word_field};
+use crate::field::{
+    FieldFault, end_field, machine_field, number_field, ordered_machine_field, text_field,
+    word_field,
+};
 use dump_text::{Form, Line, LineFault, read_lines};
 use key_bytes::Pairs;
 use std::alloc::Global;
@@ -110,7 +113,7 @@ fn error_fields(alloc: Global, bytes: &[u8]) -> Result<Line, FieldFault>
 fn order_fields(bytes: &[u8]) -> Result<Line, FieldFault>
     ensures { fields.Gives (λ value. value) result (order_fields bytes.now) }
 {
-    let (machine, rest) = machine_field(bytes)?;
+    let (machine, rest) = ordered_machine_field(bytes)?;
     if !rest.is_empty() {
         return Err(FieldFault::Bad(rest.len()));
     }
