@@ -156,7 +156,7 @@ fn pair_of(alloc: Global, line: &DumpLine<'_>) -> Result<Line, LineFault>
     ensures { Gives (λ value. value) result
         (judged line.now.number (with_pair (pair_at (line_is line.now) line.now.bytes.now))) }
 {
-    match read_lines(alloc, Form::Run, line.spelled) {
+    match read_lines(alloc, line.spelled, Form::Run) {
         Ok(input) => only_pair(input.pairs),
         Err(LineFault::BadLine { line: _, place }) => Err(LineFault::BadLine {
             line: line.number,

@@ -9,7 +9,7 @@ use std::test::Fail;
 // ---- faults
 
 fn fault_of(alloc: Global, form: Form, input: &[u8]) -> Option<LineFault> {
-    match read_lines(alloc, form, input) {
+    match read_lines(alloc, input, form) {
         Ok(_) => None,
         Err(fault) => Some(fault),
     }
@@ -159,7 +159,7 @@ fn fault_text(rt: HostRuntime) -> Result<(), Fail> {
 
 // Whether the input is of this one pair.
 fn is_one_pair(alloc: Global, input: &[u8], key: &[u8], value: &[u8]) -> bool {
-    match read_lines(alloc, Form::Run, input) {
+    match read_lines(alloc, input, Form::Run) {
         Ok(input) if input.pairs.len() == 1 => {
             let pair = input.pairs.get(0);
             pair.key.as_slice() == key && pair.value.as_slice() == value
@@ -184,7 +184,7 @@ fn one_pair(rt: HostRuntime) {
 
 // Whether the input of a replay is of this order and of so many pairs.
 fn is_replay_of(alloc: Global, input: &[u8], order: &[u16], pairs: usize) -> bool {
-    match read_lines(alloc, Form::Replay, input) {
+    match read_lines(alloc, input, Form::Replay) {
         Ok(input) => input.order.as_slice() == order && input.pairs.len() == pairs,
         Err(_) => false,
     }
@@ -205,7 +205,7 @@ fn replays(rt: HostRuntime) {
 }
 
 fn written_again(alloc: Global, input: &[u8]) -> Result<Vec<u8>, LineFault> {
-    let input = read_lines(alloc, Form::Run, input)?;
+    let input = read_lines(alloc, input, Form::Run)?;
     let mut to = Vec::new(alloc);
     for pair in input.pairs.as_slice() {
         write_pair_line(&mut to, pair.key.as_slice(), pair.value.as_slice())?;

@@ -316,7 +316,7 @@ fn judge(alloc: Global, asked: &Args, bytes: &[u8]) -> Result<Input, Refusal>
     ensures past { IfErr result (λ refusal. (rest : List ℕ) → input_limit < length bytes.now
         → IsJudged asked.now refusal (bytes.now ++ rest)) }
 {
-    match read_lines(alloc, form_of(asked), bytes) {
+    match read_lines(alloc, bytes, form_of(asked)) {
         Ok(input) => Ok(input),
         Err(LineFault::NoMemory) => Err(Refusal::Memory),
         Err(fault) => Err(Refusal::Line(fault)),
