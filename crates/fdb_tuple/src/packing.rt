@@ -11,6 +11,7 @@ use crate::lengths::{element_len, packed_len};
 use crate::places::stamp_place;
 use crate::putting::{put_element, put_tuple};
 use crate::tuple::{Elem, Tuple};
+use byteorder::{ByteOrder, LittleEndian};
 use key_bytes::{Bytes, KeyRange};
 use std::alloc::{AllocError, Global};
 
@@ -77,6 +78,8 @@ pub fn pack_with_stamp(alloc: Global, prefix: &[u8], tuple: &Tuple) -> Result<By
     let mut packed = Vec::with_capacity(alloc, prefix.len() + packed_len(tuple) + 4)?;
     packed.extend_from_slice(prefix)?;
     put_tuple(&mut packed, tuple, false)?;
-    packed.extend_from_slice(&place.to_le_bytes())?;
+    let mut place_bytes = [0; 4];
+    LittleEndian::write_u32(&mut place_bytes, place);
+    packed.extend_from_slice(&place_bytes)?;
     Ok(Bytes::from_vec(packed)?)
 }

@@ -9,6 +9,7 @@ ghost use Rattle.fdb_tuple.specs.Spelling.{escaped, string_spelled, least_bytes,
 use crate::lengths::zero_bytes;
 use crate::tuple::{Elem, Tuple, Versionstamp};
 use crate::zeros::split_at_zero;
+use byteorder::{BigEndian, ByteOrder};
 use std::alloc::AllocError;
 
 // The elements of the tuple, at the top or inside a nested tuple.
@@ -131,7 +132,9 @@ fn put_stamp(out: &mut Vec<u8>, stamp: &Versionstamp) -> Result<(), AllocError>
     ensures ok { OnOk result (out.new.items ≡ out.old.items ++ 0x33 ∷ stamp.now.stamp ++ to_be_bytes w16 stamp.now.user) }
     ensures err { OnErr result (take (length out.old.items) out.new.items ≡ out.old.items) }
 {
+    let mut user = [0; 2];
+    BigEndian::write_u16(&mut user, stamp.user);
     out.push(0x33)?;
     out.extend_from_slice(&stamp.stamp)?;
-    out.extend_from_slice(&stamp.user.to_be_bytes())
+    out.extend_from_slice(&user)
 }

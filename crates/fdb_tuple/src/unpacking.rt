@@ -17,6 +17,7 @@ use crate::piece::Piece;
 use crate::text::Text;
 use crate::tuple::{Elem, MAX_DEPTH, Tuple, Versionstamp};
 use crate::zeros::split_at_zero;
+use byteorder::{BigEndian, ByteOrder};
 use key_bytes::Bytes;
 use std::alloc::Global;
 
@@ -396,7 +397,7 @@ fn stamp_of(whole: usize, rest: &[u8]) -> Result<(Elem, &[u8]), UnpackFault>
     };
     let stamp = Versionstamp {
         stamp: *stamp,
-        user: u16::from_be_bytes(*user),
+        user: BigEndian::read_u16(user),
     };
     Ok((Elem::Stamp(stamp), after))
 }
