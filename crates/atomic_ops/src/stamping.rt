@@ -5,6 +5,7 @@ ghost use Rattle.database_rules.specs.States.{has_room, stamp_place, stamped};
 ghost use Rattle.atomic_ops.specs.Faults.{IsUnstamped};
 
 use crate::fault::StampFault;
+use byteorder::{ByteOrder, LittleEndian};
 use key_bytes::Bytes;
 use std::alloc::{AllocError, Global};
 
@@ -14,9 +15,7 @@ fn stamp_place(bytes: &[u8]) -> usize
     ensures value { result ≡ stamp_place bytes.now }
     ensures small { result < 2 ^ 32 }
 {
-    let at = bytes.len() - 4;
-    let high = 256 * usize::from(bytes[at + 3]) + usize::from(bytes[at + 2]);
-    65536 * high + 256 * usize::from(bytes[at + 1]) + usize::from(bytes[at])
+    LittleEndian::read_u32(&bytes[bytes.len() - 4..]) as usize
 }
 
 /// Whether stamped bytes have room for a versionstamp: they end in a place of 4 bytes, the lowest first, and the ten bytes
