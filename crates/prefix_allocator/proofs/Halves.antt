@@ -1,29 +1,20 @@
 -- 8 bytes as a count.
-use Rattle.std.proofs.Common.{◌≡◌, ℕ, ◌*◌, ◌^◌, ◌<◌, Bool, true, false, List, [], ◌∷◌, length, take, sym, ap, ◌∙◌, arith}
+use Rattle.std.proofs.Common.{◌≡◌, ℕ, zero, suc, ◌+◌, ◌*◌, ◌^◌, ◌<◌, Bool, true, false, List, [], ◌∷◌, length, refl, sym, ap, ◌∙◌, arith}
 use Rattle.std.specs.Prelude.{◌&&◌, nat_lt, nat_le}
 use Rattle.std.proofs.lemmas.Bool.{lt-ltb}
-use Rattle.std.proofs.lemmas.List.{take_all}
-use Rattle.std.specs.Int.{w64, from_le_bytes}
 use Rattle.key_bytes.specs.Numbers.{number_low}
+use Rattle.byteorder.specs.Endian.{little_number}
+use Rattle.byteorder.specs.Numbers.{little_from-cons}
 use Rattle.allocator_rules.specs.Counters.{window, counts_half}
 
--- 8 bytes write the same number
-low_is : (bytes : List ℕ) → length bytes ≡ 8 → from_le_bytes w64 bytes ≡ number_low bytes
+-- so many bytes as they have, read the lowest first, write the number that they all write
+pub little_is_low : (n : ℕ) (bytes : List ℕ) → length bytes ≡ n → little_number n bytes ≡ number_low bytes
 unfolding number_low
-low_is [] long = absurd (omega arith)
-low_is (a ∷ []) long = absurd (omega arith)
-low_is (a ∷ b ∷ []) long = absurd (omega arith)
-low_is (a ∷ b ∷ c ∷ []) long = absurd (omega arith)
-low_is (a ∷ b ∷ c ∷ d ∷ []) long = absurd (omega arith)
-low_is (a ∷ b ∷ c ∷ d ∷ e ∷ []) long = absurd (omega arith)
-low_is (a ∷ b ∷ c ∷ d ∷ e ∷ f ∷ []) long = absurd (omega arith)
-low_is (a ∷ b ∷ c ∷ d ∷ e ∷ f ∷ g ∷ []) long = absurd (omega arith)
-low_is (a ∷ b ∷ c ∷ d ∷ e ∷ f ∷ g ∷ h ∷ []) long = omega arith
-low_is (a ∷ b ∷ c ∷ d ∷ e ∷ f ∷ g ∷ h ∷ i ∷ others) long = absurd (omega arith)
-
-pub count_is : (count bytes : List ℕ) (number : ℕ) → length count ≡ 8 → bytes ≡ take 8 count → number ≡ from_le_bytes w64 bytes
-    → number ≡ number_low count
-count_is count bytes number long first is = is ∙ ap (from_le_bytes w64) (first ∙ take_all 8 count (omega arith)) ∙ low_is count long
+little_is_low zero [] is = refl
+little_is_low (suc n) (byte ∷ bytes) is =
+    ap (λ rest. byte + 256 * rest) (little_from-cons 0 n byte bytes ∙ little_is_low n bytes (omega (arith, is)))
+little_is_low zero (byte ∷ bytes) is = absurd (omega (arith, is))
+little_is_low (suc n) [] is = absurd (omega (arith, is))
 
 pub half_where_positive : (start : ℕ) (count : List ℕ) (number wide : ℕ) → number ≡ number_low count → number < 2 ^ 63 → wide ≡ window start
     → nat_le wide (2 * number) ≡ counts_half start count

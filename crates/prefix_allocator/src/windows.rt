@@ -9,6 +9,7 @@ ghost use Rattle.allocator_rules.specs.Granting.{asks_greatest, counts, clears_b
 ghost use Rattle.prefix_allocator.specs.Doing.{Done, first_key, fills_half, opens_behind, start_behind};
 
 use crate::keys::AllocatorKeys;
+use byteorder::{ByteOrder, LittleEndian};
 use database_rules::AtomicOp;
 use fdb_calls::{Tr, TrFault};
 use key_bytes::{Bytes, Key, Pairs};
@@ -101,10 +102,10 @@ fn is_half_read(start: u64, count: &Option<Bytes>) -> bool
 fn is_half(start: u64, count: &[u8]) -> bool
     ensures { length count.now ≡ 8 → result ≡ counts_half start count.now }
 {
-    let Some(bytes) = count.first_chunk::<8>() else {
+    if count.len() < 8 {
         return false;
-    };
-    let count = u64::from_le_bytes(*bytes);
+    }
+    let count = LittleEndian::read_u64(count);
     count < LEAST_NEGATIVE && window(start) <= 2 * count
 }
 
