@@ -10,7 +10,7 @@ use database_rules::{AtomicOp, VALUE_LIMIT};
 use key_bytes::{Bytes, is_below};
 use std::alloc::{AllocError, Global};
 
-/// What an operation makes of the old value with its operand; None is no value.
+/// Returns what an operation makes of the old value with its operand; None is no value.
 ///
 /// Which it is stands in the API reference of release 6.3 ("fdb_transaction_atomic_op"). The two operations with a
 /// versionstamp are no functions of the old value, and are not asked here. Memory is taken for the new value alone;

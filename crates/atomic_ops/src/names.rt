@@ -5,7 +5,7 @@ ghost use Rattle.database_rules.specs.Atomics.{atomic_named};
 
 use database_rules::AtomicOp;
 
-/// The operation of a name, as ATOMIC_OP has it (bindingApiTester.md). It takes no memory.
+/// Returns the operation of a name, as ATOMIC_OP has it (bindingApiTester.md).
 ///
 /// None exactly where the name is no operation's: AND, OR and XOR are names beside BIT_AND, BIT_OR and BIT_XOR.
 #[tactic(auto, unfolding(database_rules::specs::Atomics::atomic_named))]

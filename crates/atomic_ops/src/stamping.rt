@@ -18,16 +18,16 @@ fn stamp_place(bytes: &[u8]) -> usize
     LittleEndian::read_u32(&bytes[bytes.len() - 4..]) as usize
 }
 
-/// Whether stamped bytes have room for a versionstamp: they end in a place of 4 bytes, the lowest first, and the ten bytes
-/// at this place lie within what stands before (API reference, "fdb_transaction_atomic_op"). It takes no memory.
+/// Tells whether stamped bytes have room for a versionstamp: they end in a place of 4 bytes, the lowest first,
+/// and the ten bytes at this place lie within what stands before (API reference, "fdb_transaction_atomic_op").
 pub fn has_room(bytes: &[u8]) -> bool
     ensures { result ≡ has_room bytes.now }
 {
     bytes.len() >= 4 && stamp_place(bytes) + 10 <= bytes.len() - 4
 }
 
-/// Stamped bytes that have room, as a commit with this versionstamp fills them in: what stands before their place, with the
-/// ten bytes there replaced by the stamp (API reference, "fdb_transaction_atomic_op").
+/// Fills a versionstamp into stamped bytes that have room for one: returns what stands before their place, with
+/// the ten bytes at the place replaced by the stamp (API reference, "fdb_transaction_atomic_op").
 #[tactic(auto, unfolding(database_rules::specs::States::stamped))]
 pub fn stamped(alloc: Global, stamp: &[u8; 10], bytes: &[u8]) -> Result<Bytes, AllocError>
     requires { has_room bytes.now ≡ true }
@@ -42,8 +42,8 @@ pub fn stamped(alloc: Global, stamp: &[u8; 10], bytes: &[u8]) -> Result<Bytes, A
     Bytes::from_vec(filled)
 }
 
-/// Stamped bytes as a commit with this versionstamp fills them in (API reference, "fdb_transaction_atomic_op"). NoRoom
-/// exactly where they have no room for one; NoMemory where memory runs out.
+/// Fills a versionstamp into stamped bytes, as their commit does (API reference, "fdb_transaction_atomic_op").
+/// NoRoom exactly where they have no room for one; NoMemory where memory runs out.
 pub fn resolve_stamp(alloc: Global, bytes: &[u8], stamp: &[u8; 10]) -> Result<Bytes, StampFault>
     ensures ok { IfOk result (λ filled. (has_room bytes.now ≡ true) × (filled ≡ stamped stamp.now bytes.now)) }
     ensures err { IfErr result (IsUnstamped bytes.now) }

@@ -49,8 +49,8 @@ impl Drop for Contents {
 }
 
 impl Contents {
-    /// A request of the database alone: its step in the world. It is refused for want of memory alone, and nothing is said then
-    /// but how many requests were taken.
+    /// Applies a request that concerns the database alone, and returns its reply: its step in the world. It is
+    /// refused for want of memory alone, and nothing is said then but how many requests were taken.
     pub fn take(&mut self, request: &Request) -> Result<Reply, AllocError>
         requires sound { IsSound (model_of self.old) (2 ^ 62) }
         requires database { IsOnDatabase request.now }
@@ -96,7 +96,7 @@ impl Contents {
         }
     }
 
-    /// A name that has no transaction gets one. It is refused for want of memory alone.
+    /// Makes a new transaction under a name that has none. It is refused for want of memory alone.
     pub fn make(&mut self, name: &Bytes) -> Result<(), AllocError>
         ensures stands { OnOk result ((world : World) → KeepsWorld (model_of self.old) world
             → KeepsWorld (model_of self.new) (with_named world name.now)) }
@@ -166,7 +166,8 @@ impl Contents {
         self.commit_apart(transaction, reply)
     }
 
-    /// A transaction of a new life at the last version, which stands under no name. It is refused for want of memory alone.
+    /// Makes a transaction of a new life at the last version, which stands under no name. It is refused for
+    /// want of memory alone.
     pub fn draw_apart(&mut self) -> Result<Txn, AllocError>
         ensures drawn { IfOk result (λ transaction. (world : World) → KeepsWorld (model_of self.old) world
             → txn.StandsFor transaction (fresh_at_last world) × KeepsWorld (model_of self.new) (drawn_in world)) }

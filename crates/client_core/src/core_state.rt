@@ -65,8 +65,8 @@ impl Model for Core {
 impl Core {
     ghost use Rattle.client_core.specs.Stands.{StandsFor, Answers, HasStarted};
 
-    /// The core with these pairs as its first commit, and machine 0 started by these arguments; of two values of one key the
-    /// later stays.
+    /// Loads a core: these pairs are its first commit, and machine 0 is started by these arguments. Of two
+    /// values of one key the later stays.
     pub fn load(alloc: Global, arguments: &RunArgs, pairs: Pairs) -> Result<Core, AllocError>
         ensures begun { IfOk result (λ core. StandsFor core (begun pairs arguments.now)) }
         ensures applied { IfOk result (λ core. core.applied ≡ 0) }
@@ -87,37 +87,37 @@ impl Core {
         })
     }
 
-    /// The last version. It takes no memory.
+    /// Returns the last version.
     pub fn last(&self) -> u64
         ensures { result ≡ last_of self.now.store }
     {
         self.contents.store.last()
     }
 
-    /// How many requests were applied. It takes no memory.
+    /// Returns how many requests were applied.
     pub fn applied(&self) -> u64
         ensures { result ≡ self.now.applied }
     {
         self.contents.applied
     }
 
-    /// The pairs of the map at the last version, in the order of their keys, for a loop over them. It copies none, and
-    /// takes no memory.
+    /// Returns the pairs of the map at the last version, in the order of their keys, for a loop over them. It
+    /// copies none, and takes no memory.
     pub fn pairs_left(&self) -> PairsLeft<'_>
         ensures { result ≡ finite.entries (at self.now.store (last_of self.now.store)) }
     {
         self.contents.store.pairs_left()
     }
 
-    /// A copy of the pairs of the map at the last version, in the order of their keys.
+    /// Returns a copy of the pairs of the map at the last version, in the order of their keys.
     pub fn dump_pairs(&self) -> Result<Pairs, AllocError>
         ensures { IfOk result (λ pairs. pairs ≡ finite.entries (at self.now.store (last_of self.now.store))) }
     {
         self.contents.store.pairs()
     }
 
-    /// A copy of the pairs of the map at the last version with keys from `begin` up to `end`, `end` left out, in the
-    /// order of their keys. There is none where `begin` isn't less than `end`.
+    /// Returns a copy of the pairs of the map at the last version with keys from `begin` up to `end`, `end`
+    /// left out, in the order of their keys. There is none where `begin` isn't less than `end`.
     pub fn pairs_between(&self, begin: &Key, end: &Key) -> Result<Pairs, AllocError>
         ensures { IfOk result (λ pairs. pairs
             ≡ filter (λ e. within begin.now end.now e.0) (finite.entries (at self.now.store (last_of self.now.store)))) }
@@ -125,8 +125,8 @@ impl Core {
         self.contents.store.pairs_between(begin, end)
     }
 
-    /// The instructions of a prefix at the last version, in the order of their keys: the values of the pairs in the range of the
-    /// tuples that begin with it.
+    /// Returns the instructions of a prefix at the last version, in the order of their keys: the values of the
+    /// pairs in the range of the tuples that begin with it.
     pub fn instructions(&self, prefix: &[u8]) -> Result<Vec<Bytes>, AllocError>
         ensures { IfOk result (λ values. values.items
             ≡ values_of (instruction_pairs prefix.now (at self.now.store (last_of self.now.store)))) }

@@ -28,9 +28,9 @@ use txn_core::{Txn, TxnOn};
 use version_store::Store;
 
 impl Contents {
-    /// A call of a directory layer, on the transaction of a name or, without one, on a transaction of its own: its step in the
-    /// world. The random words that it drew are gone. It is refused for want of memory alone, and nothing is said then but how
-    /// many requests were taken.
+    /// Applies a call of a directory layer, on the transaction of a name or, without one, on a transaction of
+    /// its own, and returns its reply: its step in the world. The random words that it drew are gone. It is
+    /// refused for want of memory alone, and nothing is said then but how many requests were taken.
     pub fn call_directory<W: Words>(
         &mut self,
         name: &Option<Bytes>,

@@ -27,7 +27,7 @@ impl Model for Lives {
 }
 
 impl Lives {
-    /// No life. It takes no memory, and keeps the allocator.
+    /// Makes the list without a life.
     pub fn new(alloc: Global) -> Lives
         ensures { result ≡ [] }
     {
@@ -36,21 +36,21 @@ impl Lives {
         }
     }
 
-    /// The number of the next life. It takes no memory.
+    /// Returns the number of the next life.
     pub fn next(&self) -> u64
         ensures { result ≡ length self.now }
     {
         self.outcomes.len() as u64
     }
 
-    /// What became of a life; None where it isn't decided yet, or wasn't drawn. It takes no memory.
+    /// Returns what became of a life; None where it isn't decided yet, or wasn't drawn.
     pub fn outcome(&self, life: u64) -> Option<Outcome>
         ensures { result ≡ slice_index_or self.now life None }
     {
         *self.outcomes.get(life as usize).unwrap_or(&None)
     }
 
-    /// One life more. It is refused for want of memory alone.
+    /// Adds a place for one more life. It is refused for want of memory alone.
     pub fn draw(&mut self) -> Result<(), AllocError>
         ensures { OnOk result (self.new ≡ with_lives self.old 1) }
     {
@@ -58,8 +58,8 @@ impl Lives {
         Ok(())
     }
 
-    /// One life more, where one was drawn; then this one is decided so, unless it is decided already, or isn't yet. It is refused
-    /// for want of memory alone.
+    /// Adds a place for the life that was drawn, if one was, and notes the outcome of `life` where it has just
+    /// been decided. It is refused for want of memory alone.
     pub fn go_on(
         &mut self,
         drew: bool,
@@ -86,7 +86,8 @@ impl Lives {
     }
 }
 
-/// What becomes of a life by the transaction that stands in its place then: another life ends it.
+/// Returns what became of a life, seen from the transaction that stands in its place now: another life there
+/// ends it.
 pub fn outcome_after(life: u64, after: &Txn) -> Option<Outcome>
     ensures { result ≡ outcome_by life after.now.life after.now.phase }
 {

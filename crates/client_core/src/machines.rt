@@ -32,7 +32,7 @@ impl Model for Machines {
 }
 
 impl Machines {
-    /// Machine 0 alone, which was started under this prefix. It is refused for want of memory alone.
+    /// Makes the list with machine 0 alone, started under this prefix. It is refused for want of memory alone.
     pub fn new(alloc: Global, prefix: Bytes) -> Result<Machines, AllocError>
         ensures { IfOk result (λ machines. machines ≡ prefix ∷ []) }
     {
@@ -83,8 +83,8 @@ fn pairs_under(alloc: Global, store: &Store, prefix: &[u8]) -> Result<Pairs, All
     store.pairs_between(&begin, &end)
 }
 
-/// The instructions of a prefix at the last version, in the order of their keys: the values of those pairs. No list of the pairs
-/// stands between the store and this one.
+/// Returns the instructions of a prefix at the last version, in the order of their keys: the values of those
+/// pairs. No list of the pairs stands between the store and this one.
 pub fn instructions_under(
     alloc: Global,
     store: &Store,

@@ -147,7 +147,7 @@ pub fn remove_if_exists<T: Tr, W: Words>(
     remove_directory(alloc, layer, tr, a.path.as_slice(), false)
 }
 
-/// The names of the directories right below the one of a path.
+/// Lists the names of the directories right below the one of a path.
 pub fn list<T: Tr, W: Words>(
     alloc: Global,
     layer: &Layer,
@@ -164,7 +164,7 @@ pub fn list<T: Tr, W: Words>(
     Ok(DirReply::Names(names))
 }
 
-/// Whether there is a directory of a path.
+/// Tells whether there is a directory of a path.
 pub fn exists<T: Tr, W: Words>(
     _alloc: Global,
     layer: &Layer,

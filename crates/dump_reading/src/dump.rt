@@ -124,10 +124,9 @@ fn read_all(alloc: Global, bytes: &[u8]) -> Result<Lines, LineFault>
     Ok(lines)
 }
 
-/// The lines of a dump. The lines on machines, on the items of their stacks, on their errors, on the order and on the
-/// pairs come in this order, one kind after the other; the order within a kind isn't judged. The number of a machine is
-/// at most 63 in a line on the order, as in an input, and 65,535 in any other. An error is the first fault, with its line and
-/// its place, or that memory ran out.
+/// Reads the lines of a dump. The lines on machines, on the items of their stacks, on their errors, on the
+/// order and on the pairs come in this order, one kind after the other; the order within a kind isn't judged.
+/// An error is the first fault, with its line and its place, or that memory ran out.
 pub fn read_dump(alloc: Global, bytes: &[u8]) -> Result<Lines, LineFault>
     // What is read is spelled so.
     ensures found { IfOk result (λ lines. IsDump bytes.now lines) }

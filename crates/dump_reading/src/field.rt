@@ -126,14 +126,14 @@ fn number_up_to(most: u64, bytes: &[u8]) -> Result<(u64, &[u8]), FieldFault>
     number_of(most, rest)
 }
 
-/// A space and a number. It takes no memory.
+/// Reads a space and a number; returns the number and the bytes behind it.
 pub fn number_field(bytes: &[u8]) -> Result<(u64, &[u8]), FieldFault>
     ensures { Gives (λ x. (x.0, x.1.now)) result (number_field greatest_number bytes.now) }
 {
     number_up_to(u64::MAX, bytes)
 }
 
-/// A space and the number of a machine. It takes no memory.
+/// Reads a space and the number of a machine; returns the number and the bytes behind it.
 pub fn machine_field(bytes: &[u8]) -> Result<(u16, &[u8]), FieldFault>
     ensures { Gives (λ x. (x.0, x.1.now)) result (number_field greatest_machine bytes.now) }
 {
@@ -178,7 +178,7 @@ fn end_word_of(bytes: &[u8]) -> Result<(EndWord, &[u8]), FieldFault>
     Ok((end, rest))
 }
 
-/// A space and the word of an end. It takes no memory.
+/// Reads a space and the word of an end; returns the end and the bytes behind it.
 #[tactic(auto, unfolding(crate::specs::Fields::end_field))]
 pub fn end_field(bytes: &[u8]) -> Result<(EndWord, &[u8]), FieldFault>
     ensures { Gives (λ x. (x.0, x.1.now)) result (end_field bytes.now) }
@@ -206,7 +206,7 @@ fn word_len(bytes: &[u8]) -> usize
     i
 }
 
-/// A space and a word up to the end.
+/// Reads a space and a word up to the end.
 #[tactic(auto, unfolding(crate::specs::Fields::word_field, crate::specs::Fields::word_at))]
 pub fn word_field(alloc: Global, bytes: &[u8]) -> Result<Bytes, FieldFault>
     ensures { Gives (λ word. word) result (word_field bytes.now) }
@@ -232,7 +232,7 @@ fn text_of(alloc: Global, bytes: &[u8]) -> Result<Bytes, FieldFault>
     }
 }
 
-/// A space and the printable form of bytes up to the end.
+/// Reads a space and the printable form of bytes up to the end.
 #[tactic(auto, unfolding(crate::specs::Fields::text_field))]
 pub fn text_field(alloc: Global, bytes: &[u8]) -> Result<Bytes, FieldFault>
     ensures { Gives (λ text. text) result (text_field bytes.now) }

@@ -26,14 +26,14 @@ pub struct DumpLine<'a> {
 }
 
 impl DumpLine<'_> {
-    /// Whether the line is of a pair, which its first byte tells. It takes no memory.
+    /// Tells whether the line is of a pair, which its first byte tells.
     pub fn is_pair(&self) -> bool
         ensures { result ≡ is_pair self.now.bytes.now }
     {
         matches!(self.bytes, [b'K', ..])
     }
 
-    /// The fault that the byte at this place fits no rule. It takes no memory.
+    /// Returns the fault that the byte at this place fits no rule.
     pub fn bad_at(&self, place: usize) -> LineFault
         requires { place < 2 ^ 32 }
         ensures { result ≡ LineFault.BadLine self.now.number place }
@@ -45,7 +45,7 @@ impl DumpLine<'_> {
     }
 }
 
-/// The place of a line's kind in a dump, which its first byte tells; 5 where it names none. It takes no memory.
+/// Returns the rank of a line's kind in the order of a dump, which its first byte tells; 5 where it names none.
 pub fn rank_of(line: &[u8]) -> u8
     ensures { result ≡ rank_of line.now }
 {
@@ -168,7 +168,7 @@ fn pair_of(alloc: Global, line: &DumpLine<'_>) -> Result<Line, LineFault>
     }
 }
 
-/// What a line comes to by its first byte, or its first fault.
+/// Reads a line by the kind that its first byte tells, or returns its first fault.
 #[tactic(auto, unfolding(crate::specs::Dumps::value_at))]
 pub fn value_of(alloc: Global, line: &DumpLine<'_>) -> Result<Line, LineFault>
     requires limit { length line.now.bytes.now ≤ line_limit }

@@ -90,9 +90,9 @@ fn spelling_of(escaped: Option<u8>, bytes: &[u8]) -> Spelling<'_>
     }
 }
 
-/// The bytes whose printable form this is, in which the byte `escaped`, where one is given, is spelled by its digits
-/// too. An error is the first place where no byte is spelled, which for a wrong escape is that of its backslash, or that
-/// memory ran out.
+/// Reads bytes from their printable form, in which the byte `escaped`, where one is given, is spelled by its
+/// digits too. An error is the first place where no byte is spelled, which for a wrong escape is that of its
+/// backslash, or that memory ran out.
 pub fn read_printable(
     alloc: Global,
     bytes: &[u8],

@@ -203,8 +203,9 @@ fn read_input(alloc: Global, form: Form, bytes: &[u8]) -> Result<Input, LineFaul
     }
 }
 
-/// What an input says, by its form: lines of pairs, for a replay with lines of an order before them. An error is the
-/// first fault of the input, with its line and its place, or that memory ran out; nothing of the input is kept then.
+/// Reads an input by its form: lines of pairs, for a replay with lines of an order before them. An error is the
+/// first fault of the input, with its line and its place, or that memory ran out; nothing of the input is kept
+/// then.
 pub fn read_lines(alloc: Global, bytes: &[u8], form: Form) -> Result<Input, LineFault>
     // What is read is spelled so.
     ensures found { IfOk result (λ input. IsInputOf form bytes.now input) }

@@ -21,7 +21,7 @@ pub enum EndWord {
 }
 
 impl EndWord {
-    /// The word of an end. It takes no memory.
+    /// Returns the word of an end.
     pub fn word(self) -> &'static [u8]
         ensures { result.now ≡ word_of self }
     {

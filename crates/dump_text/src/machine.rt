@@ -12,7 +12,7 @@ use crate::pair::InputLine;
 // The greatest number of a machine.
 const LAST_MACHINE: u16 = 63;
 
-/// The machine that a line names, or its first fault. It takes no memory.
+/// Reads the machine that a line of an order names, or returns the line's first fault.
 #[tactic(auto, unfolding(input_rules::specs::Orders::machine_at))]
 pub fn machine_of(line: &InputLine<'_>) -> Result<u16, LineFault>
     requires { length line.now.bytes.now ≤ line_limit }

@@ -25,21 +25,21 @@ pub struct InputLine<'a> {
 }
 
 impl InputLine<'_> {
-    /// Whether the line is of a pair, which its first byte tells. It takes no memory.
+    /// Tells whether the line is of a pair, which its first byte tells.
     pub fn is_pair(&self) -> bool
         ensures { result ≡ is_pair self.now.bytes.now }
     {
         matches!(self.bytes, [b'K', ..])
     }
 
-    /// Whether the line has too many bytes before its line feed. It takes no memory.
+    /// Tells whether the line has too many bytes before its line feed.
     pub fn is_too_long(&self) -> bool
         ensures { result ≡ nat_lt line_limit (length self.now.bytes.now) }
     {
         self.bytes.len() > LINE_LIMIT
     }
 
-    /// The fault that the byte at this place fits no rule. It takes no memory.
+    /// Returns the fault that the byte at this place fits no rule.
     pub fn bad_at(&self, place: usize) -> LineFault
         requires { place < 2 ^ 32 }
         ensures { result ≡ LineFault.BadLine self.now.number place }
@@ -61,7 +61,7 @@ fn is_below_top(key: &[u8]) -> bool
     }
 }
 
-/// The pair that a line spells, or its first fault.
+/// Reads the pair that a line spells, or returns the line's first fault.
 #[tactic(auto, unfolding(line_rules::specs::Reading::pair_at))]
 pub fn read_pair(
     alloc: Global,

@@ -8,7 +8,7 @@ ghost use Rattle.dump_text.specs.Stops.{is_stop};
 
 use std::simd::prelude::*;
 
-/// Whether `byte` stands for itself. It takes no memory.
+/// Tells whether `byte` stands for itself.
 #[inline(always)]
 pub fn is_plain(byte: u8) -> bool
     ensures { result ≡ is_plain byte }
@@ -34,7 +34,7 @@ fn stops_16(bytes: u8x16) -> u64
         | bytes.simd_eq(u8x16::splat(b'\\'))).to_bitmask()
 }
 
-/// How many of the first sixteen bytes stand for themselves, up to the first that does not. It takes no memory.
+/// Returns how many of the first sixteen bytes stand for themselves, up to the first that does not.
 #[inline(always)]
 pub fn plain_in_16(bytes: &[u8]) -> usize
     requires { 16 ≤ length bytes.now }
@@ -48,7 +48,7 @@ pub fn plain_in_16(bytes: &[u8]) -> usize
     found.trailing_zeros() as usize
 }
 
-/// How many of the first eight bytes stand for themselves, up to the first that does not. It takes no memory.
+/// Returns how many of the first eight bytes stand for themselves, up to the first that does not.
 #[inline(always)]
 pub fn plain_in_8(bytes: &[u8]) -> usize
     requires { 8 ≤ length bytes.now }
@@ -108,7 +108,7 @@ fn plain_len(bytes: &[u8]) -> usize
     plain_end_8(bytes, i)
 }
 
-/// The bytes at the front that stand for themselves, and all from the first that does not. It takes no memory.
+/// Returns the bytes at the front that stand for themselves, and all from the first that does not.
 #[inline]
 pub fn split_plain(bytes: &[u8]) -> (&[u8], &[u8])
     ensures front { result.0.now ≡ take_while is_plain bytes.now }

@@ -104,7 +104,7 @@ pub fn add_printable(to: &mut Vec<u8>, bytes: &[u8]) -> Result<(), AllocError>
     add_escaped(to, bytes)
 }
 
-/// What `written` tells; where it is a refusal, `to` is cut back to `len` bytes. It takes no memory.
+/// Returns `written`, and cuts `to` back to `len` bytes where that is a refusal.
 pub fn or_cut_back(
     to: &mut Vec<u8>,
     len: usize,

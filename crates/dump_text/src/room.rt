@@ -55,7 +55,7 @@ pub(crate) const LENGTHS: [u8; 256] = [
     4, 4, 4, 4, 4, 4, 4, 4, 4, 4, 4, 4, 4, 4, 4, 4, 4, 4, 4, 4, 4, 4, 4, 4, 4, 4, 4, 4, 4, 4, 4, 4,
 ];
 
-/// Puts a byte at a place. It takes no memory.
+/// Puts a byte at a place.
 #[inline(always)]
 pub fn put(room: &mut [u8], at: usize, byte: u8)
     requires { at < length room.old }
@@ -65,8 +65,8 @@ pub fn put(room: &mut [u8], at: usize, byte: u8)
     room[at] = byte;
 }
 
-/// Puts bytes at a place that stand for themselves: those that `bytes` begins with, but at most sixteen, and not always
-/// all of them. How many these are. It takes no memory.
+/// Puts bytes that stand for themselves at a place: the first of `bytes`, at most sixteen, and not always all
+/// that do. Returns how many.
 #[inline(always)]
 pub fn put_plain(room: &mut [u8], at: usize, bytes: &[u8]) -> usize
     requires { at + length bytes.now ≤ length room.old }
@@ -136,7 +136,7 @@ fn put_front<'a>(room: &mut [u8], at: usize, bytes: &'a [u8]) -> (usize, &'a [u8
     (end, &bytes[count + 1..])
 }
 
-/// Puts the printable form of bytes at a place, and answers where it ends. It takes no memory.
+/// Puts the printable form of bytes at a place, and answers where it ends.
 #[inline(always)]
 pub fn put_printable(room: &mut [u8], at: usize, bytes: &[u8]) -> usize
     requires { at + 4 * length bytes.now ≤ length room.old }
@@ -155,7 +155,7 @@ pub fn put_printable(room: &mut [u8], at: usize, bytes: &[u8]) -> usize
     put_forms(room, end, left)
 }
 
-/// Puts the line of a pair at the front of a room, and answers where it ends. It takes no memory.
+/// Puts the line of a pair at the front of a room, and answers where it ends.
 #[inline(always)]
 pub fn put_pair_line(room: &mut [u8], key: &[u8], value: &[u8]) -> usize
     requires { 4 * (length key.now + length value.now + 2) ≤ length room.old }

@@ -207,8 +207,8 @@ fn split_run(bytes: &[u8]) -> (&[u8], &[u8])
     split_plain(bytes)
 }
 
-/// The bytes that are spelled up to the end, the separator or a fault. One plain run is copied as it stands; only a
-/// text with an escape in it is built in the scratch buffer, whatever that held.
+/// Reads the bytes that are spelled up to the end, the separator or a fault. One plain run is copied as it
+/// stands; only a text with an escape in it is built in the scratch buffer, whatever that held.
 #[inline(always)]
 pub fn read_text<'a>(
     alloc: Global,

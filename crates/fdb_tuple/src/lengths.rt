@@ -7,7 +7,7 @@ ghost use Rattle.fdb_tuple.specs.Spelling.{string_spelled, least_bytes, signed_s
 
 use crate::tuple::{Elem, Tuple};
 
-/// How many bytes the spelling of the tuple has, counted no further than the greatest `usize`. It takes no memory.
+/// Returns how many bytes the spelling of the tuple has, counted no further than the greatest `usize`.
 pub fn packed_len(tuple: &Tuple) -> usize
     ensures { result ≡ min (length (spelling tuple.now)) (2 ^ 64 - 1) }
 {

@@ -12,8 +12,8 @@ ghost use Rattle.fdb_tuple.specs.Spelling.{spelling};
 use crate::tuple::{Elem, Tuple, Versionstamp};
 use std::cmp::Ordering;
 
-/// The order of tuples: element by element, by kind and then by value, a tuple before what it begins (tuple.md). It is
-/// the order of the packed bytes. It takes no memory.
+/// Compares two tuples: element by element, by kind and then by value, a tuple before what it begins
+/// (tuple.md). It is the order of the packed bytes.
 pub fn cmp(a: &Tuple, b: &Tuple) -> Ordering
     ensures order { result ≡ tuple_cmp a.now b.now }
     ensures bytes { result ≡ key_cmp (spelling a.now) (spelling b.now) }

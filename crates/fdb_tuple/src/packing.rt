@@ -15,7 +15,7 @@ use byteorder::{ByteOrder, LittleEndian};
 use key_bytes::{Bytes, KeyRange};
 use std::alloc::{AllocError, Global};
 
-/// The spelling of the tuple: the spellings of its elements, one after the other.
+/// Packs the tuple: returns the spellings of its elements, one after the other.
 pub fn pack(alloc: Global, tuple: &Tuple) -> Result<Bytes, AllocError>
     ensures { IfOk result (λ packed. packed ≡ spelling tuple.now) }
 {
@@ -24,7 +24,7 @@ pub fn pack(alloc: Global, tuple: &Tuple) -> Result<Bytes, AllocError>
     Bytes::from_vec(packed)
 }
 
-/// The spelling of the tuple of this one element.
+/// Packs the tuple of this one element.
 pub fn pack_element(alloc: Global, element: &Elem) -> Result<Bytes, AllocError>
     ensures { IfOk result (λ packed. packed ≡ spelling (before element.now Empty)) }
 {
@@ -55,8 +55,8 @@ pub fn pack_into(to: &mut Vec<u8>, tuple: &Tuple) -> Result<(), AllocError>
     put
 }
 
-/// The range of the keys that pack a tuple which begins with this one and has more elements: from the packed tuple
-/// followed by `00` to it followed by `FF` (tuple.md).
+/// Returns the range of the keys that pack a tuple which begins with this one and has more elements: from the
+/// packed tuple followed by `00` to it followed by `FF` (tuple.md).
 pub fn range(alloc: Global, tuple: &Tuple) -> Result<KeyRange, AllocError>
     ensures { IfOk result (λ range. (range.begin ≡ spelling tuple.now ++ 0 ∷ []) × (range.end ≡ spelling tuple.now ++ 255 ∷ [])) }
 {
@@ -67,9 +67,9 @@ pub fn range(alloc: Global, tuple: &Tuple) -> Result<KeyRange, AllocError>
     Ok(KeyRange { begin, end })
 }
 
-/// The prefix, the packed tuple behind it, and as 4 bytes little-endian the place in them of the 10 bytes of the one
-/// incomplete versionstamp (tuple.md, "Versionstamp"). NoStamp comes exactly where the tuple holds none at any depth,
-/// ManyStamps exactly where it holds more than one.
+/// Packs the prefix, the tuple behind it, and as 4 bytes little-endian the place in them of the 10 bytes of the
+/// one incomplete versionstamp (tuple.md, "Versionstamp"). NoStamp comes exactly where the tuple holds none at
+/// any depth, ManyStamps exactly where it holds more than one.
 pub fn pack_with_stamp(alloc: Global, prefix: &[u8], tuple: &Tuple) -> Result<Bytes, StampPackFault>
     requires { length prefix.now + length (spelling tuple.now) + 4 < 2 ^ 32 }
     ensures { GivesPacked result (stamp_packed prefix.now tuple.now) }

@@ -24,7 +24,7 @@ impl Model for Text {
 }
 
 impl Text {
-    /// A copy of the text `s`.
+    /// Makes a Unicode string, a copy of `s`.
     pub fn from_str(alloc: Global, s: &str) -> Result<Text, AllocError>
         ensures { IfOk result (λ text. text ≡ s.now) }
     {
@@ -43,7 +43,7 @@ impl Text {
         }
     }
 
-    /// The text. It takes no memory.
+    /// Returns the text.
     pub fn as_str(&self) -> &str
         ensures { result.now ≡ self.now }
     {
@@ -51,7 +51,7 @@ impl Text {
         unsafe { str::from_utf8_unchecked(self.content.as_slice()) }
     }
 
-    /// The bytes of the text's UTF-8. It takes no memory.
+    /// Returns the bytes of the text's UTF-8.
     pub fn as_bytes(&self) -> &[u8]
         ensures value { result.now ≡ self.now }
         ensures utf8 { IsUtf8 self.now }
@@ -59,7 +59,7 @@ impl Text {
         self.content.as_slice()
     }
 
-    /// The bytes of the text's UTF-8 themselves. It takes no memory.
+    /// Turns the Unicode string into the bytes of its UTF-8.
     pub fn into_bytes(self) -> Bytes
         ensures { result ≡ self }
     {
@@ -76,7 +76,7 @@ impl Text {
         Ok(())
     }
 
-    /// A copy of this Unicode string.
+    /// Returns a copy of this Unicode string.
     pub fn copy(&self) -> Result<Text, AllocError>
         ensures { IfOk result (λ copy. copy ≡ self.now) }
     {

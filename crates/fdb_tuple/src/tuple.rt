@@ -78,7 +78,7 @@ ghost use Rattle.fdb_tuple.specs.Tuples.{Empty, depth_of, AreElements, IsTuple};
 ghost use Rattle.fdb_tuple.specs.Listed.{before, tuple_of, elements_of, IsTooDeep};
 
 impl Elem {
-    /// A copy of the element.
+    /// Returns a copy of the element.
     #[cycle(copy)]
     pub fn copy(&self) -> Result<Elem, AllocError>
         ensures { IfOk result (λ copy. copy ≡ self.now) }
@@ -146,7 +146,7 @@ fn shows_bytes(bytes: &[u8])
 {}
 
 impl Tuple {
-    /// The empty tuple. It takes no memory, and keeps the allocator for what is added later.
+    /// Makes the empty tuple.
     pub fn new(alloc: Global) -> Tuple
         ensures { result ≡ Empty }
     {
@@ -156,28 +156,28 @@ impl Tuple {
         }
     }
 
-    /// How many elements there are. It takes no memory.
+    /// Returns how many elements there are.
     pub fn len(&self) -> usize
         ensures { result ≡ length (elements_of self.now) }
     {
         self.as_slice().len()
     }
 
-    /// Whether there is no element. It takes no memory.
+    /// Tells whether there is no element.
     pub fn is_empty(&self) -> bool
         ensures { result ≡ (length (elements_of self.now) == 0) }
     {
         self.as_slice().is_empty()
     }
 
-    /// The depth: 0 without nested tuples, else 1 more than the greatest depth of one. It takes no memory.
+    /// Returns the depth: 0 without nested tuples, else 1 more than the greatest depth of one.
     pub fn depth(&self) -> u8
         ensures { result ≡ depth_of self.now }
     {
         self.depth
     }
 
-    /// The element at place `i`, counted from 0. It takes no memory.
+    /// Returns the element at place `i`, counted from 0.
     pub fn get(&self, i: usize) -> &Elem
         requires { i < length (elements_of self.now) }
         ensures { slice_get (elements_of self.now) i ≡ Some result.now }
@@ -185,7 +185,7 @@ impl Tuple {
         &self.as_slice()[i]
     }
 
-    /// The elements in order. It takes no memory.
+    /// Returns the elements in order.
     pub fn as_slice(&self) -> &[Elem]
         ensures elements { result.now ≡ elements_of self.now }
         ensures tuple { tuple_of result.now ≡ self.now }
@@ -193,7 +193,7 @@ impl Tuple {
         self.items.as_slice()
     }
 
-    /// The elements themselves, in order. It takes no memory.
+    /// Returns the elements themselves, in order.
     pub fn into_vec(self) -> Vec<Elem>
         ensures elements { result.items ≡ elements_of self }
         ensures tuple { tuple_of result.items ≡ self }
@@ -226,7 +226,7 @@ impl Tuple {
         Ok(())
     }
 
-    /// A copy of the tuple.
+    /// Returns a copy of the tuple.
     #[cycle(copy)]
     pub fn copy(&self) -> Result<Tuple, AllocError>
         ensures { IfOk result (λ copy. copy ≡ self.now) }

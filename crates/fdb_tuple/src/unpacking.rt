@@ -21,8 +21,8 @@ use byteorder::{BigEndian, ByteOrder};
 use key_bytes::Bytes;
 use std::alloc::Global;
 
-/// The tuple that the bytes spell, all of them. Where they spell none it answers the fault of the first faulty element
-/// from the left.
+/// Unpacks the tuple that the bytes spell, all of them. Where they spell none it answers the fault of the first
+/// faulty element from the left.
 pub fn unpack(alloc: Global, bytes: &[u8]) -> Result<Tuple, UnpackFault>
     // What is unpacked is spelled so.
     ensures found { IfOk result (λ tuple. IsTuple tuple × (bytes.now ≡ spelling tuple)) }

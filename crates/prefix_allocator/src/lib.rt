@@ -25,7 +25,7 @@ use fdb_subspace::Subspace;
 use outside::Words;
 use std::alloc::Global;
 
-/// The number that is granted to a transaction on a subspace, by the random words still to come.
+/// Returns the number that is granted to a transaction on a subspace, by the random words still to come.
 ///
 /// It is none of the numbers that were tried, as the transaction sees them before the call. `WindowFull`, `BadCounter` and
 /// `Tr` come exactly as the definition says; what the calls before a refusal did stays in the transaction, and the words that

@@ -58,14 +58,14 @@ impl<T: Drop> Sender<T> {
     ghost use Rattle.request_line.specs.History.{with_post, lower_half, upper_half, AreTogether, AreApart};
     ghost use Rattle.request_line.specs.Line.{sender_line, history};
 
-    /// The number of this sender, by which `Receiver::take` names it. It takes no memory.
+    /// Returns the number of this sender, by which `Receiver::take` names it.
     pub fn number(&self) -> u64
         ensures { result ≡ (history self.now).number }
     {
         self.number
     }
 
-    /// How many more times this sender can be split, one after another. It takes no memory.
+    /// Returns how many more times this sender can be split, one after another.
     pub fn room(&self) -> u32
         ensures { result ≡ (history self.now).room }
     {
@@ -95,7 +95,8 @@ impl<T: Drop> Sender<T> {
         })
     }
 
-    /// Posts an item, at the end of the line. It waits while the line is full, and for ever once the receiver is gone. It takes no memory.
+    /// Posts an item, at the end of the line. It waits while the line is full, and for ever once the receiver
+    /// is gone.
     pub fn post<R: Wait>(&mut self, rt: &R, mut item: T)
         ensures history { history self.new ≡ with_post (history self.old) item }
         ensures line { sender_line self.new ≡ sender_line self.old }
@@ -133,8 +134,8 @@ impl<T: Drop> Receiver<T> {
     ghost use Rattle.request_line.specs.Taking.{TakesInOrder, TakesAllWhereAsMany, TakesAfterSplit, IsOfThese, Agrees};
     ghost use Rattle.request_line.specs.Line.{sender_line, history, receiver_line, taken, closed};
 
-    /// Takes the item at the front of the line, with its sender's number. While there is none it looks again for a while, and
-    /// then sleeps. It takes no memory.
+    /// Takes the item at the front of the line, with its sender's number. While there is none it looks again
+    /// for a while, and then sleeps.
     pub fn take<R: Wait>(&mut self, rt: &R) -> (u64, T)
         ensures taken { taken self.new ≡ taken self.old ++ result ∷ [] }
         ensures closed { closed self.new ≡ closed self.old }
@@ -191,7 +192,8 @@ impl<T: Drop> Receiver<T> {
         self.taking.recv_as::<Takes, R>(rt, &mut self.pass)
     }
 
-    /// Closes a sender of this receiver's line, and tells what was taken of it and of each sender closed before. It takes no memory.
+    /// Closes a sender of this receiver's line, and tells what was taken of it and of each sender closed
+    /// before.
     pub fn close_with(&mut self, sender: Sender<T>)
         requires { sender_line sender ≡ receiver_line self.old }
         ensures closed { closed self.new ≡ closed self.old ++ history sender ∷ [] }

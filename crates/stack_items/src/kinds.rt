@@ -10,7 +10,7 @@ use key_bytes::Bytes;
 // The greatest limit of a range.
 const LIMIT_MOST: u128 = (1 << 31) - 1;
 
-/// The bytes of an element of the kind "bytes": of a byte string, or of a Unicode string's UTF-8. It takes no memory.
+/// Returns the bytes of an element of the kind "bytes": of a byte string, or of a Unicode string's UTF-8.
 pub fn bytes_of(element: &Elem) -> Option<&[u8]>
     ensures { option_map (λ bytes. bytes.now) result ≡ bytes_of element.now }
 {

@@ -17,7 +17,7 @@ use machine_rules::{Item, ItemValue, LOG_BATCH, LOGGED_BYTES};
 use std::alloc::{AllocError, Global};
 
 impl Stack {
-    /// The life that the uppermost item waits for which waits, of the items that `take_log` would take. It takes no memory.
+    /// Returns the life that the uppermost item waits for which waits, of the items that `take_log` would take.
     pub fn batch_life(&self) -> Option<u64>
         ensures { result ≡ first_life (take LOG_BATCH self.now) }
     {

@@ -57,21 +57,22 @@ impl<'a> Operands<'a> {
         Operands { items, popped: 0 }
     }
 
-    /// How many items the look came past. It takes no memory.
+    /// Returns how many items the look came past.
     pub fn popped(&self) -> usize
         ensures { result ≡ self.now.popped }
     {
         self.popped
     }
 
-    /// A byte string, or the UTF-8 of a Unicode string.
+    /// Looks at the next operand: a byte string, or the UTF-8 of a Unicode string.
     pub fn bytes(&mut self) -> Result<&'a [u8], StackFault>
         ensures { Looks (λ bytes. bytes.now) result bytes_operand self.old self.new }
     {
         bytes_of(self.element()?).ok_or(StackFault::Operand)
     }
 
-    /// A copy of a byte string, or of the UTF-8 of a Unicode string. It answers NoMemory where there is none for the copy.
+    /// Copies the next operand: a byte string, or the UTF-8 of a Unicode string. It answers NoMemory where
+    /// there is none for the copy.
     pub fn copied_bytes(&mut self) -> Result<Bytes, StackFault>
         ensures { LooksUnlessFull (λ bytes. bytes) result bytes_operand self.old self.new }
     {
@@ -82,7 +83,7 @@ impl<'a> Operands<'a> {
         }
     }
 
-    /// A code: an integer from 0 to 65,535.
+    /// Looks at the next operand: a code, an integer from 0 to 65,535.
     pub fn code(&mut self) -> Result<u16, StackFault>
         ensures { Looks (λ code. code) result code_operand self.old self.new }
     {
@@ -92,14 +93,14 @@ impl<'a> Operands<'a> {
             .ok_or(StackFault::Operand)
     }
 
-    /// A flag: an integer, true where it isn't 0, or a boolean.
+    /// Looks at the next operand: a flag, an integer that is true where it isn't 0, or a boolean.
     pub fn flag(&mut self) -> Result<bool, StackFault>
         ensures { Looks (λ flag. flag) result flag_operand self.old self.new }
     {
         flag_of(self.element()?).ok_or(StackFault::Operand)
     }
 
-    /// An offset: an integer of 32 bits with a sign.
+    /// Looks at the next operand: an offset, an integer of 32 bits with a sign.
     pub fn offset(&mut self) -> Result<i32, StackFault>
         ensures { Looks (λ offset. offset) result offset_operand self.old self.new }
     {
@@ -108,7 +109,7 @@ impl<'a> Operands<'a> {
             .ok_or(StackFault::Operand)
     }
 
-    /// A limit: an integer from 0 to 2^31 - 1.
+    /// Looks at the next operand: a limit, an integer from 0 to 2^31 - 1.
     pub fn limit(&mut self) -> Result<u32, StackFault>
         ensures { Looks (λ limit. limit) result limit_operand self.old self.new }
     {
@@ -118,7 +119,8 @@ impl<'a> Operands<'a> {
             .ok_or(StackFault::Operand)
     }
 
-    /// A streaming mode by its number, from -2 to 4 (API reference, "FDBStreamingMode").
+    /// Looks at the next operand: a streaming mode by its number, from -2 to 4 (API reference,
+    /// "FDBStreamingMode").
     pub fn mode(&mut self) -> Result<Mode, StackFault>
         ensures { Looks (λ mode. mode) result mode_operand self.old self.new }
     {
@@ -134,7 +136,7 @@ impl<'a> Operands<'a> {
         string_of(self.element()?).ok_or(StackFault::Operand)
     }
 
-    /// An integer.
+    /// Looks at the next operand: an integer.
     pub fn int(&mut self) -> Result<i128, StackFault>
         ensures { Looks (λ number. number) result int_operand self.old self.new }
     {
@@ -150,7 +152,7 @@ impl<'a> Operands<'a> {
         Ok((first, second))
     }
 
-    /// An integer from 0 upward.
+    /// Looks at the next operand: an integer from 0 upward.
     pub fn count(&mut self) -> Result<u128, StackFault>
         ensures { Looks (λ count. count) result count_operand self.old self.new }
     {
@@ -212,7 +214,7 @@ impl<'a> Operands<'a> {
         Ok(())
     }
 
-    /// An element of any kind.
+    /// Looks at the next operand: an element of any kind.
     pub fn element(&mut self) -> Result<&'a Elem, StackFault>
         ensures { Looks (λ element. element.now) result element_operand self.old self.new }
     {

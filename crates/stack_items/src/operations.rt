@@ -20,8 +20,8 @@ use machine_rules::{Item, ItemValue};
 use std::alloc::AllocError;
 
 impl Stack {
-    /// DUP: pushes a copy of the top item, with the copied item's number; the copy of one that waits waits for the same
-    /// life. Underflow comes exactly where there is no item. After NoMemory the stack is unchanged.
+    /// Pushes a copy of the top item (DUP), with the copied item's number; the copy of one that waits waits for
+    /// the same life. Underflow comes exactly where there is no item. After NoMemory the stack is unchanged.
     pub fn dup(&mut self, _instruction: u64) -> Result<(), StackFault>
         ensures said { Does result (dup self.old) self.old self.new }
         ensures memory { result ≡ Err StackFault.NoMemory → self.new ≡ self.old }
@@ -35,7 +35,7 @@ impl Stack {
         Ok(())
     }
 
-    /// EMPTY_STACK: drops all items. It takes no memory.
+    /// Drops all items (EMPTY_STACK).
     pub fn empty_stack(&mut self, _instruction: u64) -> Result<(), StackFault>
         ensures said { Does result (Ok []) self.old self.new }
         ensures ok { IsOk result }
@@ -44,9 +44,9 @@ impl Stack {
         Ok(())
     }
 
-    /// SWAP: pops a depth, and swaps the top item with the one at that depth, with their numbers. Underflow comes
-    /// exactly where there is no depth or no item at it, Operand exactly where the depth is no integer from 0 upward.
-    /// It takes no memory.
+    /// Pops a depth, and swaps the top item with the one at that depth (SWAP), with their numbers. Underflow
+    /// comes exactly where there is no depth or no item at it, Operand exactly where the depth is no integer
+    /// from 0 upward.
     pub fn swap(&mut self, _instruction: u64) -> Result<(), StackFault>
         ensures said { Does result (swap_by_depth self.old) self.old self.new }
         ensures memory { result ≢ Err StackFault.NoMemory }
@@ -59,7 +59,7 @@ impl Stack {
         Ok(())
     }
 
-    /// POP: drops the top item. Underflow comes exactly where there is none. It takes no memory.
+    /// Drops the top item (POP). Underflow comes exactly where there is none.
     pub fn pop(&mut self, _instruction: u64) -> Result<(), StackFault>
         ensures said { Does result (pop self.old) self.old self.new }
         ensures memory { result ≢ Err StackFault.NoMemory }
@@ -68,8 +68,8 @@ impl Stack {
         Ok(())
     }
 
-    /// SUB: pops two integers, and pushes the first less the second. Operand comes exactly where one is no integer, or
-    /// the difference has more than 128 bits. After NoMemory the items below the two stand.
+    /// Pops two integers, and pushes the first less the second (SUB). Operand comes exactly where one is no
+    /// integer, or the difference has more than 128 bits. After NoMemory the items below the two stand.
     pub fn sub(&mut self, instruction: u64) -> Result<(), StackFault>
         ensures said { Does result (sub instruction self.old) self.old self.new }
         ensures memory { result ≡ Err StackFault.NoMemory → self.new ≡ left_of self.old (two_operands int_operand int_operand self.old) }
@@ -82,8 +82,8 @@ impl Stack {
         self.push(Elem::Int(difference), instruction)
     }
 
-    /// CONCAT: pops two strings, and pushes the first followed by the second. Operand comes exactly where one is no
-    /// string, or they are not of one kind. After NoMemory the items below the two stand.
+    /// Pops two strings, and pushes the first followed by the second (CONCAT). Operand comes exactly where one
+    /// is no string, or they are not of one kind. After NoMemory the items below the two stand.
     pub fn concat(&mut self, instruction: u64) -> Result<(), StackFault>
         ensures said { Does result (concat instruction self.old) self.old self.new }
         ensures memory { result ≡ Err StackFault.NoMemory → self.new ≡ left_of self.old (two_operands string_operand string_operand self.old) }
@@ -95,8 +95,8 @@ impl Stack {
         self.push(whole, instruction)
     }
 
-    /// WAIT_FUTURE: pops the top item and pushes it again, with its own number. Underflow comes exactly where there is
-    /// none. It takes no memory.
+    /// Pops the top item and pushes it again, with its own number (WAIT_FUTURE). Underflow comes exactly where
+    /// there is none.
     pub fn wait_future(&mut self, _instruction: u64) -> Result<(), StackFault>
         ensures said { Does result (wait_future self.old) self.old self.new }
         ensures memory { result ≢ Err StackFault.NoMemory }
@@ -104,7 +104,7 @@ impl Stack {
         self.top_known()
     }
 
-    /// GET_APPROXIMATE_SIZE: pushes its fixed text. After NoMemory the stack is unchanged.
+    /// Pushes the fixed text of GET_APPROXIMATE_SIZE. After NoMemory the stack is unchanged.
     pub fn get_approximate_size(&mut self, instruction: u64) -> Result<(), StackFault>
         ensures said { Does result (get_approximate_size instruction self.old) self.old self.new }
         ensures memory { result ≡ Err StackFault.NoMemory → self.new ≡ self.old }
@@ -112,8 +112,8 @@ impl Stack {
         self.push_text(b"GOT_APPROXIMATE_SIZE", instruction)
     }
 
-    /// GET_ESTIMATED_RANGE_SIZE: pops the two ends of a range, and pushes its fixed text. Operand comes exactly where
-    /// one is not of the kind "bytes". After NoMemory the items below the two stand.
+    /// Pops the two ends of a range, and pushes the fixed text of GET_ESTIMATED_RANGE_SIZE. Operand comes
+    /// exactly where one is not of the kind "bytes". After NoMemory the items below the two stand.
     pub fn get_estimated_range_size(&mut self, instruction: u64) -> Result<(), StackFault>
         ensures said { Does result (get_estimated_range_size instruction self.old) self.old self.new }
         ensures memory { result ≡ Err StackFault.NoMemory → self.new ≡ left_of self.old (two_operands bytes_operand bytes_operand self.old) }
@@ -125,7 +125,7 @@ impl Stack {
         self.push_text(b"GOT_ESTIMATED_RANGE_SIZE", instruction)
     }
 
-    /// UNIT_TESTS: does nothing. It takes no memory.
+    /// Does nothing (UNIT_TESTS).
     pub fn unit_tests(&mut self, _instruction: u64) -> Result<(), StackFault>
         ensures said { Does result (Ok self.old) self.old self.new }
         ensures ok { IsOk result }

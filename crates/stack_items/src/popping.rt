@@ -17,7 +17,7 @@ use key_bytes::Bytes;
 use machine_rules::{Item, ItemValue};
 
 impl Stack {
-    /// A look at the operands of an operation, from the top item on. It takes no memory.
+    /// Looks at the operands of an operation, from the top item on.
     pub fn operands(&self) -> Operands<'_>
         ensures { result ≡ record { whole = self.now; popped = 0 } }
     {
@@ -43,9 +43,9 @@ impl Stack {
         }
     }
 
-    /// Pops an operand of the kind "bytes": a byte string, or a Unicode string taken as its UTF-8. Where there is
-    /// no item it answers Underflow; where the top item is of another kind it answers Operand, and the item is
-    /// gone; where the top item waits it answers Waits, and the item stays. It takes no memory.
+    /// Pops an operand of the kind "bytes": a byte string, or a Unicode string taken as its UTF-8. Where there
+    /// is no item it answers Underflow; where the top item is of another kind it answers Operand, and the item
+    /// is gone; where the top item waits it answers Waits, and the item stays.
     pub fn pop_bytes(&mut self) -> Result<Bytes, StackFault>
         ensures { Pops (λ bytes. bytes) result (bytes_operand self.old) self.old self.new }
     {

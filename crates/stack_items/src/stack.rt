@@ -38,7 +38,7 @@ impl Model for Stack {
 }
 
 impl Stack {
-    /// The empty stack. It takes no memory, and keeps the allocator for what is pushed later.
+    /// Makes the empty stack. It takes no memory, and keeps the allocator for what is pushed later.
     pub fn new(alloc: Global) -> Stack
         ensures { result ≡ [] }
     {
@@ -47,21 +47,21 @@ impl Stack {
         }
     }
 
-    /// How many items there are. It takes no memory.
+    /// Returns how many items there are.
     pub fn len(&self) -> usize
         ensures { result ≡ length self.now }
     {
         self.items.len()
     }
 
-    /// Whether there is no item. It takes no memory.
+    /// Tells whether there is no item.
     pub fn is_empty(&self) -> bool
         ensures { result ≡ (length self.now == 0) }
     {
         self.items.is_empty()
     }
 
-    /// The item at place `i`, the oldest at 0. It takes no memory.
+    /// Returns the item at place `i`, the oldest at 0.
     pub fn get(&self, i: usize) -> &Item
         requires { i < length self.now }
         ensures item { slice_get (reverse self.now) i ≡ Some result.now }
@@ -70,7 +70,7 @@ impl Stack {
         &self.items[i]
     }
 
-    /// The items, oldest first. It takes no memory.
+    /// Returns the items, oldest first.
     pub fn as_slice(&self) -> &[Item]
         ensures items { result.now ≡ reverse self.now }
         ensures elements { AreItems result.now }
@@ -88,7 +88,7 @@ impl Stack {
         Ok(())
     }
 
-    /// Takes the top item off. It takes no memory.
+    /// Takes the top item off.
     pub fn take(&mut self) -> Item
         requires { 0 < length self.old }
         ensures item { self.old ≡ result ∷ self.new }
@@ -97,8 +97,8 @@ impl Stack {
         self.items.pop().unwrap()
     }
 
-    /// Makes the item known that waits at place `i`, the oldest item at 0: it is this element from then on, and keeps the number of
-    /// its instruction. It takes no memory.
+    /// Makes the item known that waits at place `i`, the oldest item at 0: it is this element from then on, and
+    /// keeps the number of its instruction.
     pub fn decide(&mut self, i: usize, value: Elem)
         requires place { i < length self.old }
         requires waits { IfSome (slice_get (reverse self.old) i) IsWaiting }
@@ -108,8 +108,8 @@ impl Stack {
         self.items[i].value = ItemValue::Known(value);
     }
 
-    /// The operation PUSH: puts an element on top, with the number of the instruction that is run
-    /// (bindingApiTester.md, "Data Operations"). After a refusal, for want of memory alone, the stack is unchanged.
+    /// Pushes an element on top (PUSH), with the number of the instruction that is run (bindingApiTester.md,
+    /// "Data Operations"). After a refusal, for want of memory alone, the stack is unchanged.
     pub fn push(&mut self, element: Elem, instruction: u64) -> Result<(), StackFault>
         requires { IsElement element }
         ensures ok { OnOk result (self.new ≡ pushed instruction (element ∷ []) self.old) }

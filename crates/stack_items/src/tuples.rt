@@ -27,7 +27,7 @@ use std::alloc::Global;
 const STAMPED_LIMIT: usize = (1 << 32) - 4;
 
 impl Stack {
-    /// TUPLE_PACK: pops a tuple, and pushes its packed bytes.
+    /// Pops a tuple, and pushes its packed bytes (TUPLE_PACK).
     pub fn tuple_pack(&mut self, instruction: u64) -> Result<(), StackFault>
         ensures said { Does result (tuple_pack instruction self.old) self.old self.new }
         ensures memory { result ≡ Err StackFault.NoMemory → EndsIn (left_of self.old (tuple_operand self.old)) self.new }
@@ -37,10 +37,10 @@ impl Stack {
         self.push(Elem::Bytes(packed), instruction)
     }
 
-    /// TUPLE_PACK_WITH_VERSIONSTAMP: pops a prefix of the kind "bytes" and a tuple, and pushes `OK` and the two packed
-    /// with the place of the one incomplete versionstamp; `ERROR: NONE` where there is none, `ERROR: MULTIPLE` where
-    /// there are more. Operand comes, besides for a wrong kind, exactly where the prefix and the packed tuple have
-    /// together 2^32 - 4 bytes or more.
+    /// Pops a prefix of the kind "bytes" and a tuple, and pushes `OK` and the two packed with the place of the
+    /// one incomplete versionstamp (TUPLE_PACK_WITH_VERSIONSTAMP); `ERROR: NONE` where there is none, `ERROR:
+    /// MULTIPLE` where there are more. Operand comes, besides for a wrong kind, exactly where the prefix and
+    /// the packed tuple have together 2^32 - 4 bytes or more.
     pub fn tuple_pack_with_versionstamp(&mut self, instruction: u64) -> Result<(), StackFault>
         ensures said { Does result (tuple_pack_with_versionstamp instruction self.old) self.old self.new }
         ensures memory { result ≡ Err StackFault.NoMemory → EndsIn (left_of self.old (two_operands bytes_operand tuple_operand self.old)) self.new }
@@ -75,8 +75,8 @@ impl Stack {
         }
     }
 
-    /// TUPLE_UNPACK: pops bytes, and pushes each element of the tuple that they pack, packed alone. Operand comes
-    /// exactly where they are not of the kind "bytes", or pack no tuple.
+    /// Pops bytes, and pushes each element of the tuple that they pack, packed alone (TUPLE_UNPACK). Operand
+    /// comes exactly where they are not of the kind "bytes", or pack no tuple.
     pub fn tuple_unpack(&mut self, instruction: u64) -> Result<(), StackFault>
         ensures said { Does result (tuple_unpack instruction self.old) self.old self.new }
         ensures memory { result ≡ Err StackFault.NoMemory → EndsIn (left_of self.old (bytes_operand self.old)) self.new }
@@ -99,7 +99,7 @@ impl Stack {
         Ok(())
     }
 
-    /// TUPLE_RANGE: pops a tuple, and pushes the begin and then the end of its range.
+    /// Pops a tuple, and pushes the begin and then the end of its range (TUPLE_RANGE).
     pub fn tuple_range(&mut self, instruction: u64) -> Result<(), StackFault>
         ensures said { Does result (tuple_range instruction self.old) self.old self.new }
         ensures memory { result ≡ Err StackFault.NoMemory → EndsIn (left_of self.old (tuple_operand self.old)) self.new }
@@ -110,9 +110,9 @@ impl Stack {
         self.push(Elem::Bytes(ends.end), instruction)
     }
 
-    /// TUPLE_SORT: pops a count and so many byte strings, and pushes them in the order of the tuples that they pack,
-    /// the greatest last; equal ones all stay. Operand comes exactly where one is not of the kind "bytes", judged as it
-    /// is popped, or, after all were popped, where one packs no tuple.
+    /// Pops a count and so many byte strings, and pushes them in the order of the tuples that they pack, the
+    /// greatest last (TUPLE_SORT); equal ones all stay. Operand comes exactly where one is not of the kind
+    /// "bytes", judged as it is popped, or, after all were popped, where one packs no tuple.
     pub fn tuple_sort(&mut self, instruction: u64) -> Result<(), StackFault>
         ensures said { Does result (tuple_sort instruction self.old) self.old self.new }
         ensures memory { result ≡ Err StackFault.NoMemory → EndsIn (left_of self.old (byte_strings_operand self.old)) self.new }

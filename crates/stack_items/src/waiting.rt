@@ -26,7 +26,7 @@ impl Stack {
         Ok(())
     }
 
-    /// The place of the uppermost item that waits, the oldest item at 0. It takes no memory.
+    /// Returns the place of the uppermost item that waits, the oldest item at 0.
     pub fn first_waiting(&self) -> Option<usize>
         ensures value { result ≡ waiting_place self.now }
         ensures within { IfSome result (λ place. place < length self.now) }
@@ -35,8 +35,8 @@ impl Stack {
         uppermost_waiting(self.as_slice())
     }
 
-    /// Makes the uppermost item known that waits, where one does: it is this element from then on, and keeps the number of its
-    /// instruction. It takes no memory.
+    /// Makes the uppermost item known that waits, where one does: it is this element from then on, and keeps
+    /// the number of its instruction.
     pub fn decide_first(&mut self, value: Elem)
         requires { IsElement value }
         ensures { self.new ≡ with_known value self.old }
@@ -46,7 +46,7 @@ impl Stack {
         }
     }
 
-    /// Drops the uppermost item that waits and all above it; where none waits, all items. It takes no memory.
+    /// Drops the uppermost item that waits and all above it; where none waits, all items.
     pub fn drop_waiting(&mut self)
         ensures { self.new ≡ below_waiting self.old }
     {

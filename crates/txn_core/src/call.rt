@@ -19,9 +19,10 @@ use std::alloc::AllocError;
 use version_store::Store;
 
 impl Txn {
-    /// One call, over a store and the index of its writes; `life` is the number of the life that a call draws which begins
-    /// anew. A commit adds one version to both. It is refused for want of memory alone: then the transaction stands as
-    /// before, but that its version may be taken, and the store and the index keep the same history.
+    /// Makes one call, over a store and the index of its writes; `life` is the number of the life that a call
+    /// draws which begins anew. A commit adds one version to both. It is refused for want of memory alone: then
+    /// the transaction stands as before, but that its version may be taken, and the store and the index keep
+    /// the same history.
     pub fn call(
         &mut self,
         store: &mut Store,

@@ -42,7 +42,7 @@ fn is_retryable(code: Code) -> bool
 }
 
 impl Txn {
-    /// Begins anew, with a life of this number (`fdb_transaction_reset`). Room for a few mutations stays. It takes no memory.
+    /// Begins anew, with a life of this number (`fdb_transaction_reset`). Room for a few mutations stays.
     pub fn reset(&mut self, life: u64)
         ensures { StandsFor self.new (rules.fresh life) }
     {
@@ -58,8 +58,8 @@ impl Txn {
         self.phase = Phase::Active;
     }
 
-    /// Lets each further call of this life fail (`fdb_transaction_cancel`). A life that a commit was tried in stays as it
-    /// is. It takes no memory.
+    /// Lets each further call of this life fail (`fdb_transaction_cancel`). A life that a commit was tried in
+    /// stays as it is.
     pub fn cancel(&mut self)
         ensures { (t : rules.Transaction) → StandsFor self.old t → StandsFor self.new (rules.cancelled t) }
     {
@@ -68,8 +68,8 @@ impl Txn {
         }
     }
 
-    /// Begins anew after an error that may be retried, with a life of this number (`fdb_transaction_on_error`). Another
-    /// error is answered with its own code, and cancels; a cancelled life answers 1025. It takes no memory.
+    /// Begins anew after an error that may be retried, with a life of this number (`fdb_transaction_on_error`).
+    /// Another error is answered with its own code, and cancels; a cancelled life answers 1025.
     pub fn on_error(&mut self, code: Code, life: u64) -> Result<(), Code>
         ensures { (t : rules.Transaction) → StandsFor self.old t → Handled result self.new (on_error_called life t code) }
     {

@@ -68,7 +68,7 @@ impl Model for Txn {
 impl Txn {
     ghost use Rattle.txn_core.specs.Stands.{StandsFor, Keeps};
 
-    /// A life of this number, before its first call. It takes no memory, and keeps the allocator.
+    /// Makes a life of this number, before its first call.
     pub fn new(alloc: Global, life: u64) -> Txn
         ensures { StandsFor result (rules.fresh life) }
     {
@@ -85,7 +85,7 @@ impl Txn {
         }
     }
 
-    /// A transaction of a new life at the last version of a store, for a call of its own. It takes no memory.
+    /// Makes a transaction of a new life at the last version of a store, for a call of its own.
     pub fn at_last(alloc: Global, life: u64, store: &Store) -> Txn
         ensures { (index : Index) (setting : Setting) → Keeps store.now index setting
             → StandsFor result (rules.with_version setting (rules.fresh life)) }
@@ -100,7 +100,7 @@ impl Txn {
         self.edits.allocator()
     }
 
-    /// The keys that it rests on, as ranges that are not empty, lie apart and rise. It takes no memory.
+    /// Returns the keys that it rests on, as ranges that are not empty, lie apart and rise.
     pub fn read_ranges(&self) -> &RangeSet
         ensures { result.now ≡ self.now.read_ranges }
     {

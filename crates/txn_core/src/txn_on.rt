@@ -38,9 +38,10 @@ pub struct TxnOn<'a> {
 }
 
 impl TxnOn<'_> {
-    /// The checks of a commit, the first that fails by its code: 2101 where the mutations have too many bytes, 1009 where
-    /// the read version is above the last one, 1020 exactly where a commit after it declared a key that the transaction rests
-    /// on; then whether there is anything to write. A transaction that goes on to its version takes it.
+    /// Asks the checks of a commit, and answers the first that fails by its code: 2101 where the mutations have too many
+    /// bytes, 1009 where the read version is above the last one, 1020 exactly where a commit after it declared
+    /// a key that the transaction rests on; then whether there is anything to write. A transaction that goes on
+    /// to its version takes it.
     pub fn judge(&mut self) -> Result<Verdict, TrFault>
         ensures verdict { (setting : Setting) (t : Transaction) → StandsFor self.old.txn.now t → Keeps self.old.store.now self.old.index.now setting
             → Judged result (StandsFor self.new.txn.now) setting t }
@@ -52,8 +53,8 @@ impl TxnOn<'_> {
         self.txn.judge(self.store, self.index)
     }
 
-    /// What leads from the map at the store's last version to that map after the transaction's mutations, where this is the
-    /// commit's versionstamp. It names only keys that a mutation touches.
+    /// Returns the changes that lead from the map at the store's last version to that map after the transaction's
+    /// mutations, where this is the commit's versionstamp. They name only keys that a mutation touches.
     pub fn changes(&self, stamp: &[u8; 10]) -> Result<Changes, AllocError>
         ensures leads { IfOk result (λ changes. (t : Transaction) → StandsFor self.now.txn.now t
             → changed changes (at self.now.store.now (last_of self.now.store.now))
@@ -64,7 +65,7 @@ impl TxnOn<'_> {
         self.txn.changes(self.store, stamp)
     }
 
-    /// The keys that the transaction's commit declares to write, where this is its versionstamp.
+    /// Returns the keys that the transaction's commit declares to write, where this is its versionstamp.
     pub fn write_ranges(&self, stamp: &[u8; 10]) -> Result<RangeSet, AllocError>
         ensures { IfOk result (λ ranges. (t : Transaction) (key : List ℕ) → StandsFor self.now.txn.now t
             → covers ranges key ≡ covers (declared_of stamp.now t) key) }
@@ -72,7 +73,7 @@ impl TxnOn<'_> {
         self.txn.declared_keys(stamp)
     }
 
-    /// Notes what became of a commit. It takes no memory.
+    /// Notes what became of a commit.
     pub fn tried(&mut self, tried: Tried)
         requires active { self.old.txn.now.phase ≡ phase.Active }
         requires low { IsLow tried }
@@ -86,8 +87,8 @@ impl TxnOn<'_> {
 }
 
 impl TxnOn<'_> {
-    /// The key that `selector` means among those that the transaction sees (`fdb_transaction_get_key`). A read by snapshot has
-    /// the same answer, and adds nothing to the keys that the transaction rests on.
+    /// Returns the key that `selector` means among those that the transaction sees (`fdb_transaction_get_key`).
+    /// A read by snapshot has the same answer, and adds nothing to the keys that the transaction rests on.
     pub fn get_key(&mut self, selector: &Selector, snapshot: bool) -> Result<Key, TrFault>
         ensures answer { (setting : Setting) (t : Transaction) → StandsFor self.old.txn.now t → Keeps self.old.store.now self.old.index.now setting
             → Answered reply.KeyIs result (StandsFor self.new.txn.now) t (read_called setting t false snapshot (read.GetKey selector.now)) }
@@ -98,9 +99,9 @@ impl TxnOn<'_> {
         self.txn.get_key(self.store, selector, snapshot)
     }
 
-    /// The pairs between the keys that two selectors mean, up to `limit`, or all where it is 0, in the order of their keys, or
-    /// in the other order where `reverse` holds (`fdb_transaction_get_range`). 2210 where the mode is `Exact` and the limit
-    /// is 0; else the mode changes nothing.
+    /// Returns the pairs between the keys that two selectors mean, up to `limit`, or all where it is 0, in the
+    /// order of their keys, or in the other order where `reverse` holds (`fdb_transaction_get_range`). 2210
+    /// where the mode is `Exact` and the limit is 0; else the mode changes nothing.
     pub fn get_range(
         &mut self,
         begin: &Selector,
@@ -121,7 +122,7 @@ impl TxnOn<'_> {
         self.txn.get_range(self.store, begin, end, manner, snapshot)
     }
 
-    /// The same between two keys.
+    /// Reads the pairs between two keys, as `get_range` does between the keys that two selectors mean.
     pub fn get_key_range(
         &mut self,
         range: &KeyRange,
@@ -165,7 +166,7 @@ impl TxnOn<'_> {
         self.txn.write_conflict(range)
     }
 
-    /// The read version, which is taken where there is none; it may be above the last one
+    /// Returns the read version, which is taken where there is none; it may be above the last one
     /// (`fdb_transaction_get_read_version`).
     pub fn read_version(&mut self) -> Result<u64, TrFault>
         ensures answer { (setting : Setting) (t : Transaction) → StandsFor self.old.txn.now t → Keeps self.old.store.now self.old.index.now setting
@@ -189,15 +190,15 @@ impl TxnOn<'_> {
         self.txn.set_read_version(version)
     }
 
-    /// The life whose commit's versionstamp is promised (`fdb_transaction_get_versionstamp`); 1025 exactly where it was
-    /// cancelled, and 2017 exactly where a commit of it was tried. It takes no memory.
+    /// Returns the life whose commit's versionstamp is promised (`fdb_transaction_get_versionstamp`); 1025
+    /// exactly where it was cancelled, and 2017 exactly where a commit of it was tried.
     pub fn promise(&self) -> Result<u64, Code>
         ensures { Promises result self.now.txn.now }
     {
         self.txn.promise()
     }
 
-    /// The keys that the transaction rests on, as ranges that are not empty, lie apart and rise. It takes no memory.
+    /// Returns the keys that the transaction rests on, as ranges that are not empty, lie apart and rise.
     pub fn read_ranges(&self) -> &RangeSet
         ensures { result.now ≡ self.now.txn.now.read_ranges }
     {

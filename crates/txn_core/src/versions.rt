@@ -44,7 +44,7 @@ impl Txn {
         Ok(())
     }
 
-    /// The version that the commit of this life made, or -1 (`fdb_transaction_get_committed_version`). It takes no memory.
+    /// Returns the version that the commit of this life made, or -1 (`fdb_transaction_get_committed_version`).
     pub fn committed_version(&self) -> i64
         ensures { result ≡ rules.version_made self.now.phase }
     {
@@ -54,8 +54,8 @@ impl Txn {
         }
     }
 
-    /// The life whose commit's versionstamp is promised (`fdb_transaction_get_versionstamp`); 1025 exactly where it was
-    /// cancelled, and 2017 exactly where a commit of it was tried. It takes no memory.
+    /// Returns the life whose commit's versionstamp is promised (`fdb_transaction_get_versionstamp`); 1025
+    /// exactly where it was cancelled, and 2017 exactly where a commit of it was tried.
     #[tactic(auto, unfolding(database_rules::specs::Transactions::phase_code))]
     pub fn promise(&self) -> Result<u64, Code>
         ensures { Promises result self.now }
@@ -66,15 +66,15 @@ impl Txn {
         }
     }
 
-    /// The number of its life. It takes no memory.
+    /// Returns the number of its life.
     pub fn life(&self) -> u64
         ensures { result ≡ self.now.life }
     {
         self.life
     }
 
-    /// What became of its life: the versionstamp of its commit, or the code of why it has none; None where that isn't decided
-    /// yet. It takes no memory.
+    /// Returns what became of its life: the versionstamp of its commit, or the code of why it has none; None
+    /// where that isn't decided yet.
     pub fn outcome(&self) -> Option<Outcome>
         ensures { result ≡ outcome_of self.now.phase }
     {

@@ -32,7 +32,7 @@ impl Model for Changes {
 }
 
 impl Changes {
-    /// The empty list. It takes no memory, and keeps the allocator for what is added later.
+    /// Makes the empty list.
     pub fn new(alloc: Global) -> Changes
         ensures { result ≡ [] }
     {
@@ -41,7 +41,7 @@ impl Changes {
         }
     }
 
-    /// How many changes there are, whose keys are distinct and rise. It takes no memory.
+    /// Returns how many changes there are, whose keys are distinct and rise.
     pub fn len(&self) -> usize
         ensures value { result ≡ length self.now }
         ensures rising { IsRising self.now }
@@ -49,7 +49,7 @@ impl Changes {
         self.items.len()
     }
 
-    /// The change at place `i`. It takes no memory.
+    /// Returns the change at place `i`.
     pub fn get(&self, i: usize) -> &Change
         requires { i < length self.now }
         ensures { slice_get self.now i ≡ Some (change_of result.now) }
@@ -57,7 +57,7 @@ impl Changes {
         &self.items[i]
     }
 
-    /// Whether `key` stands above the keys of all changes, so that a change of it may be added. It takes no memory.
+    /// Tells whether `key` stands above the keys of all changes, so that a change of it may be added.
     pub fn is_below(&self, key: &Key) -> bool
         ensures { result ≡ is_above self.now key.now }
     {

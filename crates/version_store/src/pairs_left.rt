@@ -57,7 +57,7 @@ impl<'a> Iterator for PairsLeft<'a> {
 
     ghost remaining = { λ left. at_most (length left) };
 
-    /// The first pair that is left, which it takes. It takes no memory.
+    /// Takes the first pair that is left, and returns it.
     fn next(&mut self) -> Option<(&'a Key, &'a Bytes)> {
         while let Some((key, place)) = self.span.next() {
             if let Some(value) = value_at(self.nodes, *place, self.version) {

@@ -66,7 +66,7 @@ impl Model for Store {
 }
 
 impl Store {
-    /// The empty map at version 0. It takes no memory, and keeps the allocator for what comes later.
+    /// Makes the empty map at version 0.
     #[tactic(auto, unfolding(crate::specs::Versions::last_of, crate::specs::Versions::oldest_of, crate::specs::Versions::at, crate::specs::Versions::database_at, crate::specs::Versions::present))]
     pub fn new(alloc: Global) -> Store
         ensures last { last_of result ≡ 0 }
@@ -82,8 +82,8 @@ impl Store {
         }
     }
 
-    /// The store whose first version has these pairs: of two values of one key the later stays. It moves the keys and
-    /// values, and copies none.
+    /// Loads a store whose first version has these pairs: of two values of one key the later stays. It moves
+    /// the keys and values, and copies none.
     #[tactic(auto, unfolding(crate::specs::Versions::last_of, crate::specs::Versions::oldest_of, crate::specs::Versions::at))]
     pub fn load(alloc: Global, pairs: Pairs) -> Result<Store, AllocError>
         ensures last { IfOk result (λ store. last_of store ≡ 1) }
@@ -106,7 +106,7 @@ impl Store {
         })
     }
 
-    /// The last version. It takes no memory.
+    /// Returns the last version.
     #[tactic(auto, unfolding(crate::specs::Versions::last_of))]
     pub fn last(&self) -> u64
         ensures { result ≡ last_of self.now }
@@ -114,7 +114,7 @@ impl Store {
         self.last
     }
 
-    /// The oldest version that can be read. It takes no memory.
+    /// Returns the oldest version that can be read.
     #[tactic(auto, unfolding(crate::specs::Versions::oldest_of))]
     pub fn oldest(&self) -> u64
         ensures { result ≡ oldest_of self.now }
@@ -137,8 +137,8 @@ impl Store {
         Ok(())
     }
 
-    /// The value of `key` at a version, if it has one then. TooOld exactly where the version is less than the oldest
-    /// one, Future exactly where it is greater than the last one. It takes no memory.
+    /// Returns the value of `key` at a version, if it has one then. TooOld exactly where the version is less
+    /// than the oldest one, Future exactly where it is greater than the last one.
     pub fn get_at(&self, key: &Key, version: u64) -> Result<Option<&[u8]>, VersionFault>
         ensures ok { IfOk result (λ value. IsReadable self.now version
             × (option_copied value ≡ finite.get (at self.now version) key.now)) }
@@ -154,9 +154,9 @@ impl Store {
         }
     }
 
-    /// The pairs at a version from `key` on, in the order of their keys, for a loop over them: one search for all of them. It
-    /// copies none. TooOld exactly where the version is less than the oldest one, Future exactly where it is greater than the
-    /// last one. It takes no memory.
+    /// Returns an iterator over the pairs at a version from `key` on, in the order of their keys. It takes one
+    /// search for all of them, and copies none. TooOld exactly where the version is less than the oldest one,
+    /// Future exactly where it is greater than the last one.
     pub fn pairs_from(&self, key: &Key, version: u64) -> Result<PairsLeft<'_>, VersionFault>
         ensures ok { IfOk result (λ left. IsReadable self.now version
             × (left ≡ filter (λ e. key_le key.now e.0) (finite.entries (at self.now version)))) }
@@ -166,9 +166,10 @@ impl Store {
         Ok(PairsLeft::new(&self.nodes, self.tree.range(key..), version))
     }
 
-    /// The pairs at a version from `begin` on with keys that are less than `end`, in the order of their keys, for a loop over
-    /// them: one search for all of them. It goes over that range of the tree alone, and copies no pair. TooOld exactly where the
-    /// version is less than the oldest one, Future exactly where it is greater than the last one. It takes no memory.
+    /// Returns the pairs at a version from `begin` on with keys that are less than `end`, in the order of their
+    /// keys, for a loop over them: one search for all of them. It goes over that range of the tree alone, and
+    /// copies no pair. TooOld exactly where the version is less than the oldest one, Future exactly where it is
+    /// greater than the last one.
     pub fn pairs_in(
         &self,
         begin: &Key,
@@ -186,8 +187,8 @@ impl Store {
         Ok(PairsLeft::new(&self.nodes, self.tree.range(begin..end), version))
     }
 
-    /// The first pair at a version with a key that is at least `key`. TooOld exactly where the version is less than the
-    /// oldest one, Future exactly where it is greater than the last one. It takes no memory.
+    /// Returns the first pair at a version with a key that is at least `key`. TooOld exactly where the version
+    /// is less than the oldest one, Future exactly where it is greater than the last one.
     pub fn next_at(&self, key: &Key, version: u64) -> Result<Option<(&Key, &Bytes)>, VersionFault>
         ensures ok { IfOk result (λ pair. IsReadable self.now version
             × (option_map deref_pair pair
@@ -197,8 +198,8 @@ impl Store {
         Ok(self.pairs_from(key, version)?.next())
     }
 
-    /// The last pair at a version with a key that is less than `key`. TooOld exactly where the version is less than the
-    /// oldest one, Future exactly where it is greater than the last one. It takes no memory.
+    /// Returns the last pair at a version with a key that is less than `key`. TooOld exactly where the version
+    /// is less than the oldest one, Future exactly where it is greater than the last one.
     pub fn prev_at(&self, key: &Key, version: u64) -> Result<Option<(&Key, &Bytes)>, VersionFault>
         ensures ok { IfOk result (λ pair. IsReadable self.now version
             × (option_map deref_pair pair
@@ -231,8 +232,8 @@ impl Store {
         add_room(&mut self.nodes, changes.len())
     }
 
-    /// Adds one version: the database before, after these changes. They were reserved, and nothing was installed since.
-    /// It takes no memory, and no search.
+    /// Adds one version: the database before, after these changes. They were reserved, and nothing was
+    /// installed since. It takes no search.
     pub fn install(&mut self, changes: Changes)
         requires ready { IsReadyFor self.old changes }
         requires next { last_of self.old + 1 < 2 ^ 64 }
@@ -254,22 +255,23 @@ impl Store {
         self.last = version;
     }
 
-    /// The pairs at the last version, in the order of their keys, for a loop over them. It copies none, and takes no
-    /// memory.
+    /// Returns the pairs at the last version, in the order of their keys, for a loop over them. It copies none,
+    /// and takes no memory.
     pub fn pairs_left(&self) -> PairsLeft<'_>
         ensures { result ≡ finite.entries (at self.now (last_of self.now)) }
     {
         PairsLeft::new(&self.nodes, self.tree.range(..), self.last)
     }
 
-    /// A copy of the pairs at the last version, in the order of their keys.
+    /// Returns a copy of the pairs at the last version, in the order of their keys.
     pub fn pairs(&self) -> Result<Pairs, AllocError>
         ensures { IfOk result (λ pairs. pairs ≡ finite.entries (at self.now (last_of self.now))) }
     {
         copied(self.alloc, self.pairs_left())
     }
-    /// A copy of the pairs at the last version with keys from `begin` up to `end`, `end` left out, in the order of their
-    /// keys. There is none where `begin` isn't less than `end`. It goes over that range of the tree alone.
+    /// Returns a copy of the pairs at the last version with keys from `begin` up to `end`, `end` left out, in
+    /// the order of their keys. There is none where `begin` isn't less than `end`. It goes over that range of
+    /// the tree alone.
     pub fn pairs_between(&self, begin: &Key, end: &Key) -> Result<Pairs, AllocError>
         ensures { IfOk result (λ pairs. pairs
             ≡ filter (λ e. within begin.now end.now e.0)

@@ -48,14 +48,14 @@ impl AtomicEdits {
         Ok(edits)
     }
 
-    /// How many operations there are. It takes no memory.
+    /// Returns how many operations there are.
     pub fn len(&self) -> usize
         ensures { result ≡ length self.now }
     {
         self.items.len()
     }
 
-    /// The operation at place `i`, the first at 0. It takes no memory.
+    /// Returns the operation at place `i`, the first at 0.
     pub fn get(&self, i: usize) -> &AtomicEdit
         requires { i < length self.now }
         ensures { slice_get self.now i ≡ Some (edit_of result.now) }
@@ -63,7 +63,7 @@ impl AtomicEdits {
         &self.items[i]
     }
 
-    /// The operations in order, for a loop over them. It takes no memory.
+    /// Returns the operations in order, for a loop over them.
     pub fn as_slice(&self) -> &[AtomicEdit]
         ensures { edits_of result.now ≡ self.now }
     {

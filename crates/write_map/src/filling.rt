@@ -25,8 +25,9 @@ fn filled(alloc: Global, mutations: &[Mutation], stamp: &[u8; 10]) -> Result<Wri
 }
 
 impl WriteMap {
-    /// A map of the same mutations, each as a commit with this versionstamp does it: a key or a value with a versionstamp is
-    /// filled in, and set (API reference, "fdb_transaction_atomic_op"). No key of it is unreadable.
+    /// Makes a map of the same mutations, each as a commit with this versionstamp does it: a key or a value
+    /// with a versionstamp is filled in, and set (API reference, "fdb_transaction_atomic_op"). No key of it is
+    /// unreadable.
     pub fn filled(&self, stamp: &[u8; 10]) -> Result<WriteMap, AllocError>
         ensures { IfOk result (λ map. map.mutations ≡ all_filled stamp.now self.now.mutations) }
     {

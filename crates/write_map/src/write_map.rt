@@ -65,7 +65,7 @@ impl Model for WriteMap {
 }
 
 impl WriteMap {
-    /// No mutation. It takes no memory, and keeps the allocator for what is added later.
+    /// Makes the map without a mutation.
     pub fn new(alloc: Global) -> WriteMap
         ensures { result ≡ record { mutations = []; edges = [] } }
     {
@@ -77,20 +77,20 @@ impl WriteMap {
         }
     }
 
-    /// The allocator that this map was made with. It takes no memory.
+    /// Returns the allocator that this map was made with.
     pub fn allocator(&self) -> Global {
         self.alloc
     }
 
-    /// Whether there is no mutation. It takes no memory.
+    /// Tells whether there is no mutation.
     pub fn is_empty(&self) -> bool
         ensures { result ≡ nat_lt (length self.now.mutations) 1 }
     {
         self.log.len() < 1
     }
 
-    /// Whether a mutation has a versionstamp, which is filled in by its commit. It takes no memory, and no time in proportion
-    /// to the mutations (API reference, "fdb_transaction_atomic_op").
+    /// Tells whether a mutation has a versionstamp, which is filled in by its commit. It takes no time in
+    /// proportion to the mutations (API reference, "fdb_transaction_atomic_op").
     pub fn has_stamps(&self) -> bool
         ensures { result ≡ list_any is_stamped self.now.mutations }
     {
@@ -104,14 +104,14 @@ impl WriteMap {
         let _ = &self.alloc;
     }
 
-    /// The mutations, in their order. It takes no memory.
+    /// Returns the mutations, in their order.
     pub fn mutations(&self) -> &[Mutation]
         ensures { mutations_of result.now ≡ self.now.mutations }
     {
         self.log.as_slice()
     }
 
-    /// What the mutations make of a key. It takes no memory (API reference, "fdb_transaction_get" and
+    /// Returns what the mutations make of a key (API reference, "fdb_transaction_get" and
     /// "fdb_transaction_atomic_op", on what a transaction reads of its own writes).
     pub fn at(&self, key: &Key) -> KeyState<'_>
         ensures { IsStateUnder self.now.mutations key.now result }
@@ -119,8 +119,8 @@ impl WriteMap {
         self.levels.at(key).shown()
     }
 
-    /// The first edge above a key: up to it all keys from this one on are alike. None where all keys from this one on are.
-    /// It takes no memory.
+    /// Returns the first edge above a key: up to it all keys from this one on are alike. None where all keys
+    /// from this one on are.
     pub fn next_edge(&self, key: &Key) -> Option<&Key>
         ensures edge { option_map (λ edge. edge.now) result
             ≡ first (filter (key_lt key.now) self.now.edges) }
@@ -134,8 +134,8 @@ impl WriteMap {
         self.levels.next(key)
     }
 
-    /// What the mutations make of a key, as `at` gives it, and the first edge above it, as `next_edge` gives it: one search of
-    /// the edges where the key is an edge itself, and else one more. It takes no memory.
+    /// Returns what the mutations make of a key, as `at` gives it, and the first edge above it, as `next_edge`
+    /// gives it: one search of the edges where the key is an edge itself, and else one more.
     pub fn around(&self, key: &Key) -> (KeyState<'_>, Option<&Key>)
         ensures state { IsStateUnder self.now.mutations key.now result.0 }
         ensures edge { option_map (λ edge. edge.now) result.1
@@ -151,8 +151,8 @@ impl WriteMap {
         (level.shown(), edge)
     }
 
-    /// The last edge below a key: from it on all keys below this one are alike. None where no key below this one has a
-    /// mutation. It takes no memory.
+    /// Returns the last edge below a key: from it on all keys below this one are alike. None where no key below
+    /// this one has a mutation.
     pub fn prev_edge(&self, key: &Key) -> Option<&Key>
         ensures edge { option_map (λ edge. edge.now) result
             ≡ last (filter (λ edge. key_lt edge key.now) self.now.edges) }
@@ -168,7 +168,7 @@ impl WriteMap {
         self.levels.prev(key)
     }
 
-    /// Takes all mutations away. Room for a few stays, and of more all is given back. It takes no memory.
+    /// Takes all mutations away. Room for a few stays, and of more all is given back.
     pub fn reset(&mut self)
         ensures { self.new ≡ record { mutations = []; edges = [] } }
     {
@@ -197,7 +197,7 @@ impl WriteMap {
         Ok(())
     }
 
-    /// Sets a key to a value: one mutation more. After a refusal the map is as it was (API reference,
+    /// Sets a key to a value, as one mutation more. After a refusal the map is as it was (API reference,
     /// "fdb_transaction_set").
     pub fn set(&mut self, key: &[u8], value: &[u8]) -> Result<(), AllocError>
         ensures added { OnOk result (self.new.mutations
@@ -211,7 +211,8 @@ impl WriteMap {
         self.put(Mutation::Set { key: own, value }, &key, state)
     }
 
-    /// Clears a key: one mutation more. After a refusal the map is as it was (API reference, "fdb_transaction_clear").
+    /// Clears a key, as one mutation more. After a refusal the map is as it was (API reference,
+    /// "fdb_transaction_clear").
     pub fn clear(&mut self, key: &[u8]) -> Result<(), AllocError>
         ensures added { OnOk result (self.new.mutations
             ≡ self.old.mutations ++ rules.Clear key.now ∷ []) }
@@ -260,8 +261,8 @@ impl WriteMap {
         Ok(())
     }
 
-    /// An atomic operation on the value of a key, without a versionstamp: one mutation more. After a refusal the map is as
-    /// it was (API reference, "fdb_transaction_atomic_op").
+    /// Adds an atomic operation without a versionstamp on the value of a key, as one mutation more. After a
+    /// refusal the map is as it was (API reference, "fdb_transaction_atomic_op").
     pub fn atomic(&mut self, op: AtomicOp, key: &[u8], operand: &[u8]) -> Result<(), AllocError>
         requires { is_versionstamped op ≡ false }
         ensures added { OnOk result (self.new.mutations
@@ -293,9 +294,9 @@ impl WriteMap {
         Ok(())
     }
 
-    /// An atomic operation with a versionstamp: one mutation more. From then on the key that gets a stamped value is
-    /// unreadable, or each key that a stamped key may become. After a refusal the map is as it was (API reference,
-    /// "fdb_transaction_atomic_op").
+    /// Adds an atomic operation with a versionstamp, as one mutation more. From then on the key that gets a
+    /// stamped value is unreadable, or each key that a stamped key may become. After a refusal the map is as it
+    /// was (API reference, "fdb_transaction_atomic_op").
     pub fn stamp(&mut self, op: AtomicOp, key: &[u8], operand: &[u8]) -> Result<(), AllocError>
         requires stamped { is_versionstamped op ≡ true }
         requires room { has_room (stamped_bytes op key.now operand.now) ≡ true }

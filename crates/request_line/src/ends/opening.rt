@@ -9,7 +9,8 @@ use crate::view::{Ends, OneOwner, View};
 use crossbeam_channel::bounded_with;
 use std::alloc::{AllocError, Global};
 
-/// A line in which up to `capacity` items wait: its first sender, which has all numbers below 2^63, and its receiver.
+/// Makes a line in which up to `capacity` items wait: its first sender, which has all numbers below 2^63, and
+/// its receiver.
 #[tactic(auto, using(crate::proofs::Steps::begins))]
 pub fn open<T: Drop>(alloc: Global, capacity: usize) -> Result<(Sender<T>, Receiver<T>), AllocError>
     requires holds_one { 1 ≤ capacity }
