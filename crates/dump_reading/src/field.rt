@@ -141,7 +141,7 @@ pub fn machine_field(bytes: &[u8]) -> Result<(u16, &[u8]), FieldFault>
     Ok((number as u16, rest))
 }
 
-/// A space and the number of a machine of the order. It takes no memory.
+/// Reads a space and the number of a machine of the order; returns the number and the bytes behind it.
 pub fn ordered_machine_field(bytes: &[u8]) -> Result<(u16, &[u8]), FieldFault>
     ensures { Gives (λ x. (x.0, x.1.now)) result (number_field last_machine bytes.now) }
 {
