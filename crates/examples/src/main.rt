@@ -1,102 +1,97 @@
-//! Runs each script of `data/` through `tester`, and compares what it writes with the dump that was worked out by
-//! hand, and its status with the one that is wanted. A line is printed for each. The program ends with status 1
-//! where one of them differs.
+//! Runs the cases of `data/`, whose README says how a case is written, and compares what each gives with what it wants.
+//! A line is printed for each file of cases: how many passed. One more is printed for each case that differs, and the
+//! program ends with status 1 where one does.
 #![tactic(auto)]
 
-ghost use Rattle.std.specs.Prelude.{◌≡◌, ◌↔◌};
+mod asking;
+mod blocks;
+mod case;
+mod counted_words;
+mod directing;
+mod loading;
+mod names;
+mod report;
+mod running;
+mod session;
+mod spell_fault;
+mod spelling;
+mod telling;
 
-mod scripts;
-
-use outside::{CleanSink, MemSink, MemSource, OpenGate};
-use scripts::{SCRIPTS, Script};
+use report::Report;
+use running::run_case;
+use session::run_requests;
 use std::alloc::{AllocError, Global};
 use std::process::ExitCode;
 use std::rt::Files;
 use std::sync::Wait;
 use std::thread::Threads;
 use std::{fs, io};
-use tester_run::{ArgWords, tester};
-
-/// The most bytes that a script's run may write: more than any of the dumps has.
-const ROOM: usize = 65_536;
-
-/// The bytes of one read or write: fewer than most lines have, so that a run takes many.
-const PIECE: usize = 16;
-
-// How a run compares with what is wanted of it.
-#[derive(Debug, Drop)]
-enum Finding {
-    Same,
-    Unread,
-    OtherStatus(u8),
-    OtherBytes,
-}
 
 fn main(rt: HostRuntime) -> io::Result<ExitCode> {
+    let of_program = run_all_cases(&rt)?;
+    let of_requests = run_all_requests(&rt)?;
+    Ok(ExitCode::from(if of_program && of_requests { 0 } else { 1 }))
+}
+
+// Runs each file of cases of the program, and returns whether none differs.
+fn run_all_cases<
+    R: Files + Print + Threads + Wait + Sync + AllocGlobal + Clone + Drop + Send + 'static,
+>(rt: &R) -> io::Result<bool> {
     let mut are_same = true;
-    for script in SCRIPTS.iter() {
-        let name = script.input;
-        let finding = examine(&rt, script)?;
-        are_same = are_same && matches!(&finding, Finding::Same);
-        match finding {
-            Finding::Same => println!(rt; "{name}: ok")?,
-            Finding::Unread => println!(rt; "{name}: it or its dump isn't in this folder")?,
-            Finding::OtherStatus(status) => println!(rt; "{name}: status {status}")?,
-            Finding::OtherBytes => println!(rt; "{name}: other bytes than the dump's")?,
-        }
+    let files = names::ending_with(rt, ".cases")?;
+    for file in files.iter() {
+        let text = fs::read(rt, file.as_str())?;
+        let report = run_cases(rt, text.as_slice())?;
+        are_same = are_same && report.is_same();
+        print(rt, file.as_str(), &report)?;
     }
-    Ok(ExitCode::from(if are_same { 0 } else { 1 }))
+    Ok(are_same)
 }
 
-// Reads a script and its dump from this folder, and runs it.
-fn examine<R: Files + Threads + Wait + Sync + AllocGlobal + Clone + Drop + Send + 'static>(
+// The same of each file of cases of requests.
+fn run_all_requests<R: Files + Print + AllocGlobal + Clone + Drop>(rt: &R) -> io::Result<bool> {
+    let mut are_same = true;
+    let files = names::ending_with(rt, ".requests")?;
+    for file in files.iter() {
+        let text = fs::read(rt, file.as_str())?;
+        let report = run_sessions(rt.alloc(), text.as_slice())?;
+        are_same = are_same && report.is_same();
+        print(rt, file.as_str(), &report)?;
+    }
+    Ok(are_same)
+}
+
+fn print(rt: &impl Print, name: &str, report: &Report) -> io::Result<()> {
+    let (passed, all) = (report.passed, report.all);
+    println!(rt;
+        "{name}: {passed} of {all} passed{}",
+        report.differences.as_str()
+    )
+}
+
+// Runs each case of the program in a text.
+fn run_cases<R: Files + Threads + Wait + Sync + AllocGlobal + Clone + Drop + Send + 'static>(
     rt: &R,
-    script: &Script,
-) -> Result<Finding, AllocError> {
-    let Ok(input) = fs::read(rt, script.input) else {
-        return Ok(Finding::Unread);
-    };
-    let Ok(dump) = fs::read(rt, script.dump) else {
-        return Ok(Finding::Unread);
-    };
-    try_script(rt, rt.alloc(), script, &input, &dump)
+    text: &[u8],
+) -> Result<Report, AllocError> {
+    let mut report = Report::new(rt.alloc());
+    let starts = blocks::starts(rt.alloc(), text)?;
+    for place in 0..starts.len() {
+        let block = blocks::block(text, starts.as_slice(), place);
+        let difference = run_case(rt, block)?;
+        report.note(blocks::name_of(block), difference.as_ref())?;
+    }
+    Ok(report)
 }
 
-// Runs a script over these bytes.
-fn try_script<R: Threads + Wait + Sync + Clone + Drop + Send + 'static>(
-    rt: &R,
-    alloc: Global,
-    script: &Script,
-    input: &[u8],
-    dump: &[u8],
-) -> Result<Finding, AllocError> {
-    let args = args_of(alloc, script.words)?;
-    let mut source = MemSource::new(alloc, input, PIECE, &[])?;
-    let mut out = MemSink::new(alloc, ROOM, PIECE, &[])?;
-    let mut err = CleanSink::new(PIECE);
-    let outcome = tester(rt, alloc, &args, &mut source, &mut out, &mut err, &OpenGate);
-    Ok(judge(outcome.status, script.status, out.written(), dump))
-}
-
-// The words of a command line.
-fn args_of(alloc: Global, words: &[&str]) -> Result<ArgWords, AllocError> {
-    let mut args = ArgWords::new(alloc);
-    for word in words {
-        args.push(word)?;
+// Runs each case of requests in a text.
+fn run_sessions(alloc: Global, text: &[u8]) -> Result<Report, AllocError> {
+    let mut report = Report::new(alloc);
+    let starts = blocks::starts(alloc, text)?;
+    for place in 0..starts.len() {
+        let block = blocks::block(text, starts.as_slice(), place);
+        let difference = run_requests(alloc, block)?;
+        report.note(blocks::name_of(block), difference.as_ref())?;
     }
-    Ok(args)
-}
-
-// The status decides before the bytes.
-fn judge(status: u8, wanted: u8, written: &[u8], dump: &[u8]) -> Finding
-    ensures { result ≡ Finding.Same ↔ (status ≡ wanted) × (written.now ≡ dump.now) }
-{
-    if status != wanted {
-        return Finding::OtherStatus(status);
-    }
-    if written == dump {
-        Finding::Same
-    } else {
-        Finding::OtherBytes
-    }
+    Ok(report)
 }

@@ -1,0 +1,232 @@
+//! A request by its words.
+
+use crate::directing::{directory_kind, directory_request};
+use crate::spell_fault::SpellFault;
+use crate::spelling::number;
+use database_rules::{Code, Mode, Selector};
+use directory_types::Layer;
+use fdb_calls::{Request, TxnCall};
+use key_bytes::{Bytes, KeyRange, Pair, Pairs};
+use std::alloc::Global;
+
+/// The word at a place.
+pub fn word(words: &[Bytes], place: usize) -> Result<&[u8], SpellFault> {
+    match words.get(place) {
+        Some(word) => Ok(word.as_slice()),
+        None => Err(SpellFault::Missing),
+    }
+}
+
+/// A copy of the word at a place.
+pub fn bytes(words: &[Bytes], place: usize) -> Result<Bytes, SpellFault> {
+    match words.get(place) {
+        Some(word) => Ok(word.copy()?),
+        None => Err(SpellFault::Missing),
+    }
+}
+
+// Whether the word at a place is this one; else it must be the other.
+fn is_first(words: &[Bytes], place: usize, first: &[u8], other: &[u8]) -> Result<bool, SpellFault> {
+    let found = word(words, place)?;
+    match () {
+        _ if found == first => Ok(true),
+        _ if found == other => Ok(false),
+        _ => Err(SpellFault::Unknown),
+    }
+}
+
+// Whether `snapshot` stands behind the words of a read, so many.
+fn is_snapshot(words: &[Bytes], place: usize) -> bool {
+    words
+        .get(place)
+        .is_some_and(|word| word.as_slice() == b"snapshot".as_slice())
+}
+
+/// Reads a request.
+pub fn read_request(alloc: Global, layer: &Layer, words: &[Bytes]) -> Result<Request, SpellFault> {
+    match word(words, 0)? {
+        b"new" => Ok(Request::New {
+            name: bytes(words, 1)?,
+        }),
+        b"on" => on(alloc, layer, words),
+        b"database" => on_database(alloc, layer, words),
+        b"log" => log(alloc, words),
+        b"poll_stamp" => Ok(Request::PollStamp {
+            life: number(word(words, 1)?)?,
+        }),
+        b"poll_empty" => Ok(Request::PollEmpty {
+            prefix: bytes(words, 1)?,
+        }),
+        b"start" => Ok(Request::Start {
+            prefix: bytes(words, 1)?,
+        }),
+        _ => Err(SpellFault::Unknown),
+    }
+}
+
+// A call on the transaction of a name.
+fn on(alloc: Global, layer: &Layer, words: &[Bytes]) -> Result<Request, SpellFault> {
+    let name = bytes(words, 1)?;
+    let call = words.get(2..).unwrap_or(&[]);
+    match directory_kind(word(call, 0)?) {
+        Some(kind) => directory_request(alloc, Some(name), layer, kind, call),
+        None => Ok(Request::On {
+            name,
+            call: read_call(call)?,
+        }),
+    }
+}
+
+// A call on a transaction of its own.
+fn on_database(alloc: Global, layer: &Layer, words: &[Bytes]) -> Result<Request, SpellFault> {
+    let call = words.get(1..).unwrap_or(&[]);
+    match directory_kind(word(call, 0)?) {
+        Some(kind) => directory_request(alloc, None, layer, kind, call),
+        None => Ok(Request::Database {
+            call: read_call(call)?,
+        }),
+    }
+}
+
+// A prefix, and keys and values in turn.
+fn log(alloc: Global, words: &[Bytes]) -> Result<Request, SpellFault> {
+    let mut entries = Pairs::new(alloc);
+    for pair in words.get(2..).unwrap_or(&[]).chunks(2) {
+        entries.push(pair_of(pair)?)?;
+    }
+    Ok(Request::Log {
+        prefix: bytes(words, 1)?,
+        entries,
+    })
+}
+
+/// Reads a key and its value.
+pub fn pair_of(words: &[Bytes]) -> Result<Pair, SpellFault> {
+    let key = bytes(words, 0)?;
+    let value = bytes(words, 1)?;
+    Ok(Pair { key, value })
+}
+
+fn selector(words: &[Bytes], place: usize) -> Result<Selector, SpellFault> {
+    let key = bytes(words, place)?;
+    let or_equal = is_first(words, place.saturating_add(1), b"true", b"false")?;
+    let offset = number(word(words, place.saturating_add(2))?)?;
+    Ok(Selector {
+        key,
+        or_equal,
+        offset,
+    })
+}
+
+fn range(words: &[Bytes]) -> Result<KeyRange, SpellFault> {
+    let begin = bytes(words, 1)?;
+    let end = bytes(words, 2)?;
+    Ok(KeyRange { begin, end })
+}
+
+fn mode(word: &[u8]) -> Result<Mode, SpellFault> {
+    match word {
+        b"want_all" => Ok(Mode::WantAll),
+        b"iterator" => Ok(Mode::Iterator),
+        b"exact" => Ok(Mode::Exact),
+        b"small" => Ok(Mode::Small),
+        b"medium" => Ok(Mode::Medium),
+        b"large" => Ok(Mode::Large),
+        b"serial" => Ok(Mode::Serial),
+        _ => Err(SpellFault::Unknown),
+    }
+}
+
+fn get_range(words: &[Bytes]) -> Result<TxnCall, SpellFault> {
+    let begin = selector(words, 1)?;
+    let end = selector(words, 4)?;
+    Ok(TxnCall::GetRange {
+        begin,
+        end,
+        limit: number(word(words, 7)?)?,
+        reverse: is_first(words, 8, b"reverse", b"forward")?,
+        mode: mode(word(words, 9)?)?,
+        snapshot: is_snapshot(words, 10),
+    })
+}
+
+fn get_key_range(words: &[Bytes]) -> Result<TxnCall, SpellFault> {
+    let range = range(words)?;
+    Ok(TxnCall::GetKeyRange {
+        range,
+        limit: number(word(words, 3)?)?,
+        reverse: is_first(words, 4, b"reverse", b"forward")?,
+        mode: mode(word(words, 5)?)?,
+        snapshot: is_snapshot(words, 6),
+    })
+}
+
+fn read_call(words: &[Bytes]) -> Result<TxnCall, SpellFault> {
+    match word(words, 0)? {
+        b"get" => Ok(TxnCall::Get {
+            key: bytes(words, 1)?,
+            snapshot: is_snapshot(words, 2),
+        }),
+        b"get_key" => {
+            Ok(TxnCall::GetKey {
+                selector: selector(words, 1)?,
+                snapshot: is_snapshot(words, 4),
+            })
+        }
+        b"get_range" => get_range(words),
+        b"get_key_range" => get_key_range(words),
+        _ => read_write(words),
+    }
+}
+
+fn set(words: &[Bytes]) -> Result<TxnCall, SpellFault> {
+    let key = bytes(words, 1)?;
+    let value = bytes(words, 2)?;
+    Ok(TxnCall::Set { key, value })
+}
+
+fn atomic(words: &[Bytes]) -> Result<TxnCall, SpellFault> {
+    let name = bytes(words, 1)?;
+    let key = bytes(words, 2)?;
+    let operand = bytes(words, 3)?;
+    Ok(TxnCall::Atomic { name, key, operand })
+}
+
+fn read_write(words: &[Bytes]) -> Result<TxnCall, SpellFault> {
+    match word(words, 0)? {
+        b"set" => set(words),
+        b"clear" => Ok(TxnCall::Clear {
+            key: bytes(words, 1)?,
+        }),
+        b"clear_range" => Ok(TxnCall::ClearRange {
+            range: range(words)?,
+        }),
+        b"atomic" => atomic(words),
+        b"read_conflict" => Ok(TxnCall::ReadConflict {
+            range: range(words)?,
+        }),
+        b"write_conflict" => Ok(TxnCall::WriteConflict {
+            range: range(words)?,
+        }),
+        b"no_write_conflict" => Ok(TxnCall::NoWriteConflict),
+        _ => read_other(words),
+    }
+}
+
+fn read_other(words: &[Bytes]) -> Result<TxnCall, SpellFault> {
+    match word(words, 0)? {
+        b"read_version" => Ok(TxnCall::ReadVersion),
+        b"set_read_version" => Ok(TxnCall::SetReadVersion {
+            version: number(word(words, 1)?)?,
+        }),
+        b"committed_version" => Ok(TxnCall::CommittedVersion),
+        b"versionstamp" => Ok(TxnCall::Versionstamp),
+        b"commit" => Ok(TxnCall::Commit),
+        b"on_error" => Ok(TxnCall::OnError {
+            code: Code(number(word(words, 1)?)?),
+        }),
+        b"reset" => Ok(TxnCall::Reset),
+        b"cancel" => Ok(TxnCall::Cancel),
+        _ => Err(SpellFault::Unknown),
+    }
+}

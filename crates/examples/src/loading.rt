@@ -1,0 +1,83 @@
+//! What a case of requests begins with: the pairs of the database, and the random words.
+
+use crate::asking::{bytes, pair_of, word};
+use crate::blocks::is_line_feed;
+use crate::spell_fault::SpellFault;
+use crate::spelling::{number, read_words};
+use client_core::Core;
+use command_rules::RunArgs;
+use key_bytes::{Bytes, Pair, Pairs};
+use std::alloc::{AllocError, Global};
+
+/// Loads the pairs of a case.
+pub fn load(alloc: Global, block: &[u8]) -> Result<Core, SpellFault> {
+    let pairs = read_pairs(alloc, block)?;
+    Ok(Core::load(alloc, &arguments(alloc)?, pairs)?)
+}
+
+fn arguments(alloc: Global) -> Result<RunArgs, AllocError> {
+    Ok(RunArgs {
+        prefix: Bytes::from_slice(alloc, b"p")?,
+        seed: 0,
+        polls: 10,
+    })
+}
+
+fn read_pairs(alloc: Global, block: &[u8]) -> Result<Pairs, SpellFault> {
+    let mut pairs = Pairs::new(alloc);
+    for line in block.split(is_line_feed) {
+        add_pairs(alloc, &mut pairs, line)?;
+    }
+    Ok(pairs)
+}
+
+// A line `pair` has a key and a value. A line `numbers` has a prefix and two numbers: a key for each number from the first up to the
+// second, that left out, is the prefix and the number as a packed tuple, and has the empty value.
+fn add_pairs(alloc: Global, pairs: &mut Pairs, line: &[u8]) -> Result<(), SpellFault> {
+    if let Some(rest) = line.strip_prefix(b"pair ") {
+        let words = read_words(alloc, rest)?;
+        pairs.push(pair_of(words.as_slice())?)?;
+    }
+    if let Some(rest) = line.strip_prefix(b"numbers ") {
+        let words = read_words(alloc, rest)?;
+        add_numbers(alloc, pairs, words.as_slice())?;
+    }
+    Ok(())
+}
+
+fn add_numbers(alloc: Global, pairs: &mut Pairs, words: &[Bytes]) -> Result<(), SpellFault> {
+    let prefix = bytes(words, 0)?;
+    let first: u32 = number(word(words, 1)?)?;
+    let end: u32 = number(word(words, 2)?)?;
+    for number in first..end {
+        pairs.push(numbered(alloc, &prefix, number)?)?;
+    }
+    Ok(())
+}
+
+// The pair of a number: the bytes of a packed integer are those of the number without leading zeros, behind how many they are.
+fn numbered(alloc: Global, prefix: &Bytes, number: u32) -> Result<Pair, AllocError> {
+    let bytes = number.to_be_bytes();
+    let zeros = (number.leading_zeros() / 8) as usize;
+    let bytes = bytes.as_slice().get(zeros..).unwrap_or(b"");
+    let mut key = prefix.copy()?;
+    key.extend(&[0x14u8.saturating_add(u8::try_from(bytes.len()).unwrap_or(0))])?;
+    key.extend(bytes)?;
+    Ok(Pair {
+        key,
+        value: Bytes::new(alloc),
+    })
+}
+
+/// Reads the first random words of a case: those of its line `random`. All behind them are 0.
+pub fn read_random(alloc: Global, line: Option<&[u8]>) -> Result<Vec<u32>, SpellFault> {
+    let mut random = Vec::new(alloc);
+    let Some(line) = line else {
+        return Ok(random);
+    };
+    let words = read_words(alloc, line)?;
+    for word in words.iter() {
+        random.push(number(word.as_slice())?)?;
+    }
+    Ok(random)
+}

@@ -1,0 +1,20 @@
+//! The files of the folder that the program is run in.
+
+use std::rt::Files;
+use std::{fs, io};
+
+/// Returns the names of the files that end with `ending`, in order.
+pub fn ending_with<R: Files + AllocGlobal + Clone + Drop>(
+    rt: &R,
+    ending: &str,
+) -> io::Result<Vec<String>> {
+    let mut names = Vec::new(rt.alloc());
+    for entry in fs::read_dir(rt, ".")? {
+        let entry = entry?;
+        if entry.file_name().ends_with(ending) {
+            names.push(String::from_str(rt.alloc(), entry.file_name())?)?;
+        }
+    }
+    names.sort_unstable();
+    Ok(names)
+}
