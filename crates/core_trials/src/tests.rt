@@ -1,0 +1,3 @@
+mod allocator;
+mod core_calls;
+mod directories;
