@@ -1,0 +1,112 @@
+//! What a transaction writes, changes and declares.
+
+use super::*;
+use version_store::{Change, Changes};
+
+// The writes of a layer, over any transaction: the clear of the range declares nothing.
+fn write_layer<T: Tr>(tr: &mut T, range: &KeyRange) -> Result<(), TrFault> {
+    tr.set(b"k", b"\x01\0")?;
+    tr.atomic(AtomicOp::Add, b"k", b"\xff\0")?;
+    tr.clear(b"l")?;
+    tr.no_write_conflict()?;
+    tr.clear_range(range)?;
+    tr.write_conflict_key(b"w")
+}
+
+// Whether a layer reads what it wrote: the value of `k`, and the pairs of a range.
+fn reads_layer<T: Tr>(tr: &mut T, range: &KeyRange) -> Result<(bool, bool), TrFault> {
+    let is_read = is_value(&tr.get(b"k", false)?, Some(b"\0\x01"));
+    let pairs = tr.range(range, 0, true, true)?;
+    Ok((is_read, are_entries(&pairs, &[(b"k", b"\0\x01")])))
+}
+
+fn layer_in(world: &mut World) -> Result<(bool, bool), TrFault> {
+    let cleared = range_of(world.alloc, (b"m", b"n"))?;
+    let all = range_of(world.alloc, (b"", b"\xff"))?;
+    write_layer(&mut world.first(), &cleared)?;
+    reads_layer(&mut world.first(), &all)
+}
+
+const STORED: &[Entry] = &[(b"l", b"1")];
+
+fn layer(alloc: Global) -> Result<(bool, bool), TrFault> {
+    let mut world = world_over(alloc, STORED)?;
+    let told = layer_in(&mut world);
+    drop(world);
+    told
+}
+
+#[test]
+fn a_layer_reads_what_it_wrote(rt: HostRuntime) {
+    assert_eq!(rt; layer(rt.alloc()), Ok((true, true)));
+}
+
+// Whether a transaction with the writes of a layer declares these keys.
+fn declares(on: &TxnOn<'_>, spans: &[Span]) -> Result<bool, AllocError> {
+    Ok(are_spans(&on.write_ranges(STAMP)?, spans))
+}
+
+// The key and the value of each change; a removed key has no value.
+type Told = (&'static [u8], Option<&'static [u8]>);
+
+fn is_change(change: &Change, told: &Told) -> bool {
+    change.key.as_slice() == told.0 && is_value(&change.value, told.1)
+}
+
+// Whether two changes are these.
+fn are_two(changes: &Changes, told: &[Told; 2]) -> bool {
+    changes.len() == 2 && is_change(changes.get(0), &told[0]) && is_change(changes.get(1), &told[1])
+}
+
+// Whether a commit changes these keys.
+fn changes(on: &TxnOn<'_>, told: &[Told; 2]) -> Result<bool, AllocError> {
+    let changes = on.changes(STAMP)?;
+    let are_two = are_two(&changes, told);
+    drop(changes);
+    Ok(are_two)
+}
+
+const CHANGED: [Told; 2] = [(b"k", Some(b"\0\x01")), (b"l", None)];
+
+const DECLARED: &[Span] = &[(b"k", b"k\0"), (b"l", b"l\0"), (b"w", b"w\0"), (b"x", b"z")];
+
+fn commits_in(world: &mut World) -> Result<(bool, bool), TrFault> {
+    let cleared = range_of(world.alloc, (b"m", b"n"))?;
+    let told = range_of(world.alloc, (b"x", b"z"))?;
+    write_layer(&mut world.first(), &cleared)?;
+    world.first().write_conflict(&told)?;
+    let changes = changes(&world.first(), &CHANGED)?;
+    Ok((changes, declares(&world.first(), DECLARED)?))
+}
+
+fn commits(alloc: Global) -> Result<(bool, bool), TrFault> {
+    let mut world = world_over(alloc, STORED)?;
+    let told = commits_in(&mut world);
+    drop(world);
+    told
+}
+
+#[test]
+fn a_transaction_tells_what_it_changes_and_declares(rt: HostRuntime) {
+    assert_eq!(rt; commits(rt.alloc()), Ok((true, true)));
+}
+
+// Whether entries are written under a prefix.
+fn logs_in(world: &mut World) -> Result<bool, TrFault> {
+    let prefix = Bytes::from_slice(world.alloc, b"L")?;
+    let entries = pairs_of(world.alloc, &[(b"1", b"x"), (b"2", b"y")])?;
+    world.first.log(&prefix, &entries)?;
+    Ok(is_value(&world.first().get(b"L2", false)?, Some(b"y")))
+}
+
+fn logs(alloc: Global) -> Result<bool, TrFault> {
+    let mut world = world_over(alloc, &[])?;
+    let logs = logs_in(&mut world);
+    drop(world);
+    logs
+}
+
+#[test]
+fn entries_are_logged_under_a_prefix(rt: HostRuntime) {
+    assert_eq!(rt; logs(rt.alloc()), Ok(true));
+}
