@@ -1,52 +1,33 @@
+//! A machine at its seat, which starts another.
+
 ghost use Rattle.std.specs.Prelude.{◌≢◌, IsSome, IfOk};
 ghost use Rattle.fdb_calls.specs.declared.Reply.TheVariants.{NoMemory};
 ghost use Rattle.machine_seat.specs.Seats.{Awaits, IsSeated};
 
+use super::*;
 use fdb_calls::{Reply, Request};
-use key_bytes::{Bytes, Pair, Pairs};
 use machine_seat::{
     Seat, is_no_memory, prefix_of, seat_started, seat_started_by, start, start_with,
 };
 use stack_machine::{End, State};
-use std::alloc::{AllocError, Global};
-use std::test::Fail;
 
-// How often each wait may be polled for in these tests.
-const POLLS: u32 = 2;
-
-// Pushes the prefix `q`.
-const PUSH: &[u8] = b"\x02PUSH\x00\x01q\x00";
-
-// Asks for a machine under it.
-const START: &[u8] = b"\x02START_THREAD\x00";
-
-// A machine owns much, and whatever can fail beside one has all of that to drop. So each function here does one step, and
-// what owns a machine, a reply or instructions lends them to the function that takes the step, and then drops them.
-
-fn put_pair(alloc: Global, instructions: &mut Pairs, value: &[u8]) -> Result<(), AllocError> {
-    let value = Bytes::from_slice(alloc, value)?;
-    let key = Bytes::new(alloc);
-    instructions.push(Pair { key, value })
-}
-
-fn put_pairs(alloc: Global, instructions: &mut Pairs) -> Result<(), AllocError> {
-    put_pair(alloc, instructions, PUSH)?;
-    put_pair(alloc, instructions, START)
-}
-
-// Asks for a machine under the prefix `q`, and ends then.
-fn asking_for_a_machine(alloc: Global) -> Result<Pairs, AllocError> {
-    let mut instructions = Pairs::new(alloc);
-    put_pairs(alloc, &mut instructions)?;
-    Ok(instructions)
-}
+// Pushes the prefix `q`, and asks for a machine under it.
+const STARTS: &[&[u8]] = &[b"\x02PUSH\x00\x01q\x00", b"\x02START_THREAD\x00"];
 
 // Such a machine at its seat.
 fn seated(alloc: Global) -> Result<Seat, AllocError>
     ensures { IfOk result IsSeated }
 {
     let prefix = Bytes::from_slice(alloc, b"p")?;
-    start(alloc, 0, prefix, POLLS, asking_for_a_machine(alloc)?)
+    start(alloc, 0, prefix, 2, pairs_of(alloc, STARTS)?)
+}
+
+// The same with copies of the values.
+fn seated_with(alloc: Global) -> Result<Seat, AllocError>
+    ensures { IfOk result IsSeated }
+{
+    let prefix = Bytes::from_slice(alloc, b"p")?;
+    start_with(alloc, 0, prefix, 2, values_of(alloc, STARTS)?)
 }
 
 // The reply that machine 1 was started.
@@ -59,8 +40,8 @@ fn started_one(alloc: Global) -> Reply
     }
 }
 
-// What came of such a machine that was answered that machine 1 was started: whether it asks on, whether it has ended, and
-// the number of the machine that is at its seat then.
+// What came of a machine that was answered that machine 1 was started: whether it asks on, whether it has ended, and the
+// number of the machine that is at its seat then.
 #[derive(Clone, Copy, Debug, PartialEq, Eq)]
 struct Told {
     asks_on: bool,
@@ -85,7 +66,7 @@ fn number_of(seat: Option<Seat>) -> Option<u16> {
 // The number of the machine that this request and the reply to it start.
 fn number_started(alloc: Global, request: &Request) -> Result<Option<u16>, AllocError> {
     let prefix = prefix_of(request)?;
-    let started = seat_started(alloc, prefix, POLLS, started_one(alloc))?;
+    let started = seat_started(alloc, prefix, 2, started_one(alloc))?;
     Ok(number_of(started))
 }
 
@@ -120,7 +101,6 @@ fn answered(alloc: Global, seat: &mut Seat) -> Result<Option<Told>, AllocError>
     Ok(Some(told_by(asks_on, seat, started)))
 }
 
-// Runs it.
 fn run(alloc: Global) -> Result<Option<Told>, AllocError> {
     let mut seat = seated(alloc)?;
     let told = answered(alloc, &mut seat);
@@ -128,11 +108,11 @@ fn run(alloc: Global) -> Result<Option<Told>, AllocError> {
     told
 }
 
-// The same where the reply is kept.
+// The same as `number_started` where the reply is kept.
 fn number_started_by(alloc: Global, request: &Request) -> Result<Option<u16>, AllocError> {
     let prefix = prefix_of(request)?;
     let reply = started_one(alloc);
-    let started = seat_started_by(alloc, prefix, POLLS, &reply);
+    let started = seat_started_by(alloc, prefix, 2, &reply);
     drop(reply);
     Ok(number_of(started?))
 }
@@ -171,43 +151,11 @@ fn answered_by_hand(alloc: Global, seat: &mut Seat) -> Result<Option<Told>, Allo
     Ok(Some(told_by(asks_on, seat, started)))
 }
 
-// Runs it so.
 fn run_by_hand(alloc: Global) -> Result<Option<Told>, AllocError> {
-    let mut seat = seated(alloc)?;
+    let mut seat = seated_with(alloc)?;
     let told = answered_by_hand(alloc, &mut seat);
     drop(seat);
     told
-}
-
-fn put_value(alloc: Global, values: &mut Vec<Bytes>, value: &[u8]) -> Result<(), AllocError> {
-    values.push(Bytes::from_slice(alloc, value)?)?;
-    Ok(())
-}
-
-fn put_values(alloc: Global, values: &mut Vec<Bytes>) -> Result<(), AllocError> {
-    put_value(alloc, values, PUSH)?;
-    put_value(alloc, values, START)
-}
-
-// The values of `asking_for_a_machine`.
-fn values_asking(alloc: Global) -> Result<Vec<Bytes>, AllocError> {
-    let mut values = Vec::new(alloc);
-    put_values(alloc, &mut values)?;
-    Ok(values)
-}
-
-// The machine that is started with these.
-fn seated_with(alloc: Global) -> Result<Seat, AllocError> {
-    let prefix = Bytes::from_slice(alloc, b"p")?;
-    start_with(alloc, 0, prefix, POLLS, values_asking(alloc)?)
-}
-
-// How many instructions it has, and whether it asks.
-fn started_with(alloc: Global) -> Result<(usize, bool), AllocError> {
-    let seat = seated_with(alloc)?;
-    let told = (seat.machine.instruction_count(), seat.asks.is_some());
-    drop(seat);
-    Ok(told)
 }
 
 const STARTED_ONE: Told = Told {
@@ -217,21 +165,13 @@ const STARTED_ONE: Told = Told {
 };
 
 #[test]
-fn a_machine_starts_another(rt: HostRuntime) -> Result<(), Fail> {
-    assert_eq!(rt; run(rt.alloc())?, Some(STARTED_ONE));
-    assert_eq!(rt; run_by_hand(rt.alloc())?, Some(STARTED_ONE));
-    Ok(())
+fn a_machine_starts_another(rt: HostRuntime) {
+    assert_eq!(rt; run(rt.alloc()), Ok(Some(STARTED_ONE)));
+    assert_eq!(rt; run_by_hand(rt.alloc()), Ok(Some(STARTED_ONE)));
 }
 
 #[test]
-fn a_machine_is_started_with_its_instructions(rt: HostRuntime) -> Result<(), Fail> {
-    assert_eq!(rt; started_with(rt.alloc())?, (2, true));
-    Ok(())
-}
-
-#[test]
-fn replies_tell_whether_memory_ran_out(rt: HostRuntime) -> Result<(), Fail> {
+fn replies_tell_whether_memory_ran_out(rt: HostRuntime) {
     assert!(rt; is_no_memory(&Reply::NoMemory));
     assert!(rt; !is_no_memory(&Reply::Done));
-    Ok(())
 }
