@@ -10,18 +10,24 @@ ghost use Rattle.write_map.specs.Mutations.{mutation_of, mutations_of};
 
 use crate::changing::only_set;
 use crate::txn::Txn;
+use byteorder::{BigEndian, ByteOrder};
 use conflict_ranges::{RangeSet, WriteIndex};
 use key_bytes::{Key, KeyRange};
 use std::alloc::AllocError;
 use write_map::{Mutation, WriteMap};
 
-// The versionstamp of the commit that makes a version.
+// The batch of each commit, since a version is that of one commit alone.
+const BATCH: u16 = 0;
+
+// The versionstamp of the commit that makes a version: the version, and the batch.
 #[tactic(auto, using(database_rules::proofs::Stamps::stamp_is))]
 pub(crate) fn stamp_of(version: u64) -> [u8; 10]
     ensures { result ≡ stamp_of version }
 {
-    let [a, b, c, d, e, f, g, h] = version.to_be_bytes();
-    [a, b, c, d, e, f, g, h, 0, 0]
+    let mut stamp = [0; 10];
+    BigEndian::write_u64(&mut stamp[..8], version);
+    BigEndian::write_u16(&mut stamp[8..], BATCH);
+    stamp
 }
 
 // The keys that a mutation writes.
