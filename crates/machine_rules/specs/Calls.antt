@@ -217,7 +217,7 @@ request_of on_transaction.DisableWriteConflict name seen stack = on_current name
 request_of on_transaction.GetVersionstamp name seen stack = on_current name call.Versionstamp stack
 
 abbrev pub awaits_of : TransactionOperation → Awaits
-awaits_of on_transaction.NewTransaction = awaits.Nothing
+awaits_of on_transaction.NewTransaction = awaits.NewTransaction
 awaits_of on_transaction.OnError = awaits.NotPresent
 awaits_of on_transaction.Reset = awaits.Nothing
 awaits_of on_transaction.Cancel = awaits.Nothing

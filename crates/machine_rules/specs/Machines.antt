@@ -330,8 +330,16 @@ abbrev pub subspace_use : Reply → Use
 subspace_use (reply.Fault code) = Faults false (decimal code.0)
 subspace_use reply = Goes
 
--- a reply of another kind than the request's changes nothing but that the machine goes on
+-- the reply to the start of a machine
+abbrev pub start_use : Reply → Use
+start_use reply.NoMachine = LacksMachine
+start_use reply = Goes
+
+-- a reply of another kind than the request's changes nothing but that the machine goes on; so does a code where a transaction is made
+-- or a machine is started, which have none
 abbrev pub use_of : Awaits → Reply → Use
+use_of awaits.NewTransaction reply = Goes
+use_of awaits.Start reply = start_use reply
 use_of (awaits.Opened layer) reply = directory_use true (opened_use layer) reply
 use_of awaits.DirectoryDone reply = directory_use false (λ answer. Goes) reply
 use_of awaits.Names reply = directory_use false names_use reply
@@ -349,7 +357,6 @@ use_of awaits.CommittedVersion (reply.Version version) = Keeps version got_commi
 use_of awaits.ConflictRange reply.Done = Pushes set_conflict_range
 use_of awaits.ConflictKey reply.Done = Pushes set_conflict_key
 use_of awaits.Promise (reply.Life life) = PushesWaiting life
-use_of awaits.Start reply.NoMachine = LacksMachine
 use_of awaits reply = Goes
 
 -- in the instruction of this number

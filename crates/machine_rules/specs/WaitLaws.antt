@@ -26,7 +26,7 @@ use Rattle.machine_rules.specs.declared.Wait.{Wait}
 use Rattle.machine_rules.specs.Operands.{Refusal, Missing, Unfit, Waiting, ◌>>=◌, Popped, two_operands, bytes_operand}
 use Rattle.machine_rules.specs.StackOperations.{Operated, operated}
 use Rattle.machine_rules.specs.Calls.{Calls, written_in, selector_operand, manner_operand, call_of, request_of, awaits_of, start_request}
-use Rattle.machine_rules.specs.Machines.{Registers, Act, Does, Stops, Asks, with_stack, refused, does, asks, calls, uses, life_by, first_life, logs_batch, logs_from, logs_on, logs_stack, waits_empty, act_of, instruction_at, Machine, Use, Goes, Pushes, Keeps, Fails, PushesWaiting, LogsOn, LacksMachine, use_of, used, known_or, with_known, noting, error_item, knowing, polls_on, polled_once, after_poll, watches_on, after_watch, replied_act}
+use Rattle.machine_rules.specs.Machines.{Registers, Act, Does, Stops, Asks, with_stack, refused, does, asks, calls, uses, life_by, first_life, logs_batch, logs_from, logs_on, logs_stack, waits_empty, act_of, instruction_at, Machine, Use, Goes, Pushes, Keeps, Fails, PushesWaiting, LogsOn, LacksMachine, start_use, use_of, used, known_or, with_known, noting, error_item, knowing, polls_on, polled_once, after_poll, watches_on, after_watch, replied_act}
 use Rattle.machine_rules.specs.Machines as machines
 use Rattle.machine_rules.specs.Machines.{directs_to, directs, directory_use, opened_use, names_use, existence_use, subspace_use}
 use Rattle.directory_types.specs.declared.DirReply.{DirReply}
@@ -517,9 +517,15 @@ subspace_never_logs : (given : Reply) (prefix : List ℕ) → subspace_use given
 subspace_never_logs (reply.Fault code) prefix is = cc
 subspace_never_logs given prefix is = cc
 
+start_never_logs : (given : Reply) (prefix : List ℕ) → start_use given ≡ LogsOn prefix → ⊥
+start_never_logs reply.NoMachine prefix is = cc
+start_never_logs given prefix is = cc
+
 -- LOG_STACK goes on only where its next items are to be logged
 logs_on_logged : (awaiting : Awaits) (given : Reply) (prefix : List ℕ) → use_of awaiting given ≡ LogsOn prefix
     → errand_of awaiting ≡ Logs
+logs_on_logged awaits.NewTransaction given prefix is = absurd cc
+logs_on_logged awaits.Start given prefix is = absurd (start_never_logs given prefix is)
 logs_on_logged (awaits.Opened layer) given prefix is =
     absurd (directory_never_logs true (opened_use layer) given prefix (opened_never_logs layer prefix) is)
 logs_on_logged awaits.DirectoryDone given prefix is = absurd (directory_never_logs false (λ answer. Goes) given prefix (λ answer is. cc) is)
@@ -539,7 +545,6 @@ logs_on_logged awaits.CommittedVersion (reply.Version version) prefix is = absur
 logs_on_logged awaits.ConflictRange reply.Done prefix is = absurd cc
 logs_on_logged awaits.ConflictKey reply.Done prefix is = absurd cc
 logs_on_logged awaits.Promise (reply.Life life) prefix is = absurd cc
-logs_on_logged awaits.Start reply.NoMachine prefix is = absurd cc
 logs_on_logged awaiting given prefix is = absurd cc
 
 -- so what a reply is used for asks for less than the request had still to do

@@ -74,6 +74,8 @@ pub struct Wait {
 /// What the reply to a request is used for.
 #[derive(Debug, Drop)]
 pub enum Awaits {
+    /// Nothing is pushed, and no code is awaited: a new transaction was made.
+    NewTransaction,
     /// Nothing is pushed.
     Nothing,
     /// The fixed text `RESULT_NOT_PRESENT` is pushed.
@@ -103,7 +105,7 @@ pub enum Awaits {
     Stamp(Wait),
     /// The same within the next items that are logged under the prefix.
     LoggedStamp { prefix: Bytes, wait: Wait },
-    /// Nothing is pushed; where no machine was started, the machine ends.
+    /// Nothing is pushed, and no code is awaited; where no machine was started, the machine ends.
     Start,
     /// The fixed text `WAITED_FOR_EMPTY` is pushed once no key begins with the prefix. So many polls were answered that it
     /// isn't so yet.

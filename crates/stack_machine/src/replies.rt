@@ -2,7 +2,7 @@
 
 ghost use Rattle.std.specs.Prelude.{◌≡◌, decimal, IfOk};
 ghost use Rattle.machine_rules.specs.Machines.{Does, pushing, failing, error_item, result_not_present, value_or_text};
-ghost use Rattle.machine_rules.specs.Machines.{key_within, packed_pairs, pairs_within, used, use_of};
+ghost use Rattle.machine_rules.specs.Machines.{Registers as RegistersSaid, key_within, packed_pairs, pairs_within, start_use, used, use_of};
 ghost use Rattle.stack_machine.specs.Acts.{act_with};
 
 use crate::act::Act;
@@ -18,8 +18,8 @@ use stack_directories::digits_of;
 use std::alloc::{AllocError, Global};
 
 impl Registers {
-    /// Uses the reply to a request, in the instruction of this number. A reply of another kind than the request's changes
-    /// nothing.
+    /// Uses the reply to a request, in the instruction of this number. A reply of a kind that the request never has, as a fault of
+    /// a new transaction or of the start of a machine, changes nothing.
     #[tactic(auto, using(crate::proofs::Within::every_pair_within))]
     pub fn use_reply(
         &mut self,
@@ -30,6 +30,8 @@ impl Registers {
         ensures { IfOk result (λ act. act_with self.new act ≡ used number self.old (use_of awaits.now reply.now)) }
     {
         match (awaits, reply) {
+            (Awaits::NewTransaction, _) => Ok(Act::Does),
+            (Awaits::Start, _) => Ok(started(number, reply)),
             (Awaits::Opened { layer }, _) => self.use_opened(number, layer.get(), reply),
             (Awaits::DirectoryDone, _) => self.use_done(number, reply),
             (Awaits::Names, _) => self.use_names(number, reply),
@@ -53,7 +55,6 @@ impl Registers {
             (Awaits::ConflictRange, Reply::Done) => self.push_text(number, b"SET_CONFLICT_RANGE"),
             (Awaits::ConflictKey, Reply::Done) => self.push_text(number, b"SET_CONFLICT_KEY"),
             (Awaits::Promise, Reply::Life(life)) => self.push_waiting(number, *life),
-            (Awaits::Start, Reply::NoMachine) => Ok(Act::Stops(End::MachineLimit(number))),
             _ => Ok(Act::Does),
         }
     }
@@ -117,6 +118,16 @@ impl Registers {
     {
         let packed = pack_within(self.alloc(), prefix, pairs.as_slice())?;
         self.push(number, Elem::Bytes(packed))
+    }
+}
+
+// Ends the machine where none was started, and else lets it go on.
+fn started(number: u64, reply: &Reply) -> Act
+    ensures { (registers : RegistersSaid) → act_with registers result ≡ used number registers (start_use reply.now) }
+{
+    match reply {
+        Reply::NoMachine => Act::Stops(End::MachineLimit(number)),
+        _ => Act::Does,
     }
 }
 

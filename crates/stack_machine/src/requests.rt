@@ -135,8 +135,8 @@ pub fn awaits_of(operation: TransactionOperation) -> Awaits
     ensures { result ≡ awaits_of operation }
 {
     match operation {
-        TransactionOperation::NewTransaction
-        | TransactionOperation::Reset
+        TransactionOperation::NewTransaction => Awaits::NewTransaction,
+        TransactionOperation::Reset
         | TransactionOperation::Cancel
         | TransactionOperation::SetReadVersion
         | TransactionOperation::DisableWriteConflict => Awaits::Nothing,
