@@ -54,7 +54,7 @@ impl Seat {
         self.use_awaited(reply)
     }
 
-    /// Hands over what the machine asks: it awaits the reply then (`use_awaited`). It takes no memory.
+    /// Hands over what the machine asks: it awaits the reply then (`use_awaited`).
     pub fn hand_over(&mut self) -> SharedRequest
         requires asks { IsSome self.old.asks }
         ensures request { self.old.asks ≡ Some result }
@@ -63,7 +63,7 @@ impl Seat {
         self.asks.take().unwrap()
     }
 
-    /// `use_reply`, where what the machine asked may have been handed over.
+    /// Uses the reply as `use_reply` does, where what the machine asked may have been handed over.
     pub fn use_awaited(&mut self, reply: &Reply) -> Result<bool, AllocError>
         requires awaits { Awaits self.old.machine }
         requires memory { reply.now ≢ NoMemory }

@@ -13,8 +13,8 @@ use key_bytes::{Bytes, Pairs};
 use stack_machine::Machine;
 use std::alloc::{AllocError, Global};
 
-/// A machine as it is started: of this number, under this prefix, with so many polls for each wait, and with the values of
-/// these pairs as its instructions. It is refused for want of memory alone.
+/// Makes a machine as it is started: of this number, under this prefix, with so many polls for each wait, and
+/// with the values of these pairs as its instructions. It is refused for want of memory alone.
 #[tactic(auto, unfolding(machine_rules::specs::Runs::started))]
 pub fn start(
     alloc: Global,
@@ -29,7 +29,7 @@ pub fn start(
     Seat::new(Machine::new(alloc, number, prefix, instructions, polls)?)
 }
 
-/// The same with these instructions, as whatever pairs have them for their values.
+/// Makes a machine as `start` does, with these instructions: as whatever pairs have them for their values.
 #[tactic(auto, unfolding(machine_rules::specs::Runs::started))]
 pub fn start_with(
     alloc: Global,
@@ -45,7 +45,7 @@ pub fn start_with(
     Seat::new(Machine::with_instructions(alloc, number, prefix, instructions, polls)?)
 }
 
-/// The prefix under which a request starts a machine, if it starts one.
+/// Returns the prefix under which a request starts a machine, if it starts one.
 pub fn prefix_of(request: &Request) -> Result<Option<Bytes>, AllocError>
     ensures { IfOk result (λ prefix. prefix ≡ start_prefix request.now) }
 {
@@ -55,7 +55,7 @@ pub fn prefix_of(request: &Request) -> Result<Option<Bytes>, AllocError>
     }
 }
 
-/// The machine that was started under a prefix by this reply, if one was.
+/// Makes the machine that was started under a prefix by this reply, if one was.
 pub fn seat_started(
     alloc: Global,
     prefix: Option<Bytes>,
@@ -77,7 +77,8 @@ pub fn seat_started(
     }
 }
 
-/// The same where the reply is to be kept: the machine gets a copy of its instructions.
+/// Makes the machine as `seat_started` does, where the reply is to be kept: the machine gets a copy of its
+/// instructions.
 pub fn seat_started_by(
     alloc: Global,
     prefix: Option<Bytes>,
@@ -102,7 +103,7 @@ pub fn seat_started_by(
     }
 }
 
-/// Whether a reply is that memory ran out.
+/// Tells whether a reply is that memory ran out.
 pub fn is_no_memory(reply: &Reply) -> bool
     ensures { IsTrue result ↔ (reply.now ≡ NoMemory) }
 {

@@ -29,7 +29,7 @@ impl Model for CleanSource {
 }
 
 impl CleanSource {
-    /// A source that gives `bytes`, at most `piece` of them in a call.
+    /// Makes a source that gives `bytes`, at most `piece` of them in a call.
     pub fn new(alloc: Global, bytes: &[u8], piece: usize) -> Result<CleanSource, AllocError>
         requires { 0 < piece }
         ensures made { IfOk result (λ s. s ≡ clean_of bytes.now piece) }
@@ -47,7 +47,7 @@ impl Source for CleanSource {
 
     ghost faults = { λ _. 0 };
 
-    /// Never fails. It takes no memory.
+    /// Gives the next bytes, or End; never fails.
     fn read(&mut self, buf: &mut [u8]) -> Taken
         requires { 0 < length buf.old }
         ensures bound { GotWithin result (length buf.new) }
@@ -81,7 +81,7 @@ impl Model for CleanSink {
 }
 
 impl CleanSink {
-    /// A sink that takes at most `piece` bytes in a call. It takes no memory.
+    /// Makes a sink that takes at most `piece` bytes in a call.
     pub fn new(piece: usize) -> CleanSink
         requires { 0 < piece }
         ensures made { result ≡ piece }
@@ -96,7 +96,7 @@ impl Sink for CleanSink {
 
     ghost faults = { λ _. 0 };
 
-    /// Never fails. It takes no memory.
+    /// Takes bytes and keeps none; never fails.
     fn write(&mut self, piece: &[u8]) -> Put
         requires { 0 < length piece.now }
         ensures bound { TookWithin result (length piece.now) }

@@ -24,8 +24,8 @@ impl Model for ListWords {
 }
 
 impl ListWords {
-    /// What gives `words`, and then 0 for ever. It keeps a copy of them, which is all the memory that it takes: over no
-    /// words it takes none, and so never fails.
+    /// Makes a source of random words that gives `words`, and then 0 for ever. It keeps a copy of them, which
+    /// is all the memory that it takes: over no words it takes none, and so never fails.
     pub fn new(alloc: Global, words: &[u32]) -> Result<ListWords, AllocError>
         ensures left { IfOk result (λ made. made ≡ words.now) }
         ensures to_come { IfOk result (λ made.
@@ -44,7 +44,7 @@ impl ListWords {
 impl Words for ListWords {
     ghost words = { λ left i. slice_index left i };
 
-    /// The next word of the list, 0 after its end. It takes no memory.
+    /// Returns the next word of the list, 0 after its end.
     fn next(&mut self) -> u32
         ensures word { result ≡ slice_index self.old 0 }
         ensures rest { (i : ℕ) → slice_index self.new i ≡ slice_index self.old (i + 1) }

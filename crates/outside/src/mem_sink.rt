@@ -41,7 +41,7 @@ impl Model for MemSink {
 }
 
 impl MemSink {
-    /// A sink with room for `room` bytes, that takes at most `piece` of them in a call. The calls in
+    /// Makes a sink with room for `room` bytes, that takes at most `piece` of them in a call. The calls in
     /// `failing`, counted from 1, fail. All its memory is taken here.
     pub fn new(
         alloc: Global,
@@ -62,7 +62,7 @@ impl MemSink {
         })
     }
 
-    /// What was written so far. It takes no memory.
+    /// Returns what was written so far.
     pub fn written(&self) -> &[u8]
         ensures { result.now ≡ self.now.written }
     {
@@ -75,7 +75,7 @@ impl Sink for MemSink {
 
     ghost faults = { λ s. s.faults };
 
-    /// Fails exactly at the listed calls and where all room is full. It takes no memory.
+    /// Fails exactly at the listed calls and where all room is full.
     fn write(&mut self, piece: &[u8]) -> Put
         requires { 0 < length piece.now }
         ensures bound { TookWithin result (length piece.now) }

@@ -39,7 +39,7 @@ impl Model for MemSource {
 }
 
 impl MemSource {
-    /// A source that gives `bytes`, at most `piece` of them in a call. The calls in `failing`, counted
+    /// Makes a source that gives `bytes`, at most `piece` of them in a call. The calls in `failing`, counted
     /// from 1, fail.
     pub fn new(
         alloc: Global,
@@ -65,7 +65,7 @@ impl Source for MemSource {
 
     ghost faults = { λ s. s.faults };
 
-    /// Fails exactly at the listed calls. It takes no memory.
+    /// Fails exactly at the listed calls.
     fn read(&mut self, buf: &mut [u8]) -> Taken
         requires { 0 < length buf.old }
         ensures bound { GotWithin result (length buf.new) }

@@ -24,7 +24,7 @@ impl Model for PcgWords {
 }
 
 impl PcgWords {
-    /// The words of a seed. It takes no memory.
+    /// Makes the source of the random words of a seed.
     pub fn new(seed: u64) -> PcgWords
         ensures begins { result ≡ generator_of seed }
         ensures to_come { (i : ℕ) → ⟦<PcgWords as Words>⟧.words result i ≡ words_of_seed seed i }
@@ -38,7 +38,7 @@ impl PcgWords {
 impl Words for PcgWords {
     ghost words = { λ generator i. words_from generator i };
 
-    /// The next word of the seed. It takes no memory.
+    /// Returns the next word of the seed.
     fn next(&mut self) -> u32
         ensures word { result ≡ words_from self.old 0 }
         ensures rest { (i : ℕ) → words_from self.new i ≡ words_from self.old (i + 1) }

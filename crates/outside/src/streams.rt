@@ -25,7 +25,7 @@ impl<R: Read + Drop> Model for ReadSource<R> {
 }
 
 impl<R: Read + Drop> ReadSource<R> {
-    /// The source over `reader`, with no fault yet. It takes no memory.
+    /// Makes a source over `reader`, with no fault yet.
     pub fn new(reader: R) -> ReadSource<R>
         ensures inner { result.inner ≡ reader }
         ensures faults { result.faults ≡ 0 }
@@ -33,7 +33,7 @@ impl<R: Read + Drop> ReadSource<R> {
         ReadSource { reader, faults: 0 }
     }
 
-    /// The reader. It takes no memory.
+    /// Gives back the reader.
     pub fn into_inner(self) -> R
         ensures { result ≡ self.inner }
     {
@@ -87,7 +87,7 @@ impl<W: Write + Drop> Model for WriteSink<W> {
 }
 
 impl<W: Write + Drop> WriteSink<W> {
-    /// The sink over `writer`, with no fault yet. It takes no memory.
+    /// Makes a sink over `writer`, with no fault yet.
     pub fn new(writer: W) -> WriteSink<W>
         ensures inner { result.inner ≡ writer }
         ensures faults { result.faults ≡ 0 }
@@ -95,7 +95,7 @@ impl<W: Write + Drop> WriteSink<W> {
         WriteSink { writer, faults: 0 }
     }
 
-    /// The writer. It takes no memory.
+    /// Gives back the writer.
     pub fn into_inner(self) -> W
         ensures { result ≡ self.inner }
     {

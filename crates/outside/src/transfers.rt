@@ -50,8 +50,8 @@ pub fn read_all<S: Source>(alloc: Global, source: &mut S, limit: usize) -> Input
 /// The least room of a read, while the limit allows it.
 const CHUNK: usize = 64 * 1024;
 
-/// One read into `bytes` behind its first `filled` items. Room is made first, so that nothing is read
-/// where there is no memory for it.
+/// Reads once into `bytes`, behind its first `filled` items. Room is made first, so that nothing is read where
+/// there is no memory for it.
 fn read_chunk<S: Source>(
     source: &mut S,
     bytes: &mut Vec<u8>,
@@ -93,7 +93,7 @@ fn make_room(bytes: &mut Vec<u8>, filled: usize, limit: usize) -> Result<(), All
     Ok(())
 }
 
-/// One read into the part of `buf` from `at` on.
+/// Reads once into the part of `buf` from `at` on.
 fn read_at<S: Source>(source: &mut S, buf: &mut [u8], at: usize) -> Taken
     requires { at < length buf.old }
     ensures front { take at buf.new ≡ take at buf.old }
@@ -105,8 +105,8 @@ fn read_at<S: Source>(source: &mut S, buf: &mut [u8], at: usize) -> Taken
     source.read(&mut buf[at..])
 }
 
-/// Writes all of `bytes`, piece by piece, and answers whether that was done. After a failed write a front
-/// of them was written, and the count of faults rose. It takes no memory.
+/// Writes all of `bytes`, piece by piece, and answers whether that was done. After a failed write a front of
+/// them was written, and the count of faults rose.
 pub fn write_all<K: Sink>(sink: &mut K, bytes: &[u8]) -> bool
     ensures whole { OnTrue result (Appends (K.written sink.old) (K.written sink.new) bytes.now) }
     ensures front { OnFalse result (AppendsFront (K.written sink.old) (K.written sink.new) bytes.now) }

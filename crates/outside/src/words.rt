@@ -8,7 +8,7 @@ pub trait Words {
     // The words still to come, by their places from 0.
     ghost words: { Self → ℕ → ℕ };
 
-    /// The next word. It takes no memory.
+    /// Returns the next word.
     fn next(&mut self) -> u32
         ensures word { result ≡ words self.old 0 }
         ensures rest { (i : ℕ) → words self.new i ≡ words self.old (i + 1) };

@@ -20,8 +20,8 @@ pub enum Act {
     Asks(SharedRequest, Awaits),
 }
 
-/// What an instruction of this number that was refused comes to: it stops the machine, or polls for the item that waits. Want
-/// of memory is no act.
+/// Returns what an instruction of this number that was refused comes to: it stops the machine, or polls for the
+/// item that waits. Want of memory is no act.
 pub fn refused(alloc: Global, number: u64, fault: StackFault) -> Result<Act, AllocError>
     ensures refused { IfOk result (λ act. act ≡ refusal_of fault number) }
     ensures memory { fault ≡ StackFault.NoMemory → IsErr result }

@@ -18,7 +18,7 @@ use std::alloc::{AllocError, Global};
 /// A call on the database, and what its reply is used for.
 pub type Call = (TxnCall, Awaits);
 
-/// The call that an operation makes in a scope, by its operands.
+/// Reads the operands of an operation, and makes the call that it asks in a scope.
 pub fn call_of(
     operands: &mut Operands<'_>,
     alloc: Global,
@@ -78,7 +78,8 @@ fn clear_range_starts_with_call(
     Ok((TxnCall::ClearRange { range }, written_in(scope)))
 }
 
-/// The end of the range of the keys that begin with a prefix: the least key above them, or FF where there is none.
+/// Returns the end of the range of the keys that begin with a prefix: the least key above them, or FF where
+/// there is none.
 pub fn prefix_end(alloc: Global, prefix: &Bytes) -> Result<Key, AllocError>
     ensures { IfOk result (λ end. end ≡ prefix_end prefix.now) }
 {

@@ -91,7 +91,7 @@ impl Registers {
     }
 }
 
-/// Whether an operation appends an object, which is null where it has a fault. It takes no memory.
+/// Tells whether an operation appends an object, which is null where it has a fault.
 pub fn appends(operation: DirectoryOperation) -> bool
     ensures { result ≡ appends operation }
 {

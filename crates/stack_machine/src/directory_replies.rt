@@ -17,7 +17,7 @@ use stack_directories::{digits_of, directory_of, fault_name};
 use std::alloc::{AllocError, Global};
 
 impl Registers {
-    /// The directory of this layer that was opened is appended, or null where the call was refused.
+    /// Appends the directory of this layer that was opened, or null where the call was refused.
     pub fn use_opened(
         &mut self,
         number: u64,
@@ -33,7 +33,7 @@ impl Registers {
         }
     }
 
-    /// Nothing is pushed.
+    /// Uses a reply that tells nothing but whether the call was refused: pushes nothing where it wasn't.
     pub fn use_done(&mut self, number: u64, reply: &Reply) -> Result<Act, AllocError>
         ensures { IfOk result (λ act. act_with self.new act ≡ used number self.old (use_of Awaits.DirectoryDone reply.now)) }
     {
@@ -43,7 +43,7 @@ impl Registers {
         }
     }
 
-    /// The names are pushed, as one packed tuple.
+    /// Pushes the names, as one packed tuple.
     pub fn use_names(&mut self, number: u64, reply: &Reply) -> Result<Act, AllocError>
         ensures { IfOk result (λ act. act_with self.new act ≡ used number self.old (use_of Awaits.Names reply.now)) }
     {
@@ -54,7 +54,7 @@ impl Registers {
         }
     }
 
-    /// 1 is pushed where there is such a directory, and else 0.
+    /// Pushes 1 where there is such a directory, and else 0.
     pub fn use_existence(&mut self, number: u64, reply: &Reply) -> Result<Act, AllocError>
         ensures { IfOk result (λ act. act_with self.new act ≡ used number self.old (use_of Awaits.Existence reply.now)) }
     {
@@ -65,7 +65,7 @@ impl Registers {
         }
     }
 
-    /// Nothing is pushed of a subspace that was logged.
+    /// Uses the reply to a subspace's logging: pushes nothing where it wasn't refused.
     pub fn use_logged(&mut self, number: u64, reply: &Reply) -> Result<Act, AllocError>
         ensures { IfOk result (λ act. act_with self.new act ≡ used number self.old (use_of Awaits.SubspaceLogged reply.now)) }
     {

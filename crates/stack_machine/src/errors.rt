@@ -16,7 +16,7 @@ use std::alloc::{AllocError, Global};
 /// The errors that a machine noted, in the order in which they arose.
 pub type Errors = List<ErrorNote>;
 
-/// The item that tells of a code.
+/// Makes the item that tells of a code.
 pub fn error_item(alloc: Global, code: u16) -> Result<Elem, AllocError>
     ensures { IfOk result (λ item. item ≡ error_item code) }
 {

@@ -20,8 +20,8 @@ use machine_rules::{
 use stack_items::bytes_of;
 use std::alloc::{AllocError, Global};
 
-/// The instruction that a value packs: a tuple of a name, a Unicode or a byte string, and for PUSH one element
-/// more. None where the value is no such tuple.
+/// Returns the instruction that a value packs: a tuple of a name, a Unicode or a byte string, and for PUSH one
+/// element more. None where the value is no such tuple.
 #[tactic(auto, unfolding(machine_rules::specs::Instructions::instruction_of))]
 pub fn instruction_of(alloc: Global, value: &[u8]) -> Result<Option<Instruction>, AllocError>
     ensures instruction { IfOk result (λ instruction. instruction ≡ instruction_of value.now) }

@@ -91,8 +91,9 @@ impl Machine {
     ghost use Rattle.stack_machine.specs.MachineModel.{MachineModel};
     ghost use Rattle.stack_machine.specs.Steps.{MayStep, moved, Moves};
 
-    /// A machine before its first instruction, under a number and a prefix, with the values of these pairs as its
-    /// instructions, in order, and how often the polls of one wait may be answered that it isn't so yet.
+    /// Makes a machine before its first instruction, under a number and a prefix, with the values of these
+    /// pairs as its instructions, in order, and how often the polls of one wait may be answered that it isn't
+    /// so yet.
     pub fn new(
         alloc: Global,
         number: u16,
@@ -115,7 +116,7 @@ impl Machine {
         Machine::with_instructions(alloc, number, prefix, instructions, polls)
     }
 
-    /// The same with these instructions.
+    /// Makes a machine as `new` does, with these instructions.
     pub fn with_instructions(
         alloc: Global,
         number: u16,
@@ -148,58 +149,58 @@ impl Machine {
         })
     }
 
-    /// The machine's number. It takes no memory.
+    /// Returns the machine's number.
     pub fn number(&self) -> u16
         ensures { result ≡ self.now.machine.number }
     {
         self.number
     }
 
-    /// How often the polls of one wait may be answered that it isn't so yet. It takes no memory.
+    /// Returns how often the polls of one wait may be answered that it isn't so yet.
     pub fn polls(&self) -> u32
         ensures { result ≡ self.now.machine.polls }
     {
         self.polls
     }
 
-    /// The prefix that the machine was started under. It takes no memory.
+    /// Returns the prefix that the machine was started under.
     pub fn prefix(&self) -> &Bytes
         ensures { result.now ≡ self.now.machine.prefix }
     {
         &self.prefix
     }
 
-    /// What the machine is about to do. It takes no memory.
+    /// Returns what the machine is about to do.
     pub fn state(&self) -> &State
         ensures { result.now ≡ self.now.machine.state }
     {
         &self.state
     }
 
-    /// How many instructions the machine has. It takes no memory.
+    /// Returns how many instructions the machine has.
     pub fn instruction_count(&self) -> usize
         ensures { result ≡ length self.now.machine.instructions }
     {
         self.instructions.len()
     }
 
-    /// The machine's stack. It takes no memory.
+    /// Returns the machine's stack.
     pub fn stack(&self) -> &Stack
         ensures { result.now ≡ self.now.machine.registers.stack }
     {
         self.registers.stack()
     }
 
-    /// The errors that the machine noted, in the order in which they arose. It takes no memory.
+    /// Returns the errors that the machine noted, in the order in which they arose.
     pub fn errors(&self) -> &Errors
         ensures { result.now ≡ self.now.machine.registers.errors }
     {
         self.registers.errors()
     }
 
-    /// One step. With no reply it runs one instruction, asks a request, or says how the machine has stopped; with
-    /// the reply to the request that it asked it uses that reply. After a stop each further step answers the
-    /// same. It is refused for want of memory alone, and each further step is then refused too.
+    /// Makes one step. With no reply it runs one instruction, asks a request, or says how the machine has
+    /// stopped; with the reply to the request that it asked it uses that reply. After a stop each further step
+    /// answers the same. It is refused for want of memory alone, and each further step is then refused too.
     pub fn step(&mut self, reply: Option<&Reply>) -> Result<Step, AllocError>
         requires { MayStep self.old.is_out_of_memory self.old.machine.state (option_copied reply) }
         ensures ok { IfOk result (λ step. Moves self.old (moved self.old.machine (option_copied reply.entry)) step self.new) }

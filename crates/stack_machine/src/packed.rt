@@ -10,7 +10,7 @@ use fdb_tuple::{Elem, pack_element_into};
 use key_bytes::{Bytes, Pair};
 use std::alloc::{AllocError, Global};
 
-/// The keys and values in turn of the pairs with keys that begin with the prefix, as one packed tuple.
+/// Returns the keys and values in turn of the pairs with keys that begin with the prefix, as one packed tuple.
 #[tactic(auto, unfolding(machine_rules::specs::Machines::packed_pairs))]
 pub fn pack_within(alloc: Global, prefix: &[u8], pairs: &[Pair]) -> Result<Bytes, AllocError>
     ensures { IfOk result (λ packed. Elem.Bytes packed ≡ packed_pairs (pairs_within prefix.now (entries_of pairs.now))) }

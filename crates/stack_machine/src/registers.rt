@@ -74,8 +74,8 @@ impl Model for Registers {
 }
 
 impl Registers {
-    /// The registers as a machine is started: a current name, 0 as the last version seen, no item and no error, and the
-    /// default layer as the only directory. It is refused for want of memory alone.
+    /// Makes the registers as a machine is started: a current name, 0 as the last version seen, no item and no
+    /// error, and the default layer as the only directory. It is refused for want of memory alone.
     pub fn new(alloc: Global, name: Bytes) -> Result<Registers, AllocError>
         ensures { IfOk result (λ registers. registers
             ≡ record { name = name; last_seen = pos 0; stack = []; errors = []; directories = first_directories }) }
@@ -90,14 +90,14 @@ impl Registers {
         })
     }
 
-    /// The items. It takes no memory.
+    /// Returns the items.
     pub fn stack(&self) -> &Stack
         ensures { result.now ≡ self.now.stack }
     {
         &self.stack
     }
 
-    /// The errors that were noted, in the order in which they arose. It takes no memory.
+    /// Returns the errors that were noted, in the order in which they arose.
     pub fn errors(&self) -> &Errors
         ensures { result.now ≡ self.now.errors }
     {

@@ -11,7 +11,8 @@ use machine_rules::{Awaits, TransactionOperation};
 use stack_items::{Operands, StackFault};
 use std::alloc::Global;
 
-/// The request that an operation makes on the transaction of a name, by the last version seen and its operands.
+/// Returns the request that an operation makes on the transaction of a name, by the last version seen and its
+/// operands.
 pub fn request_of(
     operands: &mut Operands<'_>,
     alloc: Global,
@@ -113,7 +114,7 @@ fn write_key_request(
     on(alloc, name, TxnCall::WriteConflict { range })
 }
 
-/// The two ends of a range.
+/// Returns the two ends of a range.
 pub fn range_operand(operands: &mut Operands<'_>) -> Result<KeyRange, StackFault>
     ensures { LooksUnlessFull (λ range. range) result range_operand operands.old operands.new }
 {
@@ -130,7 +131,7 @@ fn one_key_operand(operands: &mut Operands<'_>, alloc: Global) -> Result<KeyRang
     Ok(KeyRange::single(alloc, &key)?)
 }
 
-/// What the reply to an operation on the current transaction is used for.
+/// Returns what the reply to an operation on the current transaction is used for.
 pub fn awaits_of(operation: TransactionOperation) -> Awaits
     ensures { result ≡ awaits_of operation }
 {
