@@ -1,0 +1,10 @@
+mod atomics;
+mod dumps;
+mod keys;
+mod lines;
+mod packing;
+mod script;
+mod streams;
+mod subspaces;
+mod unpacking;
+mod words;
