@@ -2,9 +2,9 @@
 
 use super::{key_of, push_pair, range_of};
 use atomic_ops::has_room;
-use database_rules::AtomicOp;
+use database_rules::{AtomicOp, Mode};
 use key_bytes::{Bytes, Key, KeyRange, Pair, Pairs};
-use range_read::OrderedView;
+use range_read::{OrderedView, all};
 use ryw_view::{NearView, View, ViewFault};
 use std::alloc::{AllocError, Global};
 use std::test::Fail;
@@ -104,14 +104,17 @@ fn view_of<'a>(edits: &'a WriteMap, store: &'a Store) -> View<'a> {
     }
 }
 
-// What is asked of a view: a value, the pair from a key on, the one below it, and the same of a view for a walk.
+// What is asked of a view: a value, the pair from a key on, the one below it, and the slice from a key on up to one pair; of a
+// view for a walk the same but for values.
 #[derive(Clone, Copy)]
 enum Ask {
     Get,
     Next,
     Prev,
+    Slice,
     NearNext,
     NearPrev,
+    NearSlice,
 }
 
 fn value_text(found: Result<Option<Bytes>, ViewFault>, alloc: Global) -> Result<Bytes, AllocError> {
@@ -135,6 +138,20 @@ fn pair_text(found: Result<Option<Pair>, AllocError>, alloc: Global) -> Result<B
     }
 }
 
+// The one pair of the slice from a key on.
+fn slice_text<V: OrderedView>(alloc: Global, view: &V, key: &Key) -> Result<Bytes, AllocError> {
+    let range = range_of(alloc, key.as_slice(), b"\xFF")?;
+    match all(view, &range, 1, false, Mode::WantAll) {
+        Ok(pairs) => pair_text(Ok(pairs.into_vec().pop()), alloc),
+        Err(_) => Err(AllocError),
+    }
+}
+
+fn near_slice(alloc: Global, view: View<'_>, key: &Key) -> Result<Bytes, AllocError> {
+    let near = NearView::new(view, key, false)?;
+    slice_text(alloc, &near, key)
+}
+
 fn near_text(alloc: Global, view: View<'_>, key: &Key, down: bool) -> Result<Bytes, AllocError> {
     let near = NearView::new(view, key, down)?;
     let found = if down { near.prev(key) } else { near.next(key) };
@@ -147,8 +164,10 @@ fn answer(alloc: Global, view: View<'_>, ask: Ask, key: &Key) -> Result<Bytes, A
         Ask::Get => value_text(view.get(key), alloc),
         Ask::Next => pair_text(view.next(key), alloc),
         Ask::Prev => pair_text(view.prev(key), alloc),
+        Ask::Slice => slice_text(alloc, &view, key),
         Ask::NearNext => near_text(alloc, view, key, false),
         Ask::NearPrev => near_text(alloc, view, key, true),
+        Ask::NearSlice => near_slice(alloc, view, key),
     }
 }
 
@@ -186,6 +205,8 @@ const ROWS: &[Row] = &[
     (ADDED, Ask::Next, b"b", b"f\xFF"),
     (ADDED, Ask::Prev, b"d", b"a\x32"),
     (ADDED, Ask::Get, b"c", b"none"),
+    (ADDED, Ask::Slice, b"b", b"f\xFF"),
+    (ADDED, Ask::NearSlice, b"b", b"f\xFF"),
     (ADDED, Ask::NearNext, b"d", b"f\xFF"),
     (ADDED, Ask::NearPrev, b"d", b"a\x32"),
     (ADDS, Ask::Get, b"z", b"\x01\x00"),
