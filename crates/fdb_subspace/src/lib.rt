@@ -9,6 +9,3 @@ mod subspace;
 
 pub use fault::SubFault;
 pub use subspace::Subspace;
-
-#[cfg(test)]
-mod tests;

@@ -11,7 +11,7 @@ use std::test::Fail;
 // ---- faults
 
 fn fault_of(alloc: Global, form: Form, input: &[u8]) -> Option<LineFault> {
-    read_lines(alloc, form, input).err()
+    read_lines(alloc, input, form).err()
 }
 
 // Inputs with the line and the place of their first fault.
@@ -116,7 +116,7 @@ fn is_one_pair(input: &Input, key: &[u8], value: &[u8]) -> bool {
 // Whether an order and a pair with escapes are read as they must be.
 fn is_read(alloc: Global) -> bool {
     let input = b"O 0\nO 63\nK \\x00a\\\\\\=~\\x7f\\xff\n";
-    match read_lines(alloc, Form::Replay, input) {
+    match read_lines(alloc, input, Form::Replay) {
         Ok(input) => {
             input.order.as_slice() == [0, 63].as_slice()
                 && is_one_pair(&input, b"\x00a\\", b"~\x7f\xff")
