@@ -1,88 +1,14 @@
 //! Machines in threads of their own.
 
 use super::*;
-use dump_text::{Order, write_order_line, write_pair_line};
+use dump_text::{EndWord, Order, write_machine_line, write_order_line, write_pair_line};
 use fdb_tuple::{Elem, pack_element_into};
 use generator::gen_pairs;
 use key_bytes::{Bytes, Pair, Pairs};
-use once_cell::race::OnceBool;
 use outside::{CleanSink, Gate};
 
-// How often a machine looks for the flag of the other, at most.
-const LOOKS: u32 = 100_000_000;
-
-// Machine 0 starts machine 1, and then each reads a key, machine 1 twice.
-const READS: &[u8] = b"K \\x01p\\x00\\x14\\=\\x02PUSH\\x00\\x01q\\x00\n\
-K \\x01p\\x00\\x15\\x01\\=\\x02START_THREAD\\x00\n\
-K \\x01p\\x00\\x15\\x02\\=\\x02PUSH\\x00\\x01k\\x00\n\
-K \\x01p\\x00\\x15\\x03\\=\\x02GET\\x00\n\
-K \\x01q\\x00\\x14\\=\\x02PUSH\\x00\\x01k\\x00\n\
-K \\x01q\\x00\\x15\\x01\\=\\x02GET\\x00\n\
-K \\x01q\\x00\\x15\\x02\\=\\x02PUSH\\x00\\x01k\\x00\n\
-K \\x01q\\x00\\x15\\x03\\=\\x02GET\\x00\n";
-
-// Before its second request machine 0 raises its flag and waits for that of machine 1, which does the same before its first
-// request. No order of one thread lets both see the flag of the other.
-#[derive(Drop)]
-struct MeetingGate {
-    flags: [OnceBool; 2],
-    seen: [OnceBool; 2],
-}
-
-impl MeetingGate {
-    fn new() -> MeetingGate {
-        MeetingGate {
-            flags: [OnceBool::new(), OnceBool::new()],
-            seen: [OnceBool::new(), OnceBool::new()],
-        }
-    }
-
-    // Whether each saw the flag of the other.
-    fn have_met(&self) -> bool {
-        self.seen.iter().all(|seen| seen.get() == Some(true))
-    }
-}
-
-// Raises a flag, and notes whether the other was seen.
-fn meet(own: &OnceBool, other: &OnceBool, seen: &OnceBool) {
-    let _raised = own.set(true);
-    for _ in 0..LOOKS {
-        if other.get() == Some(true) {
-            let _noted = seen.set(true);
-            return;
-        }
-    }
-}
-
-impl Gate for MeetingGate {
-    fn pass(&self, machine: u16, place: u64) {
-        match (machine, place) {
-            (0, 1) => meet(&self.flags[0], &self.flags[1], &self.seen[0]),
-            (1, 0) => meet(&self.flags[1], &self.flags[0], &self.seen[1]),
-            _ => {}
-        }
-    }
-}
-
-// The status of the run through that gate, and whether the two machines met.
-fn meeting<R: Threads + Wait + Sync + Clone + Drop + Send + 'static>(
-    rt: &R,
-    alloc: Global,
-) -> Result<(u8, bool), AllocError> {
-    let args = args_of(alloc, &WORDS)?;
-    let gate = MeetingGate::new();
-    let status = status_over_bytes(rt, alloc, &args, READS, &gate)?;
-    Ok((status, gate.have_met()))
-}
-
-#[test]
-fn gate_two_machines(rt: HostRuntime) -> Result<(), Fail> {
-    assert_eq!(rt; meeting(&rt, rt.alloc())?, (0, true));
-    Ok(())
-}
-
 // The lines of these pairs, behind those of an order.
-fn lines_of(alloc: Global, order: &Order, pairs: &Pairs) -> Result<Vec<u8>, AllocError> {
+pub fn lines_of(alloc: Global, order: &Order, pairs: &Pairs) -> Result<Vec<u8>, AllocError> {
     let mut lines = Vec::new(alloc);
     for machine in order.as_slice() {
         write_order_line(&mut lines, *machine)?;
@@ -94,9 +20,10 @@ fn lines_of(alloc: Global, order: &Order, pairs: &Pairs) -> Result<Vec<u8>, Allo
 }
 
 // What a call over these bytes did, with room for a large dump.
-fn ran_at_large<R: Threads + Wait + Sync + Clone + Drop + Send + 'static>(
+pub fn ran_at_large<R: Threads + Wait + Sync + Clone + Drop + Send + 'static, G: Gate>(
     rt: &R,
     alloc: Global,
+    gate: &G,
     words: &[&str],
     input: &[u8],
 ) -> Result<Large, AllocError> {
@@ -104,7 +31,7 @@ fn ran_at_large<R: Threads + Wait + Sync + Clone + Drop + Send + 'static>(
     let mut source = MemSource::new(alloc, input, 4_096, &[])?;
     let mut out = MemSink::new(alloc, 10_000_000, 4_096, &[])?;
     let mut err = CleanSink::new(4_096);
-    let outcome = tester(rt, alloc, &args, &mut source, &mut out, &mut err, &OpenGate);
+    let outcome = tester(rt, alloc, &args, &mut source, &mut out, &mut err, gate);
     let written = Vec::from_slice(alloc, out.written())?;
     Ok(Large {
         status: outcome.status,
@@ -115,10 +42,10 @@ fn ran_at_large<R: Threads + Wait + Sync + Clone + Drop + Send + 'static>(
 
 // A large dump, and what else is asked of its run.
 #[derive(Drop)]
-struct Large {
-    status: u8,
-    order: Order,
-    written: Vec<u8>,
+pub struct Large {
+    pub status: u8,
+    pub order: Order,
+    pub written: Vec<u8>,
 }
 
 // A run of these pairs in threads, and its replay by its own order: the status of the run, how many places its order has, and
@@ -133,6 +60,7 @@ fn run_and_replay<R: Threads + Wait + Sync + Clone + Drop + Send + 'static>(
     let run = ran_at_large(
         rt,
         alloc,
+        &OpenGate,
         &["run", prefix, "630", "--polls", "100000"],
         &input,
     )?;
@@ -140,6 +68,7 @@ fn run_and_replay<R: Threads + Wait + Sync + Clone + Drop + Send + 'static>(
     let again = ran_at_large(
         rt,
         alloc,
+        &OpenGate,
         &["replay", prefix, "630", "--polls", "100000"],
         &input,
     )?;
@@ -168,10 +97,10 @@ fn run_then_replay(rt: HostRuntime) -> Result<(), Fail> {
 }
 
 // Machine 0 starts 63 machines.
-const STARTS: [&[u8]; 2] = [b"\x02PUSH\x00\x01q\x00", b"\x02START_THREAD\x00"];
+pub const STARTS: [&[u8]; 2] = [b"\x02PUSH\x00\x01q\x00", b"\x02START_THREAD\x00"];
 
-// Each of these sets a key and commits, five hundred times.
-const COMMITS: [&[u8]; 4] = [
+// Each of these sets a key and commits, fifty times.
+pub const COMMITS: [&[u8]; 4] = [
     b"\x02PUSH\x00\x01v\x00",
     b"\x02PUSH\x00\x01k\x00",
     b"\x02SET\x00",
@@ -187,7 +116,7 @@ fn instruction_key(alloc: Global, prefix: &[u8], place: usize) -> Result<Bytes, 
 }
 
 // Adds so many instructions under a prefix, these again and again.
-fn add_instructions(
+pub fn add_instructions(
     pairs: &mut Pairs,
     alloc: Global,
     prefix: &[u8],
@@ -211,12 +140,45 @@ fn crowd<R: Threads + Wait + Sync + Clone + Drop + Send + 'static>(
 ) -> Result<(u8, usize, bool), AllocError> {
     let mut pairs = Pairs::new(alloc);
     add_instructions(&mut pairs, alloc, b"p", &STARTS, 126)?;
-    add_instructions(&mut pairs, alloc, b"q", &COMMITS, 2_000)?;
+    add_instructions(&mut pairs, alloc, b"q", &COMMITS, 200)?;
     run_and_replay(rt, alloc, "p", &pairs)
 }
 
 #[test]
-fn runs_64_machines_of_a_thousand_requests(rt: HostRuntime) -> Result<(), Fail> {
-    assert_eq!(rt; crowd(&rt, rt.alloc())?, (0, 63_063, true));
+fn runs_64_machines_of_a_hundred_requests(rt: HostRuntime) -> Result<(), Fail> {
+    assert_eq!(rt; crowd(&rt, rt.alloc())?, (0, 6_363, true));
+    Ok(())
+}
+
+// Each machine starts one more under the same prefix.
+const STARTS_ITSELF: &[u8] = b"K \\x01p\\x00\\x14\\=\\x02PUSH\\x00\\x01p\\x00\n\
+K \\x01p\\x00\\x15\\x01\\=\\x02START_THREAD\\x00\n";
+
+// The dump of its run: the last of 64 machines may start none.
+fn all_started(alloc: Global) -> Result<Vec<u8>, AllocError> {
+    let mut dump = Vec::new(alloc);
+    for number in 0..63 {
+        write_machine_line(&mut dump, number, EndWord::Ended, 2, b"p")?;
+    }
+    write_machine_line(&mut dump, 63, EndWord::MachineLimit, 1, b"p")?;
+    for number in 0..64 {
+        write_order_line(&mut dump, number)?;
+    }
+    dump.extend_from_slice(STARTS_ITSELF)?;
+    Ok(dump)
+}
+
+// The status of its run, and whether it writes that dump.
+fn chain<R: Threads + Wait + Sync + Clone + Drop + Send + 'static>(
+    rt: &R,
+    alloc: Global,
+) -> Result<(u8, bool), AllocError> {
+    let large = ran_at_large(rt, alloc, &OpenGate, &WORDS, STARTS_ITSELF)?;
+    Ok((large.status, large.written == all_started(alloc)?))
+}
+
+#[test]
+fn machines_start_machines_up_to_64(rt: HostRuntime) -> Result<(), Fail> {
+    assert_eq!(rt; chain(&rt, rt.alloc())?, (3, true));
     Ok(())
 }

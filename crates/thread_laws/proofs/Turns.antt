@@ -5,8 +5,8 @@ use Rattle.std.proofs.lemmas.List.{append-nil}
 use Rattle.command_rules.specs.declared.args.RunArgs.{RunArgs}
 use Rattle.machine_rules.specs.Laws.{run_from-append}
 use Rattle.machine_rules.specs.Runs.{AreByTurns, HasTurn, IsFirstFrom, Run, RunsTo, has_request, run_from, start, turn_after}
-use Rattle.turn_laws.specs.OneOrder.{HaveOneOrder}
-use Rattle.turn_laws.proofs.Resting.{complete_asks_none}
+use Rattle.thread_laws.specs.OneOrder.{HaveOneOrder}
+use Rattle.thread_laws.proofs.Resting.{complete_asks_none}
 
 -- ---- one machine has the turn
 
