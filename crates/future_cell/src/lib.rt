@@ -32,9 +32,8 @@
 //! - `settle` gives the value that was set, which is the value that was shown. The receipt's `ran` is true exactly where
 //!   `on_ready` answered `Parked`. The settled `ran` is 1 where a callback was registered, and 0 where none was.
 //!   `settle_in_place` says the same, and keeps the cell's memory taken.
-//! - After `wait` the value is shown, and a callback is registered. After `wait_in` the value is shown, or memory was wanting and
-//!   none is registered.
-//! - Only `pair`, `wakes` and `wait_in` take memory, and nothing else can fail.
+//! - After `wait` the value is shown, and a callback is registered. After `wait_in` the value is shown.
+//! - Only `pair` and `wakes` can fail, for want of memory. `wait_in` takes memory too, and goes on looking where none is to be had.
 //!
 //! None of `set`, `on_ready`, `peek` and `settle` takes a handle to wait by, so none of them takes a lock.
 //!

@@ -21,7 +21,10 @@ use Rattle.stack_items.specs.contracts.stack.Stack as stack
 use Rattle.stack_machine.specs.contracts.machine.Machine as machine
 use Rattle.stack_machine.specs.contracts.registers.Registers as registers
 use Rattle.machine_seat.specs.contracts.seat.Seat as seat
+use Rattle.machine_threads.proofs.crew.Crew.TheLaws.TheKnot.{send-Crew}
 use Rattle.machine_threads.specs.contracts.threaded.ThreadedMachine as threaded
+use Rattle.machine_threads.specs.contracts.crew.Crew as crew
+use Rattle.machine_threads.specs.contracts.team.Ran as ran
 
 elem_send : IsSend (elem.the_field).row
 elem_send = search (sendable, crosses, both_send-Elem, both_send-Tuple, bytes_send, bytes_sync, text_send, text_sync, stamp_send, stamp_sync) depth 20
@@ -46,3 +49,9 @@ seat_send = search (sendable, crosses, machine_send, request_send) depth 12
 
 pub threaded_send : IsSend (threaded.the_field).row
 threaded_send = search (sendable, crosses, seat_send, client_send, waiter_send, reply_send, wake_send) depth 12
+
+crew_send : IsSend (crew.the_field).row
+crew_send = search (sendable, crosses, send-Crew, threaded_send) depth 20
+
+pub ran_send : IsSend (ran.the_field).row
+ran_send = search (sendable, crosses, crew_send) depth 20

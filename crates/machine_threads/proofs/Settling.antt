@@ -5,7 +5,7 @@ use Rattle.std.specs.List.{All, Any, AllPairs, filter, zip}
 use Rattle.std.specs.Global.{Vec}
 use denote.Ref.{Bor}
 use Rattle.std.proofs.lemmas.List.{append-nil, get_or-map, length-map, map-append}
-use Rattle.std.proofs.lemmas.List.Elements.{All-head, All-map, All-push, All-same, All-tail, All-weaker, filter-append}
+use Rattle.std.proofs.lemmas.List.Elements.{All-cons, All-head, All-map, All-nil, All-push, All-same, All-tail, All-weaker, filter-append}
 use Rattle.std.proofs.lemmas.List.Sorted.{length_permutation, All-permutation, Contains-permutation, IsPermutation-map}
 use Rattle.std.proofs.lemmas.Option.{get_or_from_slice_get, none-some, same_Some, slice_get-get_or, slice_get_within}
 use Rattle.std.proofs.lemmas.Grind.{flat_map-append}
@@ -25,7 +25,7 @@ use Rattle.network.specs.declared.post.Post.{Post}
 use Rattle.network.specs.declared.post.Post.TheVariants.{Ask, Over}
 use Rattle.network.specs.Posts.{posts_of, asking_in, cell_by, cells_in, overs_in}
 use Rattle.network.specs.Serving.{cells_of, replies_of}
-use Rattle.network.specs.Pairing.{receipts_of, AsksBy, AsksFor, AsksForItsMachine, EndsWithItsOver, IsTakenWhole}
+use Rattle.network.specs.Pairing.{receipts_of, AsksAsOne, AsksBy, AsksFor, AsksForItsMachine, EndsWithItsOver, IsTakenWhole}
 use Rattle.network.proofs.Pairing.{asks_by, pairs_with_waiters}
 use Rattle.network.proofs.Wholes.{all_taken}
 use Rattle.machine_threads.specs.declared.threaded.ThreadedMachine.{ThreadedMachine}
@@ -166,6 +166,40 @@ of_these_when_closed ended closing before after moved cover none_closed closed_a
     (subst (λ l. Agrees l (closed after)) taken_are (agree some)) in
     agrees.of_these covers
 
+-- ---- which machines ask
+
+-- an Ask is of a machine whose number is less
+abbrev AsksBelow : ℕ → (ℕ × Post) → Type 0
+AsksBelow bound (number, Ask asking request setter) = asking < bound
+AsksBelow bound (number, Over over) = Unit {0}
+
+all_asking : (bound : ℕ) (taken : List (ℕ × Post)) → All (AsksBelow bound) taken → All (λ machine. machine < bound) (asking_in (posts_of taken))
+all_asking bound [] all = All-nil (λ machine. machine < bound)
+all_asking bound ((number, Ask asking request setter) ∷ taken) all =
+    All-cons (λ machine. machine < bound) asking (asking_in (posts_of taken)) (All-head (AsksBelow bound) (number, Ask asking request setter) taken all)
+    (all_asking bound taken (All-tail (AsksBelow bound) (number, Ask asking request setter) taken all))
+all_asking bound ((number, Over over) ∷ taken) all =
+    all_asking bound taken (All-tail (AsksBelow bound) (number, Over over) taken all)
+
+-- where each post taken is of one of the machines, and each machine asks by its own sender alone, each that asks is one of them
+pub asking_within : (ended : List ThreadedMachine) (taken : List (ℕ × Post)) → AreNumbered ended → All (IsTakenOf taken) ended
+    → IsOfThese taken (map history_of ended) → All (λ machine. machine < length ended) (asking_in (posts_of taken))
+asking_within ended taken numbered are_taken these =
+    all_asking (length ended) taken (λ place d within. as_one place d within (get_or taken place d) refl)
+  where
+    as_one : (place : ℕ) (d : ℕ × Post) → place < length taken → (mail : ℕ × Post) → get_or taken place d ≡ mail → AsksBelow (length ended) mail
+    as_one place d within (number, Over over) at = tt
+    as_one place d within (number, Ask asking request setter) at =
+        let found = these place d within in
+        let inside : found.0 < length ended = omega (arith, found.2, length-map ended history_of) in
+        let machine = there ended found.0 inside in
+        let sender : (history_of machine.0).number ≡ number =
+        ap (λ (h : History Post). h.number) (sym (mapped_at history_of ended found.0 machine.0 found.1 machine.1) ∙ found.3) ∙ found.4
+        ∙ ap (λ (mail : ℕ × Post). mail.0) at in
+        let asks = subst (AsksAsOne (machine_in machine.0).number (history_of machine.0).number) at
+        ((All-at (IsTakenOf taken) ended found.0 machine.0 are_taken machine.1).0 place d within) in
+        omega (arith, asks.1 (sym sender), numbered found.0 machine.0 machine.1, inside)
+
 -- ---- receipts and waiters
 
 -- the receipts of a machine are of the cells of its waiters
@@ -301,6 +335,16 @@ IsSettledBy both = AreAnswered both.1.items both.0.waiters.items
 -- a machine's number beside a receipt, as a loop over both meets them
 abbrev pub numbered_receipt : (Bor ℕ × Receipt Reply Wake) → (ℕ × Receipt Reply Wake)
 numbered_receipt both = (both.0.now, both.1)
+
+-- the machine of each receipt is one of so many
+pub named_below : (bound : ℕ) (order : List ℕ) (receipts : List (Receipt Reply Wake)) → All (λ machine. machine < bound) order
+    → All (λ (entry : ℕ × Receipt Reply Wake). entry.0 < bound) (zip order receipts)
+named_below bound [] receipts all = All-nil (λ (entry : ℕ × Receipt Reply Wake). entry.0 < bound)
+named_below bound (machine ∷ order) [] all = All-nil (λ (entry : ℕ × Receipt Reply Wake). entry.0 < bound)
+named_below bound (machine ∷ order) (receipt ∷ receipts) all =
+    All-cons (λ (entry : ℕ × Receipt Reply Wake). entry.0 < bound) (machine, receipt) (zip order receipts)
+    (All-head (λ machine. machine < bound) machine order all)
+    (named_below bound order receipts (All-tail (λ machine. machine < bound) machine order all))
 
 -- the receipts that were met so far stand each at the place of its machine
 abbrev pub AreSorted : List (Bor ℕ × Receipt Reply Wake) → List (Vec (Receipt Reply Wake)) → Type 0

@@ -1,5 +1,5 @@
 -- A machine in its thread: what it asked and was answered, and what it has come to.
-use Rattle.std.specs.Prelude.{◌≡◌, ℕ, List, [], ◌∷◌, ◌++◌, length, map, Option, Some, None}
+use Rattle.std.specs.Prelude.{◌≡◌, ℕ, List, [], ◌∷◌, ◌++◌, length, map, option_to_list, Option, Some, None, Result, Ok, Err}
 use Rattle.std.specs.List.{All}
 use mathlib.Core.List.{IsPrefix}
 use Rattle.fdb_calls.specs.declared.Request.{Request}
@@ -12,6 +12,7 @@ use Rattle.network.specs.declared.post.Post.{Post}
 use Rattle.network.specs.declared.post.Post.TheVariants.{Over}
 use Rattle.network.specs.Posts.{asked_in, cells_in, overs_in}
 use Rattle.network.specs.Pairing.{AsksFor}
+use Rattle.network.specs.Serving.{started_by as starts_in}
 use Rattle.network.specs.Clients.{client_machine, client_line, client_history}
 use Rattle.machine_rules.specs.Machines.{Machine, Progress}
 use Rattle.machine_rules.specs.Runs.{start_prefix, started_by}
@@ -19,6 +20,7 @@ use Rattle.thread_laws.specs.Alone.{IsAlone, anew, begun_as}
 use Rattle.machine_seat.specs.declared.seat.Seat.{Seat}
 use Rattle.machine_seat.specs.Seats.{progress_of, IsSeated}
 use Rattle.machine_threads.specs.declared.threaded.ThreadedMachine.{ThreadedMachine}
+use Rattle.machine_threads.specs.declared.refusal.Refused.{Refused}
 
 -- what posts ask, in order
 abbrev pub requests_in : List Post → List Request
@@ -71,6 +73,25 @@ pub record IsLater (before after : ThreadedMachine) : Type 0 where
   pub posted : IsPrefix (history_of before).posted (history_of after).posted
   pub replies : IsPrefix (replies_to before) (replies_to after)
   pub line : client_line after.client ≡ client_line before.client
+
+-- ---- which Overs are owed
+
+-- how many Overs it has posted
+abbrev pub overs_of : ThreadedMachine → ℕ
+overs_of threaded = overs_in (history_of threaded).posted
+
+-- how many machines its replies say were started
+abbrev pub starts_to : ThreadedMachine → ℕ
+starts_to threaded = starts_in (replies_to threaded)
+
+-- one Over, where a machine was started that can't run
+abbrev pub owed_of : Refused → ℕ
+owed_of refused = length (option_to_list refused.owed)
+
+-- one Over, where a machine was started, whether it came back at its seat or not
+abbrev pub owed_by : Result (Option Seat) Refused → ℕ
+owed_by (Ok started) = length (option_to_list started)
+owed_by (Err refused) = owed_of refused
 
 -- ---- machines that start one another
 

@@ -13,6 +13,7 @@ ghost use Rattle.network.specs.Pairing.{receipts_of};
 ghost use Rattle.machine_threads.specs.Threaded.{history_of, shown_by, HasEnded};
 ghost use Rattle.machine_threads.specs.Closing.{AreNumbered, AreSettled};
 
+use crate::refusal::Cause;
 use crate::threaded::ThreadedMachine;
 use fdb_calls::Reply;
 use future_cell::{Receipt, Waiter, Wake, settle_in_place};
@@ -30,15 +31,14 @@ struct Unsettled {
 }
 
 /// Closes the senders of all machines that ran, and settles each waiter against its receipt: the machines at their seats, by their
-/// numbers. It is refused for want of memory alone, or where the numbers are not those from 0 on, each once; no service of
-/// machines gives others.
+/// numbers. Where the numbers are not those from 0 on, each once, it answers `StrayNumbers`.
 pub fn settle_machines(
     alloc: Global,
     receiver: Receiver<Post>,
     order: &Order,
     receipts: Receipts,
     ended: Vec<ThreadedMachine>,
-) -> Result<Vec<Seat>, AllocError>
+) -> Result<Vec<Seat>, Cause>
     requires none_closed { closed receiver ≡ [] }
     requires one_line { All (λ one. client_line one.client ≡ receiver_line receiver) ended.items }
     requires cover { CoverAllNumbers (map history_of ended.items) }
@@ -51,12 +51,12 @@ pub fn settle_machines(
     let mut ended = ended;
     ended.sort_by_key(|one| one.seat.machine.number())?;
     if !are_numbered(&ended) {
-        return Err(AllocError);
+        return Err(Cause::StrayNumbers);
     }
     let mut receiver = receiver;
     let unsettled = close_all(alloc, &mut receiver, ended)?;
     let receipts = by_machine(alloc, unsettled.len(), order, receipts)?;
-    settle_each(alloc, unsettled, receipts)
+    Ok(settle_each(alloc, unsettled, receipts)?)
 }
 
 // Whether the machine of each number stands at that place.
@@ -104,7 +104,8 @@ fn by_machine(
     order: &Order,
     receipts: Receipts,
 ) -> Result<Vec<Vec<Receipt<Reply, Wake>>>, AllocError>
-    requires { length order.now ≡ length receipts }
+    requires each { length order.now ≡ length receipts }
+    requires named { All (λ machine. machine < machines) order.now }
     ensures as_many { IfOk result (λ sorted. length sorted.items ≡ machines) }
     ensures sorted { IfOk result (λ sorted. (number : ℕ) (own : _) → slice_get sorted.items number ≡ Some own
         → own.items ≡ receipts_of number order.now receipts) }
@@ -113,7 +114,7 @@ fn by_machine(
     for (machine, receipt) in order.as_slice().iter().zip(receipts) {
         match sorted.get_mut(usize::from(*machine)) {
             Some(own) => own.push(receipt)?,
-            None => return Err(AllocError),
+            None => unreachable!(),
         }
     }
     Ok(sorted)

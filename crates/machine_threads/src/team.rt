@@ -1,23 +1,34 @@
 //! A machine and those that it starts, each in its thread.
 
-ghost use Rattle.std.specs.Prelude.{◌≡◌, ◌≤◌, ◌<◌, ◌+◌, ◌++◌, ◌∷◌, [], IfOk, IsOk, OnOk};
+ghost use Rattle.std.specs.Prelude.{◌≡◌, ◌≤◌, ◌<◌, ◌+◌, ◌++◌, Some, None};
 ghost use Rattle.std.specs.Thread.{IsSync};
 ghost use Rattle.machine_rules.specs.declared.TheConstants.{MACHINES};
 ghost use Rattle.machine_seat.specs.Seats.{progress_of, IsSeated};
-ghost use Rattle.machine_threads.specs.Threaded.{history_of, machine_in, replies_to, IsRunning, IsStartedBy};
+ghost use Rattle.machine_threads.specs.Threaded.{history_of, machine_in, replies_to, overs_of, owed_of, starts_to, IsRunning, IsStartedBy};
+ghost use Rattle.machine_threads.specs.Crews.{machines_in, overs_of_all, starts_to_all, AreOver};
 ghost use Rattle.machine_threads.specs.Teams.{IsTeamOf};
 
+use crate::crew::{Crew, Places};
+use crate::refusal::{Cause, Refused};
 use crate::threaded::ThreadedMachine;
 use machine_rules::MACHINES;
 use machine_seat::Seat;
 use outside::Gate;
-use std::alloc::{AllocError, Global};
+use std::alloc::Global;
 use std::sync::Wait;
 use std::thread::{Threads, join};
 
-/// Runs a machine to its end, and beside it each machine that it starts, and those that these start: all of them, ended. The
-/// number of each that is started is to be greater than `newest`, the greatest that was seen. It is refused for want of memory
-/// alone, and each machine has posted its Over then too.
+/// What a machine and those that were run beside it have come to.
+#[derive(Drop)]
+pub struct Ran {
+    pub crew: Crew,
+    /// Why not each machine that was started ran to its end, if so.
+    pub cut: Option<Cause>,
+}
+
+/// Runs a machine, and beside it each machine that it starts, and those that these start. The number of each that is started is to be
+/// greater than `newest`, the greatest that was seen. All of them come back, also where not each ran to its end. Together they have
+/// posted one Over, and one for each machine that a reply to them said was started meanwhile.
 #[cycle(machines)]
 pub fn run_machine<R: Threads + Wait + Sync, G: Gate>(
     rt: &R,
@@ -25,23 +36,24 @@ pub fn run_machine<R: Threads + Wait + Sync, G: Gate>(
     gate: &G,
     machine: ThreadedMachine,
     newest: u16,
-) -> Result<Vec<ThreadedMachine>, AllocError>
+) -> Ran
     requires running { IsRunning machine }
     requires newest { newest < MACHINES }
     requires room { MACHINES ≤ (history_of machine).room + newest + 1 }
-    ensures { IfOk result (λ ended. IsTeamOf machine ended.items) }
+    ensures team { result.cut ≡ None → IsTeamOf machine (machines_in result.crew) }
+    ensures over { AreOver 1 machine (machines_in result.crew) }
 {
     let mut machine = machine;
     match machine.run_until_started(rt, alloc, gate) {
         Ok(Some(seat)) => run_beside(rt, alloc, gate, machine, seat, newest),
         Ok(None) => {
             machine.end(rt);
-            alone(alloc, machine)
+            Ran {
+                crew: Crew::One(machine),
+                cut: None,
+            }
         }
-        Err(refused) => {
-            machine.give_up(rt);
-            Err(refused)
-        }
+        Err(refused) => given_up(rt, machine, refused),
     }
 }
 
@@ -54,71 +66,83 @@ fn run_beside<R: Threads + Wait + Sync, G: Gate>(
     machine: ThreadedMachine,
     seat: Seat,
     newest: u16,
-) -> Result<Vec<ThreadedMachine>, AllocError>
+) -> Ran
     requires running { IsRunning machine }
     requires newest { newest < MACHINES }
     requires room { MACHINES ≤ (history_of machine).room + newest + 1 }
     requires seated { IsSeated seat }
+    requires unposted { overs_of machine ≡ 0 }
     requires started { IsStartedBy (history_of machine).posted (replies_to machine) (machine_in machine).polls (progress_of seat) }
-    ensures { IfOk result (λ ended. IsTeamOf machine ended.items) }
+    ensures team { result.cut ≡ None → IsTeamOf machine (machines_in result.crew) }
+    ensures over { AreOver 2 machine (machines_in result.crew) }
 {
     let mut machine = machine;
     let number = seat.machine.number();
     if number <= newest || usize::from(number) >= MACHINES {
-        return Err(refused_beside(rt, machine, number));
+        return given_up(rt, machine, Refused::new(Cause::StrayStart, Some(number)));
     }
+    let Ok(places) = Places::new(alloc) else {
+        return given_up(rt, machine, Refused::new(Cause::NoMemory, Some(number)));
+    };
     let other = match machine.fork(alloc, seat) {
         Ok(other) => other,
-        Err(_) => return Err(refused_beside(rt, machine, number)),
+        Err(_) => return given_up(rt, machine, Refused::new(Cause::NoMemory, Some(number))),
     };
     let (own, others) = join(
         rt,
-        move || -> Result<Vec<ThreadedMachine>, AllocError>
+        move || -> Ran
             requires sync { IsSync R.row × IsSync G.row }
             requires running { IsRunning machine }
             requires newest { number < MACHINES }
             requires room { MACHINES ≤ (history_of machine).room + number + 1 }
-            ensures { IfOk result (λ ended. IsTeamOf machine ended.items) }
+            ensures team { result.cut ≡ None → IsTeamOf machine (machines_in result.crew) }
+            ensures over { AreOver 1 machine (machines_in result.crew) }
         { run_machine(rt, alloc, gate, machine, number) },
-        move || -> Result<Vec<ThreadedMachine>, AllocError>
+        move || -> Ran
             requires sync { IsSync R.row × IsSync G.row }
             requires running { IsRunning other }
             requires newest { number < MACHINES }
             requires room { MACHINES ≤ (history_of other).room + number + 1 }
-            ensures { IfOk result (λ ended. IsTeamOf other ended.items) }
+            ensures team { result.cut ≡ None → IsTeamOf other (machines_in result.crew) }
+            ensures over { AreOver 1 other (machines_in result.crew) }
         { run_machine(rt, alloc, gate, other, number) },
     );
-    together(own, others)
+    together(places, own, others)
 }
 
-// Posts the Over of a machine and of one that it started, for which memory is wanting.
-fn refused_beside<R: Wait>(rt: &R, machine: ThreadedMachine, number: u16) -> AllocError {
+// Posts the Over of a machine that can't go on, and before it the one that it owes, if it owes one.
+fn given_up<R: Wait>(rt: &R, machine: ThreadedMachine, refused: Refused) -> Ran
+    ensures cut { result.cut ≡ Some refused.cause }
+    ensures overs { overs_of_all (machines_in result.crew) ≡ overs_of machine + 1 + owed_of refused }
+    ensures starts { starts_to_all (machines_in result.crew) ≡ starts_to machine }
+{
     let mut machine = machine;
-    machine.client.over(rt, number);
-    machine.give_up(rt);
-    AllocError
+    machine.give_up(rt, refused);
+    Ran {
+        crew: Crew::One(machine),
+        cut: Some(refused.cause),
+    }
 }
 
-// One machine alone.
-fn alone(alloc: Global, machine: ThreadedMachine) -> Result<Vec<ThreadedMachine>, AllocError>
-    ensures { IfOk result (λ ended. ended.items ≡ machine ∷ []) }
+// Two crews as one.
+fn together(places: Places, own: Ran, others: Ran) -> Ran
+    ensures crew { machines_in result.crew ≡ machines_in own.crew ++ machines_in others.crew }
+    ensures own { result.cut ≡ None → own.cut ≡ None }
+    ensures others { result.cut ≡ None → others.cut ≡ None }
 {
-    let mut ended = Vec::new(alloc);
-    ended.push(machine)?;
-    Ok(ended)
+    Ran {
+        crew: places.keep(own.crew, others.crew),
+        cut: first_cause(own.cut, others.cut),
+    }
 }
 
-// Two teams as one.
-fn together(
-    own: Result<Vec<ThreadedMachine>, AllocError>,
-    others: Result<Vec<ThreadedMachine>, AllocError>,
-) -> Result<Vec<ThreadedMachine>, AllocError>
-    ensures items { IfOk result (λ ended. IfOk own (λ first. IfOk others (λ second. ended.items ≡ first.items ++ second.items))) }
-    ensures own { OnOk result (IsOk own) }
-    ensures others { OnOk result (IsOk others) }
+// The first of two causes, if there is any.
+fn first_cause(own: Option<Cause>, others: Option<Cause>) -> Option<Cause>
+    ensures own { result ≡ None → own ≡ None }
+    ensures others { result ≡ None → others ≡ None }
 {
-    let mut ended = own?;
-    let mut others = others?;
-    ended.append(&mut others)?;
-    Ok(ended)
+    match own {
+        Some(cause) => Some(cause),
+        None => others,
+    }
 }

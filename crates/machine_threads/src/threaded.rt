@@ -1,18 +1,20 @@
 //! A machine in its thread.
 
-ghost use Rattle.std.specs.Prelude.{◌≡◌, ◌≤◌, [], ◌∷◌, map, option_to_list, Ok, Some, None, IsSome, IfOk, IfSome, OnOk};
+ghost use Rattle.std.specs.Prelude.{◌≡◌, ◌≤◌, ◌+◌, [], ◌∷◌, map, option_to_list, is_some, Ok, Some, None, IsSome, IfOk, IfSome, OnOk};
 ghost use Rattle.fdb_calls.specs.declared.Reply.{Reply as ReplySaid};
 ghost use Rattle.future_cell.specs.declared.callback.Registered.TheVariants.{No};
 ghost use Rattle.future_cell.specs.Cells.{waiter_cell, shown, registration};
 ghost use Rattle.request_line.specs.History.{upper_half, lower_half, AreTogether};
 ghost use Rattle.request_line.specs.Line.{history, sender_line};
+ghost use Rattle.network.specs.Serving.{is_started, started_by as starts_in};
 ghost use Rattle.network.specs.Clients.{client_history, client_line, client_machine};
 ghost use Rattle.machine_rules.specs.Machines.{resumed};
 ghost use Rattle.machine_rules.specs.Runs.{at_rest, start_prefix, started_by};
 ghost use Rattle.thread_laws.specs.Alone.{begun_as};
 ghost use Rattle.machine_seat.specs.Seats.{progress_of, Awaits, IsSeated};
-ghost use Rattle.machine_threads.specs.Threaded.{history_of, machine_in, replies_to, HasEnded, IsLater, IsRunning, IsStartedBy};
+ghost use Rattle.machine_threads.specs.Threaded.{history_of, machine_in, replies_to, overs_of, starts_to, owed_by, owed_of, HasEnded, IsLater, IsRunning, IsStartedBy};
 
+use crate::refusal::{Cause, Refused};
 use fdb_calls::Reply;
 use future_cell::{Waiter, Wake};
 use key_bytes::Bytes;
@@ -55,6 +57,7 @@ impl ThreadedMachine {
         ensures running { IsRunning result }
         ensures seat { result.seat ≡ seat }
         ensures client { result.client ≡ client }
+        ensures waiters { result.waiters.items ≡ [] }
     {
         let waiters = Vec::new(alloc);
         ThreadedMachine {
@@ -64,14 +67,14 @@ impl ThreadedMachine {
         }
     }
 
-    /// Asks until a machine was started, which comes back at its seat, or this one has stopped. It is refused for want of
-    /// memory alone.
+    /// Asks until a machine was started, which comes back at its seat, or this one has stopped. A refusal names the machine that a
+    /// reply said was started and that doesn't come back.
     pub(crate) fn run_until_started<R: Wait, G: Gate>(
         &mut self,
         rt: &R,
         alloc: Global,
         gate: &G,
-    ) -> Result<Option<Seat>, AllocError>
+    ) -> Result<Option<Seat>, Refused>
         requires { IsRunning self.old }
         ensures running { OnOk result (IsRunning self.new) }
         ensures later { OnOk result (IsLater self.old self.new) }
@@ -79,6 +82,8 @@ impl ThreadedMachine {
         ensures started { IfOk result (λ started. IfSome started (λ seat. IsSeated seat
             × IsStartedBy (history_of self.new).posted (replies_to self.new) (machine_in self.new).polls (progress_of seat))) }
         ensures ended { result ≡ Ok None → self.new.seat.asks ≡ None }
+        ensures overs { overs_of self.new ≡ overs_of self.old }
+        ensures owes { starts_to self.new ≡ starts_to self.old + owed_by result }
     {
         for _ in rt.forever() {
             if self.seat.asks.is_none() {
@@ -97,7 +102,7 @@ impl ThreadedMachine {
         rt: &R,
         alloc: Global,
         gate: &G,
-    ) -> Result<Option<Seat>, AllocError>
+    ) -> Result<Option<Seat>, Refused>
         requires running { IsRunning self.old }
         requires asks { IsSome self.old.seat.asks }
         ensures running { OnOk result (IsRunning self.new) }
@@ -105,16 +110,18 @@ impl ThreadedMachine {
         ensures room { OnOk result ((history_of self.new).room ≡ (history_of self.old).room) }
         ensures started { IfOk result (λ started. IfSome started (λ seat. IsSeated seat
             × IsStartedBy (history_of self.new).posted (replies_to self.new) (machine_in self.new).polls (progress_of seat))) }
+        ensures overs { overs_of self.new ≡ overs_of self.old }
+        ensures owes { starts_to self.new ≡ starts_to self.old + owed_by result }
     {
         self.waiters.reserve(1)?;
         let request = self.seat.hand_over();
         let prefix = prefix_of(request.request())?;
         gate.pass(self.seat.machine.number(), self.waiters.len() as u64);
         let asked = self.client.ask(rt, alloc, request)?;
-        self.client.prepare(alloc)?;
-        let (waiter, started) = hear(rt, alloc, &mut self.seat, prefix, asked)?;
+        self.client.prepare(alloc);
+        let (waiter, started) = hear(rt, alloc, &mut self.seat, prefix, asked);
         self.waiters.push_reserved(waiter);
-        Ok(started)
+        started
     }
 
     /// Posts that the machine is over, which has stopped. It takes no memory.
@@ -124,18 +131,26 @@ impl ThreadedMachine {
         ensures ended { HasEnded self.new }
         ensures later { IsLater self.old self.new }
         ensures room { (history_of self.new).room ≡ (history_of self.old).room }
+        ensures overs { overs_of self.new ≡ overs_of self.old + 1 }
+        ensures starts { starts_to self.new ≡ starts_to self.old }
     {
         let number = self.seat.machine.number();
         self.client.over(rt, number);
     }
 
-    /// Posts that the machine is over, for which memory is wanting. It takes none.
-    pub(crate) fn give_up<R: Wait>(&mut self, rt: &R) {
+    /// Posts that the machine is over, which can't go on, and before it the Over that it owes, if it owes one. It takes no memory.
+    pub(crate) fn give_up<R: Wait>(&mut self, rt: &R, refused: Refused)
+        ensures overs { overs_of self.new ≡ overs_of self.old + 1 + owed_of refused }
+        ensures starts { starts_to self.new ≡ starts_to self.old }
+    {
+        if let Some(started) = refused.owed {
+            self.client.over(rt, started);
+        }
         let machine = self.seat.machine.number();
         self.client.over(rt, machine);
     }
 
-    /// A machine that this one started, to run beside it. `AllocError` is for want of memory; this machine is then as before.
+    /// Makes the machine that this one started, to run beside it. Where memory is wanting, this machine stays as it was.
     pub(crate) fn fork(&mut self, alloc: Global, seat: Seat) -> Result<ThreadedMachine, AllocError>
         requires running { IsRunning self.old }
         requires room { 1 ≤ (history_of self.old).room }
@@ -151,38 +166,65 @@ impl ThreadedMachine {
         ensures made { IfOk result (λ made. history_of made ≡ upper_half (history_of self.old)) }
         ensures made_line { IfOk result (λ made. client_line made.client ≡ client_line self.old.client) }
         ensures together { IfOk result (λ made. AreTogether (history_of self.new) (history_of made) (history_of self.old)) }
+        ensures overs { overs_of self.new ≡ overs_of self.old }
+        ensures starts { starts_to self.new ≡ starts_to self.old }
+        ensures made_starts { IfOk result (λ made. starts_to made ≡ 0) }
     {
         let client = self.client.fork(seat.machine.number())?;
         Ok(ThreadedMachine::with(alloc, seat, client))
     }
 }
 
-// Waits for the reply, and lets the machine use it. The waiter, which has shown the reply, and the machine that was started by
-// it, if one was.
+// Waits for the reply, and lets the machine use it: the waiter, which has shown the reply, and the machine that was started by it,
+// if one was. The waiter comes back at a refusal too, since what the machine was told is known by it alone.
 fn hear<R: Wait>(
     rt: &R,
     alloc: Global,
     seat: &mut Seat,
     prefix: Option<Bytes>,
     asked: Waiter<Reply, Wake>,
-) -> Result<(Waiter<Reply, Wake>, Option<Seat>), AllocError>
+) -> (Waiter<Reply, Wake>, Result<Option<Seat>, Refused>)
     requires awaits { Awaits seat.old.machine }
     requires unregistered { registration asked ≡ No }
-    ensures cell { IfOk result (λ heard. waiter_cell heard.0 ≡ waiter_cell asked) }
-    ensures heard { IfOk result (λ heard. (reply : ReplySaid) × (shown heard.0 ≡ Some reply)
-        × (progress_of seat.new ≡ at_rest (resumed seat.old.machine.machine reply))
-        × (map progress_of (option_to_list heard.1) ≡ started_by prefix seat.old.machine.machine.polls reply)) }
-    ensures seated { OnOk result (IsSeated seat.new) }
-    ensures started { IfOk result (λ heard. IfSome heard.1 IsSeated) }
+    ensures cell { waiter_cell result.0 ≡ waiter_cell asked }
+    ensures heard { (reply : ReplySaid) × (shown result.0 ≡ Some reply) × (owed_by result.1 ≡ starts_in (Some reply ∷ []))
+        × OnOk result.1 (progress_of seat.new ≡ at_rest (resumed seat.old.machine.machine reply))
+        × IfOk result.1 (λ started. map progress_of (option_to_list started) ≡ started_by prefix seat.old.machine.machine.polls reply) }
+    ensures seated { OnOk result.1 (IsSeated seat.new) }
+    ensures started { IfOk result.1 (λ started. IfSome started IsSeated) }
 {
     let mut waiter = asked;
-    let reply = waiter.wait_in(rt, alloc)?;
-    let started = use_reply(alloc, seat, prefix, reply)?;
-    Ok((waiter, started))
+    let reply = waiter.wait_in(rt, alloc);
+    let started = use_reply(alloc, seat, prefix, reply);
+    (waiter, started)
 }
 
-// Lets a machine use a reply: the machine that was started by it, if one was.
+// Lets a machine use a reply: the machine that was started by it, if one was. Where that one doesn't come back, its Over is owed.
 fn use_reply(
+    alloc: Global,
+    seat: &mut Seat,
+    prefix: Option<Bytes>,
+    reply: &Reply,
+) -> Result<Option<Seat>, Refused>
+    requires { Awaits seat.old.machine }
+    ensures rests { OnOk result (progress_of seat.new ≡ at_rest (resumed seat.old.machine.machine reply.now)) }
+    ensures seated { OnOk result (IsSeated seat.new) }
+    ensures started { IfOk result (λ started. map progress_of (option_to_list started)
+        ≡ started_by prefix seat.old.machine.machine.polls reply.now) }
+    ensures started_seated { IfOk result (λ started. IfSome started IsSeated) }
+    ensures owes { owed_by result ≡ starts_in (Some reply.now ∷ []) }
+{
+    let owed = number_started(reply);
+    match seat_both(alloc, seat, prefix, reply) {
+        Ok(Some(started)) => Ok(Some(started)),
+        Ok(None) if owed.is_none() => Ok(None),
+        Ok(None) => Err(Refused::new(Cause::StrayStart, owed)),
+        Err(_) => Err(Refused::new(Cause::NoMemory, owed)),
+    }
+}
+
+// The machine that was started by a reply, if one was, once its starter has used the reply.
+fn seat_both(
     alloc: Global,
     seat: &mut Seat,
     prefix: Option<Bytes>,
@@ -201,4 +243,14 @@ fn use_reply(
     let polls = seat.machine.polls();
     seat.use_awaited(reply)?;
     seat_started_by(alloc, prefix, polls, reply)
+}
+
+// The number of the machine that was started by a reply, if one was.
+fn number_started(reply: &Reply) -> Option<u16>
+    ensures { is_some result ≡ is_started (Some reply.now) }
+{
+    match reply {
+        Reply::Started { machine, .. } => Some(*machine),
+        _ => None,
+    }
 }

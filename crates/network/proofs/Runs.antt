@@ -21,7 +21,7 @@ use Rattle.network.specs.Desks.{AddsAnswer}
 
 module _ {S : Type 0} (answers : S → ℕ → Request → Reply → S → Type 0) where
   -- a run goes on by one more answer
-  IsRun-more : (start before after : S) (asked : List (ℕ × Request)) (replies : List (Option Reply)) (machine : ℕ) (request : Request) (reply : Reply)
+  pub IsRun-more : (start before after : S) (asked : List (ℕ × Request)) (replies : List (Option Reply)) (machine : ℕ) (request : Request) (reply : Reply)
       → IsRun answers start asked replies before → answers before machine request reply after
       → IsRun answers start (asked ++ (machine, request) ∷ []) (replies ++ Some reply ∷ []) after
   IsRun-more start before after [] [] machine request reply same gave =

@@ -1,5 +1,5 @@
 -- What a receiver took in a call, and what a service answered.
-use Rattle.std.specs.Prelude.{◌≡◌, ◌≢◌, ℕ, Bool, true, false, List, [], ◌∷◌, map, length, drop, Option, Some}
+use Rattle.std.specs.Prelude.{◌≡◌, ◌≢◌, ℕ, Bool, true, false, List, [], ◌∷◌, ◌++◌, map, length, drop, Option, Some}
 use Rattle.std.specs.List.{All, count_by}
 use Rattle.atomic_table.specs.Seated.{TableId}
 use Rattle.fdb_calls.specs.declared.Request.{Request}
@@ -43,6 +43,29 @@ pub record Serves {S : Type 0} (answers : S → ℕ → Request → Reply → S 
   pub cells : cells_of receipts ≡ cells_in posts
   pub has_memory : All (λ reply. reply ≢ Some NoMemory) (replies_of receipts)
   pub order_is : order ≡ asking_in posts
+
+-- To these receipts, one after the other, a service came from one state to another.
+abbrev pub AreNoted : {S : Type 0} → (S → Receipt Reply Wake → S → Type 0) → S → List (Receipt Reply Wake) → S → Type 0
+AreNoted notes before [] after = after ≡ before
+AreNoted {S} notes before (receipt ∷ rest) after = (between : S) × notes before receipt between × AreNoted notes between rest after
+
+-- Whether memory lasts or not: each of these posts that asks was replied to, in order, in the cell in which its reply is awaited. The
+-- service gave the first replies, of which these receipts came back, and none but the last of them is NoMemory. Each further reply is
+-- NoMemory, and the service has its receipt.
+pub record Replies {S : Type 0} (answers : S → ℕ → Request → Reply → S → Type 0) (notes : S → Receipt Reply Wake → S → Type 0)
+    (before after : S) (posts : List Post) (short : Bool) (receipts : List (Receipt Reply Wake)) : Type 0 where
+  pub answered : List (ℕ × Request)
+  pub refused : List (ℕ × Request)
+  pub asked : asked_in posts ≡ answered ++ refused
+  pub between : S
+  pub run : IsRun answers before answered (replies_of receipts) between
+  pub further : List (Receipt Reply Wake)
+  pub noted : AreNoted notes between further after
+  pub cells : cells_of (receipts ++ further) ≡ cells_in posts
+  pub are_no_memory : All (λ reply. reply ≡ Some NoMemory) (replies_of further)
+  pub before_the_last : (front : List (Receipt Reply Wake)) (last : Receipt Reply Wake) → receipts ≡ front ++ last ∷ []
+      → All (λ reply. reply ≢ Some NoMemory) (replies_of front)
+  pub while_it_lasts : short ≡ false → (refused ≡ []) × (further ≡ []) × All (λ reply. reply ≢ Some NoMemory) (replies_of receipts)
 
 -- whether a reply says that a machine was started
 abbrev pub is_started : Option Reply → Bool

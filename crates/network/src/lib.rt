@@ -21,7 +21,7 @@
 //! cell is settled. The contracts speak in the words of `specs/`:
 //!
 //! - `Posts.antt`: what posts ask, the cells in which the replies are awaited, and how many posts are Overs.
-//! - `Serving.antt`: what a receiver took in a call, and a run of a service's relation.
+//! - `Serving.antt`: what a receiver took in a call, a run of a service's relation, and how all that was asked was replied to.
 //! - `Clients.antt`: the machine, the line and the history of a client.
 //! - `Pairing.antt`: the receipts of one machine, the machine that a sender asks for, and senders that end with their one Over.
 //!
@@ -30,6 +30,8 @@
 //! - While memory lasts, the service was asked once for each Ask taken, in the order taken, and the replies are a run of its
 //!   relation from its state before to its state after. The order names the machines of these Asks. The receipts stand in the
 //!   same order, each of the cell of its Ask's setter, each set to its reply. No reply is NoMemory.
+//! - Whether memory lasted or not, each Ask taken was replied to, in the order taken and in its own cell: the first ones by the
+//!   service, and once memory ran out by NoMemory alone. The service takes the receipts of these.
 //! - As many Overs were taken as machines were started, whether memory lasted or not.
 //! - What `call` and `ask` post is one Ask with the client's machine and the request given. Its setter and the waiter that they
 //!   give are of one cell. So the k-th waiter that a client gave is of the cell of its k-th Ask.
@@ -43,9 +45,7 @@
 //!   of the cells of the Asks taken of that sender; by `pairs_with_waiters` they are then of the cells of its waiters. `asks_by` gives that
 //!   premise of all machines, from what each sender posted.
 //!
-//! Once memory runs out, in the service or in `serve`, `short` is true. That the service is asked no more then, and that each
-//! further reply is NoMemory, is tested: nothing is kept of these replies, so no clause of `serve` speaks of them. Nothing is
-//! claimed of when a call returns, or that it does.
+//! Nothing is claimed of when a call returns, or that it does.
 #![tactic(auto)]
 
 mod client;

@@ -3,7 +3,7 @@
 ghost use Rattle.std.specs.Prelude.{◌≡◌, ◌+◌, ◌++◌, false};
 ghost use Rattle.request_line.specs.Line.{receiver_line, taken, closed};
 ghost use Rattle.network.specs.Posts.{overs_in};
-ghost use Rattle.network.specs.Serving.{Serves, taken_since, posts_since, replies_of, started_by};
+ghost use Rattle.network.specs.Serving.{Replies, Serves, taken_since, posts_since, replies_of, started_by};
 
 use crate::post::Post;
 use crate::receipts::Receipts;
@@ -24,8 +24,8 @@ pub struct Served {
     pub order: Order,
     /// The receipts of their replies, in the same order.
     pub receipts: Receipts,
-    /// Whether memory ran out, in the service or in `serve`. From then on each reply was NoMemory, and neither it nor its
-    /// machine is noted.
+    /// Whether memory ran out, in the service or in `serve`. From then on each reply was NoMemory. The service has the receipts of those
+    /// that it didn't give.
     pub short: bool,
     /// How many machines were started, machine 0 among them.
     pub machines: u64,
@@ -44,7 +44,8 @@ pub fn serve<S: Service, R: Wait>(
     ensures served { result.short ≡ false → Serves S.answers service.old service.new (posts_since receiver.old receiver.new)
         result.order result.receipts }
 
-    // Whether memory lasts or not: where it ends, and what was taken.
+    // Whether memory lasts or not: how each Ask was replied to, where it ends, and what was taken.
+    ensures replies { Replies S.answers S.notes service.old service.new (posts_since receiver.old receiver.new) result.short result.receipts }
     ensures ended { overs_in (posts_since receiver.old receiver.new) ≡ result.machines }
     ensures machines { result.machines ≡ 1 + started_by (replies_of result.receipts) }
     ensures taken { taken receiver.new ≡ taken receiver.old ++ taken_since receiver.old receiver.new }

@@ -1,8 +1,8 @@
 -- What the thread of the core and the threads of machines came back with is the end of a run.
-use Rattle.std.proofs.Common.{◌≡◌, ◌∙◌, ℕ, false, List, [], ◌++◌, length, map, Result, Ok, Err, sym, ap, subst, arith}
-use Rattle.std.specs.List.{All, Any}
+use Rattle.std.proofs.Common.{◌≡◌, ◌∙◌, ℕ, zero, suc, ◌<◌, true, false, cond, eqb, eq-eqb, List, [], ◌∷◌, ◌++◌, length, map, get_or, Result, Ok, Err, refl, sym, ap, subst, arith}
+use Rattle.std.specs.List.{All, Any, filter}
+use mathlib.Core.List.{cons≢nil}
 use Rattle.std.specs.Prelude.{IfOk}
-use Rattle.std.specs.declared.alloc.AllocError.{AllocError}
 use Rattle.std.proofs.lemmas.List.{length-map}
 use Rattle.std.proofs.Math.ListN.{get_or-map}
 use Rattle.outside.specs.Seeds.{words_from}
@@ -10,7 +10,8 @@ use Rattle.request_line.specs.declared.ends.Receiver.{Receiver}
 use Rattle.request_line.specs.declared.ends.Sender.{Sender}
 use Rattle.request_line.specs.declared.history.History.{History}
 use Rattle.request_line.specs.History.{first_history, CoverAllNumbers, IsInSpan}
-use Rattle.request_line.specs.Line.{closed, receiver_line, sender_line, taken}
+use Rattle.request_line.specs.Line.{closed, history, receiver_line, sender_line, taken}
+use Rattle.request_line.specs.Taking.{IsOfThese, TakesInOrder}
 use Rattle.network.specs.declared.post.Post.{Post}
 use Rattle.network.specs.Clients.{client_line}
 use Rattle.network.specs.Posts.{asking_in, cells_in, overs_in, posts_of}
@@ -42,6 +43,28 @@ pub team_covers : (first : ThreadedMachine) (ended : List ThreadedMachine) → I
 team_covers first ended team is p below =
     any_mapped (λ h. IsInSpan h p) history_of ended
     (team.cover p (subst (λ (h : History Post). IsInSpan h p) (sym is) (omega arith, omega (arith, below))))
+
+-- ---- where nothing was posted
+
+-- the first sender has all numbers
+first_covers : CoverAllNumbers {T = Post} (first_history ∷ [])
+first_covers p below = (0, first_history, omega arith, refl, (omega arith, omega (arith, below)))
+
+-- nothing is taken of a first sender that has posted nothing
+none_taken : (mails : List (ℕ × Post)) → TakesInOrder mails first_history → IsOfThese mails (first_history ∷ []) → mails ≡ []
+none_taken [] order these = refl
+none_taken (mail ∷ mails) order these = absurd (first (these 0 mail (omega arith)))
+  where
+    number_of : (h : History Post) (place : ℕ) → place < 1 → get_or (first_history ∷ []) place h ≡ h → h.number ≡ 0
+    number_of h zero within is = ap (λ (it : History Post). it.number) (sym is)
+    number_of h (suc place) within is = absurd (omega (arith, within))
+
+    posts : eqb mail.0 0 ≡ true → ⊥
+    posts own = cons≢nil (subst (λ b. (map (λ (m : ℕ × Post). m.1) (cond b (mail ∷ filter (λ (m : ℕ × Post). eqb m.0 0) mails)
+        (filter (λ (m : ℕ × Post). eqb m.0 0) mails))) ++ order.0 ≡ []) own order.1)
+
+    first : Any (λ (h : History Post). h.number ≡ mail.0) (first_history ∷ []) → ⊥
+    first found = posts (eq-eqb mail.0 0 (sym found.4 ∙ number_of found.1 found.0 found.2 found.3))
 
 -- ---- what came back
 
@@ -83,6 +106,16 @@ module _ (receiver : Receiver Post) (sender : Sender Post) (service : CoreServic
       → overs_in (posts_of (taken answered.receiver)) ≡ length ended
   overs_are ended as_many = ap overs_in taken_posts ∙ served.ended ∙ as_many
 
+  -- where the sender has posted nothing, it can't have come back
+  pub never_served : (closing : Receiver Post) → taken closing ≡ taken answered.receiver → closed closing ≡ closed answered.receiver ++ history sender ∷ []
+      → All (TakesInOrder (taken closing)) (closed closing) → (CoverAllNumbers (closed closing) → IsOfThese (taken closing) (closed closing)) → ⊥
+  never_served closing taken_are closed_are in_order of_these =
+      let first : closed closing ≡ first_history ∷ [] = closed_are ∙ (λ i. none_closed i ++ fresh.first i ∷ []) in
+      let order = subst (All (TakesInOrder (taken closing))) first in_order 0 first_history (omega arith) in
+      let these = subst (λ senders. CoverAllNumbers senders → IsOfThese (taken closing) senders) first of_these first_covers in
+      let none = sym taken_are ∙ none_taken (taken closing) order these in
+      omega (arith, ap overs_in (sym taken_posts ∙ ap posts_of none), served.ended, served.machines)
+
   -- what came back is the end of the run
   ends_of : (first : ThreadedMachine) (ended : List ThreadedMachine) (seats : List Seat) → answered.served.short ≡ false
       → answered.served.machines ≡ length ended → IsTeamOf first ended
@@ -103,7 +136,7 @@ module _ (receiver : Receiver Post) (sender : Sender Post) (service : CoreServic
       })
 
   -- once they were settled
-  pub settled_ends : (first : ThreadedMachine) (team : List ThreadedMachine) (result : Result Ended AllocError) → answered.served.short ≡ false
+  pub settled_ends : {E : Type 0} (first : ThreadedMachine) (team : List ThreadedMachine) (result : Result Ended E) → answered.served.short ≡ false
       → answered.served.machines ≡ length team → IsTeamOf first team → GatherToARun
       → IfOk result (λ ended. ended.core ≡ answered.service.core)
       → IfOk result (λ ended. ended.order ≡ answered.served.order)

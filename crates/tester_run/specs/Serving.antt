@@ -28,12 +28,13 @@ pub record IsServed (receiver : Receiver Post) (service : CoreService) (answered
 -- it served, or it was called off and nothing became of the core
 abbrev pub CameBack : Receiver Post → CoreService → Back → Type 0
 CameBack receiver service (back.Served answered) = IsServed receiver service answered
-CameBack receiver service (back.CalledOff kept) = kept ≡ service
+CameBack receiver service (back.CalledOff kept core) = (kept ≡ receiver) × (core ≡ service)
 
--- the thread that was promised so much, or the core
-abbrev pub IsNetworkOf : Receiver Post → CoreService → Network → Type 0
-IsNetworkOf receiver service (network.Runs child) = (child.promise.0.value ≡ receiver) × (child.promise.1.value ≡ service)
-IsNetworkOf receiver service (network.Refused kept) = kept ≡ service
+-- the thread that was promised so much and the sender, or the core
+abbrev pub IsNetworkOf : Sender Post → Receiver Post → CoreService → Network → Type 0
+IsNetworkOf sender receiver service (network.Runs child kept) =
+    (child.promise.0.value ≡ receiver) × (child.promise.1.value ≡ service) × (kept ≡ sender)
+IsNetworkOf sender receiver service (network.Refused kept) = kept ≡ service
 
 -- the two ends of a new line
 pub record IsFresh (receiver : Receiver Post) (sender : Sender Post) : Type 0 where

@@ -3,6 +3,7 @@
 ghost use Rattle.std.specs.Prelude.{◌≡◌};
 ghost use Rattle.tester_run.specs.declared.fault.OrderFault.TheVariants.{NoMemory};
 
+use crate::threading::NoDump;
 use std::alloc::{AllocError, AllocFailed};
 use thiserror::Error;
 
@@ -32,6 +33,15 @@ impl<T: Drop> From<AllocFailed<T>> for OrderFault {
     ghost from_gives = { λ _ e. e ≡ NoMemory };
 
     fn from(_e: AllocFailed<T>) -> OrderFault {
+        OrderFault::NoMemory
+    }
+}
+
+/// A run has no fault but want of memory, and no core leads to a stray one.
+impl From<NoDump> for OrderFault {
+    ghost from_gives = { λ _ e. e ≡ NoMemory };
+
+    fn from(_e: NoDump) -> OrderFault {
         OrderFault::NoMemory
     }
 }

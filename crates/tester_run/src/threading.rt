@@ -1,6 +1,6 @@
 //! The run of all machines, each in a thread of its own.
 
-ghost use Rattle.std.specs.Prelude.{◌≡◌, [], length, map, IfOk};
+ghost use Rattle.std.specs.Prelude.{◌≡◌, [], length, map, true, None, IfOk};
 ghost use Rattle.std.specs.List.{All};
 ghost use Rattle.outside.specs.Seeds.{words_from};
 ghost use Rattle.machine_seat.specs.Seats.{progress_of, IsSeated};
@@ -14,14 +14,14 @@ ghost use Rattle.machine_threads.specs.Threaded.{history_of, HasEnded};
 ghost use Rattle.machine_threads.specs.Closing.{AreSettled};
 ghost use Rattle.tester_run.specs.Driving.{EndsFrom};
 ghost use Rattle.tester_run.specs.Rendered.{Renders};
-ghost use Rattle.tester_run.specs.Serving.{CameBack, IsFresh, IsNetworkOf};
+ghost use Rattle.tester_run.specs.Serving.{CameBack, IsFresh, IsNetworkOf, IsServed};
 
 use crate::running::{Ended, Rendered, first_seat, rendered_of, run_by_turns};
 use client_core::Core;
 use command_words::RunArgs;
 use key_bytes::Pairs;
 use machine_seat::Seat;
-use machine_threads::{ThreadedMachine, run_machine, settle_machines};
+use machine_threads::{Cause, Ran, ThreadedMachine, run_machine, settle_machines};
 use network::{Post, Served, serve};
 use outside::{Gate, PcgWords};
 use request_line::{Receiver, Sender, open};
@@ -49,7 +49,10 @@ struct Answered {
 enum Back {
     Served(Answered),
     /// It was called off before it took any post.
-    CalledOff(CoreService),
+    CalledOff {
+        receiver: Receiver<Post>,
+        service: CoreService,
+    },
 }
 
 /// What is promised of it, from this receiver and this service.
@@ -62,10 +65,39 @@ impl Promise<Back> for Serving {
     ghost kept_by = { λ promise back. CameBack promise.0.value promise.1.value back };
 }
 
-/// The thread of the core, or the core, where no thread could be started for it.
+/// The thread of the core and the line's first sender, or the core, where no thread could be started for it.
 enum Network {
-    Runs(PromisedHandle<Back, Serving>),
+    Runs {
+        child: PromisedHandle<Back, Serving>,
+        sender: Sender<Post>,
+    },
     Refused(CoreService),
+}
+
+/// Why a run in threads comes to no dump.
+#[derive(Clone, Copy, Debug, PartialEq, Eq)]
+pub enum NoDump {
+    /// Memory was wanting.
+    NoMemory,
+    /// The replies that machines used don't fit together: a number that was not to be started, or more or fewer machines than the core
+    /// started. No core gives such replies. But a thread sees its own machine alone, and that a reply is the core's is known only once
+    /// its waiter was settled, for which the machines have to fit together.
+    Stray,
+}
+
+impl From<AllocError> for NoDump {
+    fn from(_e: AllocError) -> NoDump {
+        NoDump::NoMemory
+    }
+}
+
+impl From<Cause> for NoDump {
+    fn from(cause: Cause) -> NoDump {
+        match cause {
+            Cause::NoMemory => NoDump::NoMemory,
+            Cause::StrayStart | Cause::StrayNumbers => NoDump::Stray,
+        }
+    }
 }
 
 /// Runs machine 0 over these pairs as the arguments say, and each machine that is started, in threads beside one another, until all
@@ -76,7 +108,7 @@ pub fn run_threaded<R: Threads + Wait + Sync + Clone + Drop + Send + 'static, G:
     gate: &G,
     arguments: &RunArgs,
     pairs: Pairs,
-) -> Result<Rendered, AllocError>
+) -> Result<Rendered, NoDump>
     ensures { IfOk result (Renders pairs arguments.now) }
 {
     let loaded = pairs.len();
@@ -84,7 +116,7 @@ pub fn run_threaded<R: Threads + Wait + Sync + Clone + Drop + Send + 'static, G:
     let words = PcgWords::new(arguments.seed);
     let seat = first_seat(alloc, arguments, &core)?;
     let ended = run_all(rt, alloc, gate, CoreService { core, words }, seat)?;
-    rendered_of(alloc, ended.core, ended.seats, ended.order, loaded)
+    Ok(rendered_of(alloc, ended.core, ended.seats, ended.order, loaded)?)
 }
 
 // Runs machine 0 at its seat, over a core that has taken no request, and each machine that is started, until all have ended.
@@ -94,7 +126,7 @@ fn run_all<R: Threads + Wait + Sync + Clone + Drop + Send + 'static, G: Gate>(
     gate: &G,
     service: CoreService,
     seat: Seat,
-) -> Result<Ended, AllocError>
+) -> Result<Ended, NoDump>
     requires seated { IsSeated seat }
     requires begun { progress_of seat ≡ begun_as seat.machine.machine }
     requires unapplied { service.core.applied ≡ 0 }
@@ -102,9 +134,9 @@ fn run_all<R: Threads + Wait + Sync + Clone + Drop + Send + 'static, G: Gate>(
     ensures { IfOk result (EndsFrom service.core (words_from service.words) seat) }
 {
     let (sender, receiver) = open::<Post>(alloc, LINE)?;
-    match start_network(rt, alloc, receiver, service)? {
-        Network::Runs(child) => run_beside(rt, alloc, gate, child, seat, sender),
-        Network::Refused(service) => run_by_turns(alloc, service.core, service.words, seat),
+    match start_network(rt, alloc, sender, receiver, service)? {
+        Network::Runs { child, sender } => run_beside(rt, alloc, gate, child, seat, sender),
+        Network::Refused(service) => Ok(run_by_turns(alloc, service.core, service.words, seat)?),
     }
 }
 
@@ -116,31 +148,49 @@ fn run_beside<R: Threads + Wait + Sync, G: Gate>(
     child: PromisedHandle<Back, Serving>,
     seat: Seat,
     sender: Sender<Post>,
-) -> Result<Ended, AllocError>
+) -> Result<Ended, NoDump>
     requires fresh { IsFresh child.promise.0.value sender }
     requires seated { IsSeated seat }
     requires begun { progress_of seat ≡ begun_as seat.machine.machine }
     ensures { IfOk result (EndsFrom child.promise.1.value.core (words_from child.promise.1.value.words) seat) }
 {
     let machine = ThreadedMachine::new(alloc, seat, sender);
-    let team = run_machine(rt, alloc, gate, machine, 0);
-    let Back::Served(answered) = child.join(rt) else {
-        return Err(AllocError);
-    };
-    let team = team?;
-    if answered.served.short || answered.served.machines != team.len() as u64 {
-        return Err(AllocError);
+    let ran = run_machine(rt, alloc, gate, machine, 0);
+    let answered = answered_by(rt, alloc, child.join(rt));
+    if !is_whole(&ran) {
+        return Err(no_dump_by(ran.cut));
+    }
+    let team = ran.crew.listed(alloc)?;
+    if answered.served.short {
+        return Err(NoDump::NoMemory);
+    }
+    if answered.served.machines != team.len() as u64 {
+        return Err(NoDump::Stray);
     }
     threads_gather_to_a_run();
     settled(alloc, answered, team)
 }
 
+// Whether each machine that was started ran to its end.
+fn is_whole(ran: &Ran) -> bool
+    ensures { result ≡ true → ran.now.cut ≡ None }
+{
+    match ran.cut {
+        Some(_) => false,
+        None => true,
+    }
+}
+
+// Why there is no dump, by what cut machines short.
+fn no_dump_by(cut: Option<Cause>) -> NoDump {
+    match cut {
+        Some(cause) => NoDump::from(cause),
+        None => NoDump::NoMemory,
+    }
+}
+
 // What came back, with the machines settled against it.
-fn settled(
-    alloc: Global,
-    answered: Answered,
-    team: Vec<ThreadedMachine>,
-) -> Result<Ended, AllocError>
+fn settled(alloc: Global, answered: Answered, team: Vec<ThreadedMachine>) -> Result<Ended, NoDump>
     requires none_closed { closed answered.receiver ≡ [] }
     requires one_line { All (λ one. client_line one.client ≡ receiver_line answered.receiver) team.items }
     requires cover { CoverAllNumbers (map history_of team.items) }
@@ -167,10 +217,12 @@ fn settled(
 fn start_network<R: Threads + Wait + Sync + Clone + Drop + Send + 'static>(
     rt: &R,
     alloc: Global,
+    sender: Sender<Post>,
     receiver: Receiver<Post>,
     service: CoreService,
 ) -> Result<Network, AllocError>
-    ensures { IfOk result (IsNetworkOf receiver service) }
+    requires { IsFresh receiver sender }
+    ensures { IfOk result (IsNetworkOf sender receiver service) }
 {
     let called_off = Arc::new(alloc, AtomicBool::new(false))?;
     let flag = called_off.clone()?;
@@ -181,12 +233,20 @@ fn start_network<R: Threads + Wait + Sync + Clone + Drop + Send + 'static>(
         promise,
         move || serve_all(own, alloc, flag, receiver, service),
     ) {
-        Ok(child) => Ok(Network::Runs(child)),
+        Ok(child) => Ok(Network::Runs { child, sender }),
         Err(refused) => {
             called_off.store(true, Ordering::Release);
             match (refused.value)() {
-                Back::CalledOff(service) => Ok(Network::Refused(service)),
-                Back::Served(_) => Err(AllocError),
+                Back::CalledOff {
+                    receiver: _,
+                    service,
+                } => Ok(Network::Refused(service)),
+                Back::Served(answered) => {
+                    // It took an Over, and nothing was posted.
+                    let mut receiver = answered.receiver;
+                    receiver.close_with(sender);
+                    unreachable!()
+                }
             }
         }
     }
@@ -203,14 +263,36 @@ fn serve_all<R: Wait + Drop>(
     ensures { CameBack receiver service result }
 {
     if called_off.load(Ordering::Acquire) {
-        return Back::CalledOff(service);
+        return Back::CalledOff { receiver, service };
     }
+    Back::Served(serve_from(&rt, alloc, receiver, service))
+}
+
+// Serves until all machines are over.
+fn serve_from<R: Wait>(
+    rt: &R,
+    alloc: Global,
+    receiver: Receiver<Post>,
+    service: CoreService,
+) -> Answered
+    ensures { IsServed receiver service result }
+{
     let mut receiver = receiver;
     let mut service = service;
-    let served = serve(&rt, alloc, &mut receiver, &mut service);
-    Back::Served(Answered {
+    let served = serve(rt, alloc, &mut receiver, &mut service);
+    Answered {
         served,
         receiver,
         service,
-    })
+    }
+}
+
+// What came back where the thread of the core served. Where it was called off, what was posted is answered here.
+fn answered_by<R: Wait>(rt: &R, alloc: Global, back: Back) -> Answered
+    ensures { (receiver : _) (service : _) → CameBack receiver service back → IsServed receiver service result }
+{
+    match back {
+        Back::Served(answered) => answered,
+        Back::CalledOff { receiver, service } => serve_from(rt, alloc, receiver, service),
+    }
 }

@@ -2,6 +2,7 @@
 
 use client_core::Core;
 use fdb_calls::{Reply, Request};
+use future_cell::{Receipt, Wake};
 use network::Service;
 use outside::PcgWords;
 
@@ -16,9 +17,12 @@ pub struct CoreService {
 const MOST_REQUESTS: u64 = 1 << 62;
 
 impl Service for CoreService {
+    ghost use Rattle.std.specs.Prelude.{◌≡◌};
     ghost use Rattle.thread_gathering.specs.Serving.{CoreAnswers};
 
     ghost answers = { CoreAnswers };
+
+    ghost notes = { λ before receipt after. after ≡ before };
 
     /// Answers a request by the step of the world. Past the most requests of a run it is answered as where memory is wanting.
     fn answer(&mut self, machine: u16, request: &Request) -> Reply {
@@ -27,4 +31,7 @@ impl Service for CoreService {
         }
         self.core.apply(machine, request, &mut self.words)
     }
+
+    /// Lets the receipt go: the run comes to no end then.
+    fn note_refused(&mut self, _receipt: Receipt<Reply, Wake>) {}
 }

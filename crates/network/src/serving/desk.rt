@@ -30,8 +30,8 @@ impl Desk {
     ghost use Rattle.std.specs.Prelude.{◌≡◌, ◌≢◌, ◌+◌, ◌≤◌, ◌<◌, ◌++◌, ◌∷◌, [], List, true, false, vec_len, vec_capacity, Some, MatchBool};
     ghost use Rattle.network.specs.declared.post.Post.{Post};
     ghost use Rattle.network.specs.Posts.{overs_in};
-    ghost use Rattle.network.specs.Serving.{Serves};
-    ghost use Rattle.network.specs.Desks.{AddsReply, AddsAnswer};
+    ghost use Rattle.network.specs.Serving.{Replies, Serves};
+    ghost use Rattle.network.specs.Desks.{AddsReply, AddsReplyTo, AddsAnswer};
 
     /// Nothing was served, and machine 0 is started. It takes no memory.
     pub fn new(alloc: Global) -> Desk
@@ -53,6 +53,9 @@ impl Desk {
         ensures served { (start : S) (posts : List Post)
             → (self.old.short ≡ false → Serves S.answers start service.old posts self.old.order self.old.receipts.items)
             → self.new.short ≡ false → Serves S.answers start service.new (posts ++ post ∷ []) self.new.order self.new.receipts.items }
+        ensures replies { (start : S) (posts : List Post)
+            → Replies S.answers S.notes start service.old posts self.old.short self.old.receipts.items
+            → Replies S.answers S.notes start service.new (posts ++ post ∷ []) self.new.short self.new.receipts.items }
         ensures over { self.new.over ≡ self.old.over + overs_in (post ∷ []) }
         ensures within { self.new.over ≤ self.new.machines }
     {
@@ -76,12 +79,14 @@ impl Desk {
     )
         ensures answered { self.new.short ≡ false → (self.old.short ≡ false) × AddsAnswer S.answers service.old service.new machine request.now setter
             self.old.order self.old.receipts.items self.new.order self.new.receipts.items }
+        ensures replied { AddsReplyTo S.answers S.notes service.old service.new machine request.now setter self.old.short self.old.receipts.items
+            self.new.short self.new.receipts.items }
         ensures over { self.new.over ≡ self.old.over }
         ensures machines { self.old.machines ≤ self.new.machines }
     {
         if self.short || !self.make_room(machine) {
             self.short = true;
-            refuse(setter);
+            service.note_refused(refuse(setter));
             return;
         }
         let reply = service.answer(machine, request);

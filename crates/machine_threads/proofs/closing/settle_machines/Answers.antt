@@ -1,13 +1,15 @@
-use Rattle.std.proofs.Common.{◌≡◌, Result, Ok, Err, sym, ◌∙◌, subst}
-use Rattle.std.specs.Prelude.{IfOk, OnOk}
+use Rattle.std.proofs.Common.{◌≡◌, ◌<◌, ℕ, List, length, map, sym, ap, ◌∙◌, subst}
+use Rattle.std.specs.List.{All}
+use Rattle.std.proofs.lemmas.List.{length-map}
 use Rattle.std.proofs.lemmas.List.Sorted.{All-permutation}
 use Rattle.request_line.specs.Line.{receiver_line, taken}
 use Rattle.network.specs.Clients.{client_line}
 use Rattle.network.specs.Posts.{posts_of}
+use Rattle.machine_threads.specs.declared.closing.Unsettled.{Unsettled}
 use Rattle.machine_threads.specs.declared.threaded.ThreadedMachine.{ThreadedMachine}
 use Rattle.machine_threads.specs.Threaded.{HasEnded}
 use Rattle.machine_threads.specs.Closing.{AreNumbered, AreSettled}
-use Rattle.machine_threads.proofs.Settling.{all_pair_up, all_settled, as_many_receipts, of_these_when_closed, taken_when_closed}
+use Rattle.machine_threads.proofs.Settling.{asking_within, all_pair_up, all_settled, as_many_receipts, of_these_when_closed, taken_when_closed}
 use Rattle.machine_threads.proofs.closing.settle_machines.Goals as goal
 
 pub close_all-requires : goal.close_all-requires
@@ -16,9 +18,27 @@ close_all-requires c = record {
       c.sort_by_key.new.self.items c.sort_by_key.ensures.permutation c.requires.one_line;
 }
 
+-- lists of which one value is made have one length
+same_length : {A B C : Type 0} (f : A → C) (g : B → C) (xs : List A) (ys : List B) → map f xs ≡ map g ys → length xs ≡ length ys
+same_length f g xs ys same = sym (length-map xs f) ∙ ap length same ∙ length-map ys g
+
 pub by_machine-requires : goal.by_machine-requires
 by_machine-requires c =
-    as_many_receipts (posts_of (taken c.args.receiver)) c.args.order.now c.args.receipts c.requires.order c.requires.cells
+    let closing = c.sort_by_key.new.self.items in
+    let moved = c.sort_by_key.ensures.permutation in
+    let numbered = subst AreNumbered c.deref.ensures.value (c.are_numbered.ensures c.if-not-are_numbered.false) in
+    let left = c.in_ok-unsettled.ensures in
+    let as_many : c.len.result ≡ length closing =
+    c.len.ensures ∙ c.in_ok-unsettled.unsettled.ok.0 ∙ same_length (λ (one : Unsettled). one.seat) (λ (one : ThreadedMachine). one.seat) _ closing left.seats in
+    record {
+      each = as_many_receipts (posts_of (taken c.args.receiver)) c.args.order.now c.args.receipts c.requires.order c.requires.cells;
+      named = subst (λ (w : ℕ × List ℕ). All (λ machine. machine < w.0) w.1) (λ i. (sym as_many i, sym c.requires.order i))
+          (asking_within closing (taken c.args.receiver) numbered
+          (taken_when_closed c.args.ended.items closing c.args.receiver c.close_all.new.receiver moved numbered c.requires.have_ended
+          c.requires.cover c.requires.none_closed left.closed left.taken left.agrees c.requires.overs)
+          (of_these_when_closed c.args.ended.items closing c.args.receiver c.close_all.new.receiver moved c.requires.cover
+          c.requires.none_closed left.closed left.taken left.agrees));
+    }
 
 pub settle_each-requires : goal.settle_each-requires
 settle_each-requires c =
@@ -36,24 +56,17 @@ settle_each-requires c =
           c.requires.order c.requires.cells;
     }
 
--- what follows from what holds of the value, and of no value in particular
-both_ok : {X E : Type 0} (r : Result X E) (P Q : X → Type 0) (R : Type 0) → IfOk r P → OnOk r R → ((x : X) → P x → R → Q x) → IfOk r Q
-both_ok (Ok x) P Q R first second gives = gives x first second
-both_ok (Err e) P Q R first second gives = tt
-
 pub returns : goal.returns
 returns c =
     let closing = c.sort_by_key.new.self.items in
     let moved = c.sort_by_key.ensures.permutation in
     let numbered = subst AreNumbered c.deref.ensures.value (c.are_numbered.ensures c.if-not-are_numbered.false) in
     let left = c.in_ok-unsettled.ensures in
-    both_ok c.settle_each.result _ (λ seats. AreSettled c.args.ended.items (taken c.args.receiver) c.args.order.now c.args.receipts seats.items) _
-    c.settle_each.ensures.seats c.settle_each.ensures.settled
-    (λ seats seats_are settled. record {
+    record {
       numbered = closing;
       all_of_them = moved;
       by_number = numbered;
-      seats_are = sym left.seats ∙ sym seats_are;
+      seats_are = sym left.seats ∙ sym c.in_ok-settle_each.ensures.seats;
       of_these = of_these_when_closed c.args.ended.items closing c.args.receiver c.close_all.new.receiver moved c.requires.cover
           c.requires.none_closed left.closed left.taken left.agrees;
       are_taken = taken_when_closed c.args.ended.items closing c.args.receiver c.close_all.new.receiver moved numbered
@@ -61,5 +74,5 @@ returns c =
       are_settled = all_settled closing (taken c.args.receiver) c.args.order.now c.args.receipts c.in_ok-unsettled.unsettled.items
           c.in_ok-receipts.receipts.items numbered (All-permutation HasEnded c.args.ended.items closing moved c.requires.have_ended)
           left.waiters c.in_ok-receipts.ensures.sorted
-          (c.in_ok-receipts.ensures.as_many ∙ c.len.ensures ∙ c.in_ok-unsettled.unsettled.ok.0) settled;
-    })
+          (c.in_ok-receipts.ensures.as_many ∙ c.len.ensures ∙ c.in_ok-unsettled.unsettled.ok.0) c.in_ok-settle_each.ensures.settled;
+    }

@@ -1,19 +1,40 @@
-use Rattle.std.proofs.Common.{subst, ◌∙◌}
+use Rattle.std.proofs.Common.{sym, subst, ◌∙◌}
 use Rattle.std.specs.Prelude.{IfOk}
 use Rattle.outside.specs.Seeds.{words_from}
 use Rattle.machine_seat.specs.declared.seat.Seat.{Seat}
+use Rattle.machine_threads.specs.Teams.{IsTeamOf}
 use Rattle.tester_run.specs.Driving.{EndsFrom}
-use Rattle.tester_run.proofs.Gathered.{settled_ends, team_covers}
+use Rattle.tester_run.proofs.Gathered.{cells_are, none_closed, order_is, overs_are, same_line, settled_ends, team_covers}
 use Rattle.tester_run.proofs.threading.run_beside.Goals as goal
 
-pub settled-requires-clause-cover : goal.settled-requires-clause-cover
-settled-requires-clause-cover g c =
-    team_covers c.new-machine.result c.in_ok-team.team.items c.in_ok-team.ensures (c.new-machine.ensures.history ∙ c.requires.fresh.first)
+pub settled-requires : goal.settled-requires
+settled-requires g c =
+    let receiver = c.args.child.promise.0.value in
+    let service = c.args.child.promise.1.value in
+    let answered = c.answered_by.result in
+    let served = c.answered_by.ensures receiver service c.join.ensures in
+    let first = c.new-machine.result in
+    let ended = c.in_ok-team.team.items in
+    let as_many = c.if-answered-len.false ∙ c.len.ensures ∙ c.in_ok-team.team.ok.0 in
+    let team = subst (IsTeamOf first) (sym c.in_ok-team.ensures) (c.run_machine.ensures.team (c.is_whole.ensures c.if-not-is_whole.false)) in
+    record {
+      none_closed = none_closed receiver c.args.sender service answered c.requires.fresh served;
+      one_line = same_line receiver c.args.sender service answered c.requires.fresh served first ended team c.new-machine.ensures.line;
+      cover = team_covers first ended team (c.new-machine.ensures.history ∙ c.requires.fresh.first);
+      have_ended = team.have_ended;
+      cells = cells_are receiver c.args.sender service answered c.requires.fresh served c.if-answered.false;
+      order = order_is receiver c.args.sender service answered c.requires.fresh served c.if-answered.false;
+      overs = overs_are receiver c.args.sender service answered c.requires.fresh served ended as_many;
+    }
 
 pub returns : goal.returns
 returns g c =
+    let receiver = c.args.child.promise.0.value in
     let service = c.args.child.promise.1.value in
+    let served = c.answered_by.ensures receiver service c.join.ensures in
+    let as_many = c.if-answered-len.false ∙ c.len.ensures ∙ c.in_ok-team.team.ok.0 in
+    let first = c.new-machine.result in
+    let team = subst (IsTeamOf first) (sym c.in_ok-team.ensures) (c.run_machine.ensures.team (c.is_whole.ensures c.if-not-is_whole.false)) in
     subst (λ (seat : Seat). IfOk c.settled.result (EndsFrom service.core (words_from service.words) seat)) c.new-machine.ensures.seat
-    (settled_ends c.args.child.promise.0.value c.args.sender service c.in-Served.answered c.requires.fresh c.in-Served.ensures
-    c.new-machine.result c.in_ok-team.team.items c.settled.result c.if-answered.false (c.if-answered-len.false ∙ c.len.ensures ∙ c.in_ok-team.team.ok.0)
-    c.in_ok-team.ensures c.threads_gather_to_a_run.ensures c.settled.ensures.core c.settled.ensures.order c.settled.ensures.settled)
+    (settled_ends receiver c.args.sender service c.answered_by.result c.requires.fresh served first c.in_ok-team.team.items c.settled.result
+    c.if-answered.false as_many team c.threads_gather_to_a_run.ensures c.settled.ensures.core c.settled.ensures.order c.settled.ensures.settled)

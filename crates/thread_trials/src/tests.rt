@@ -1,0 +1,3 @@
+mod line;
+mod machines;
+mod network;
