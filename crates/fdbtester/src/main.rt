@@ -2,7 +2,7 @@
 //! is the program's.
 #![tactic(auto)]
 
-use outside::{OpenGate, ReadSource, WriteSink, write_all};
+use outside::{ReadSource, RestingGate, WriteSink, write_all};
 use std::alloc::AllocError;
 use std::env::Env;
 use std::process::ExitCode;
@@ -29,7 +29,7 @@ fn main(rt: HostRuntime) -> ExitCode {
                 &mut source,
                 &mut out,
                 &mut err,
-                &OpenGate,
+                &RestingGate { clock: &rt },
             )
             .status
         }

@@ -85,11 +85,12 @@ impl ThreadedMachine {
         ensures overs { overs_of self.new ≡ overs_of self.old }
         ensures owes { starts_to self.new ≡ starts_to self.old + owed_by result }
     {
+        let mut polled = 0;
         for _ in rt.forever() {
             if self.seat.asks.is_none() {
                 return Ok(None);
             }
-            if let Some(started) = self.ask(rt, alloc, gate)? {
+            if let Some(started) = self.ask(rt, alloc, gate, &mut polled)? {
                 return Ok(Some(started));
             }
         }
@@ -97,11 +98,13 @@ impl ThreadedMachine {
     }
 
     // Asks what the machine asks, waits for the reply and lets the machine use it: the machine that was started by it, if one was.
+    // `polled` counts the replies without a break that it isn't so yet.
     fn ask<R: Wait, G: Gate>(
         &mut self,
         rt: &R,
         alloc: Global,
         gate: &G,
+        polled: &mut u32,
     ) -> Result<Option<Seat>, Refused>
         requires running { IsRunning self.old }
         requires asks { IsSome self.old.seat.asks }
@@ -116,10 +119,11 @@ impl ThreadedMachine {
         self.waiters.reserve(1)?;
         let request = self.seat.hand_over();
         let prefix = prefix_of(request.request())?;
+        gate.rest(*polled);
         gate.pass(self.seat.machine.number(), self.waiters.len() as u64);
         let asked = self.client.ask(rt, alloc, request)?;
         self.client.prepare(alloc);
-        let (waiter, started) = hear(rt, alloc, &mut self.seat, prefix, asked);
+        let (waiter, started) = hear(rt, alloc, &mut self.seat, prefix, asked, polled);
         self.waiters.push_reserved(waiter);
         started
     }
@@ -183,6 +187,7 @@ fn hear<R: Wait>(
     seat: &mut Seat,
     prefix: Option<Bytes>,
     asked: Waiter<Reply, Wake>,
+    polled: &mut u32,
 ) -> (Waiter<Reply, Wake>, Result<Option<Seat>, Refused>)
     requires awaits { Awaits seat.old.machine }
     requires unregistered { registration asked ≡ No }
@@ -195,6 +200,7 @@ fn hear<R: Wait>(
 {
     let mut waiter = asked;
     let reply = waiter.wait_in(rt, alloc);
+    *polled = polled_on(*polled, reply);
     let started = use_reply(alloc, seat, prefix, reply);
     (waiter, started)
 }
@@ -252,5 +258,13 @@ fn number_started(reply: &Reply) -> Option<u16>
     match reply {
         Reply::Started { machine, .. } => Some(*machine),
         _ => None,
+    }
+}
+
+// How often without a break a machine was told that it isn't so yet, once it was told this.
+fn polled_on(polled: u32, reply: &Reply) -> u32 {
+    match reply {
+        Reply::NotYet => polled.saturating_add(1),
+        _ => 0,
     }
 }

@@ -5,8 +5,9 @@ use super::*;
 use dump_text::Order;
 use key_bytes::Pairs;
 use once_cell::race::OnceBool;
-use outside::Gate;
+use outside::{Gate, RestingGate};
 use std::sync::atomic::{AtomicBool, AtomicU64, Ordering};
+use std::time::Clock;
 
 // How often a machine looks for the flag of the other, at most.
 const LOOKS: u32 = 100_000_000;
@@ -84,11 +85,13 @@ fn gate_two_machines(rt: HostRuntime) -> Result<(), Fail> {
 // How many machines a counting gate knows.
 const MACHINES: usize = 4;
 
-// Counts what each machine passes, and notes where a pass is not at the place of the machine's next request.
+// Counts what each machine passes, and notes where a pass is not at the place of the machine's next request. It adds up how often
+// machines had polled where they were to rest.
 #[derive(Drop)]
 struct CountingGate {
     passed: [AtomicU64; MACHINES],
     has_strayed: AtomicBool,
+    polled: AtomicU64,
 }
 
 impl CountingGate {
@@ -101,6 +104,7 @@ impl CountingGate {
                 AtomicU64::new(0),
             ],
             has_strayed: AtomicBool::new(false),
+            polled: AtomicU64::new(0),
         }
     }
 
@@ -124,6 +128,10 @@ impl Gate for CountingGate {
         if !is_next {
             self.has_strayed.store(true, Ordering::SeqCst);
         }
+    }
+
+    fn rest(&self, polled: u32) {
+        self.polled.fetch_add(u64::from(polled), Ordering::SeqCst);
     }
 }
 
@@ -171,5 +179,48 @@ fn each_request_passes_the_gate_once_and_no_over_does(rt: HostRuntime) -> Result
     let (passed, places, has_strayed) = passes(&rt, rt.alloc())?;
     assert_eq!(rt; (passed, has_strayed), (places, false));
     assert_eq!(rt; places, [3, 10, 10, 10]);
+    Ok(())
+}
+
+// A version is awaited that no commit decides.
+const WAITS: [&[u8]; 2] = [b"\x02GET_VERSIONSTAMP\x00", b"\x02POP\x00"];
+
+// The status of such a run with so many polls.
+fn status_of_waiting<R: Threads + Wait + Sync + Clone + Drop + Send + 'static, G: Gate>(
+    rt: &R,
+    alloc: Global,
+    gate: &G,
+    polls: &str,
+) -> Result<u8, AllocError> {
+    let mut pairs = Pairs::new(alloc);
+    add_instructions(&mut pairs, alloc, b"p", &WAITS, 2)?;
+    let input = lines_of(alloc, &Order::new(alloc), &pairs)?;
+    let words = ["run", "p", "630", "--polls", polls];
+    Ok(ran_at_large(rt, alloc, gate, &words, &input)?.status)
+}
+
+// The status of a run with five polls, and the sum of what the gate was told.
+fn rests<R: Threads + Wait + Sync + Clone + Drop + Send + 'static>(
+    rt: &R,
+    alloc: Global,
+) -> Result<(u8, u64), AllocError> {
+    let gate = CountingGate::new();
+    let status = status_of_waiting(rt, alloc, &gate, "5")?;
+    Ok((status, gate.polled.load(Ordering::SeqCst)))
+}
+
+// The status of a run with ten polls that sleeps by the clock.
+fn status_of_resting<R: Threads + Wait + Sync + Clone + Drop + Send + Clock + 'static>(
+    rt: &R,
+    alloc: Global,
+) -> Result<u8, AllocError> {
+    status_of_waiting(rt, alloc, &RestingGate { clock: rt }, "10")
+}
+
+// The gate is told of one poll, of two, of three and of four, and not behind the last.
+#[test]
+fn a_machine_rests_before_it_polls_again(rt: HostRuntime) -> Result<(), Fail> {
+    assert_eq!(rt; rests(&rt, rt.alloc())?, (3, 10));
+    assert_eq!(rt; status_of_resting(&rt, rt.alloc())?, 3);
     Ok(())
 }
