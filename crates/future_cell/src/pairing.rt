@@ -26,8 +26,8 @@ fn free_table<V, C>(table: Cell<V, C>, seat: CellSeat<V, C>)
     closed.free();
 }
 
-/// A new cell, and its two halves: the setter's and the waiter's. It takes all the memory of the cell, and where there is not
-/// enough it answers `AllocError` and keeps none.
+/// Makes a new cell: returns the setter's half and the waiter's. It takes all the memory of the cell, and where
+/// there is not enough it answers `AllocError` and keeps none.
 pub fn two_halves<V, C>(alloc: Global) -> Result<(Half<V, C>, Half<V, C>), AllocError>
     ensures { IfOk result (λ halves. (cell_of halves.0 ≡ cell_of halves.1) × (place_of halves.0 ≡ (Sets Unset, [])) × (place_of halves.1 ≡ (Waits fresh, []))) }
 {
@@ -117,7 +117,8 @@ impl<V, C> Half<V, C> {
         value
     }
 
-    /// The same, but the cell's memory stays taken, so that it isn't looked for block by block.
+    /// Settles a cell as `settle` does, but leaves its memory taken, so that no block of it has to be looked
+    /// for.
     pub fn settle_in_place(self, other: Half<V, C>, kept: Option<V>) -> V
     where
         V: Drop,

@@ -38,7 +38,7 @@ impl<V, C> Setter<V, C> {
         Setter { half }
     }
 
-    /// Sets the value, and then runs the callback if one was parked. It takes no memory.
+    /// Sets the value, and then runs the callback if one was parked.
     pub fn set(self, value: V) -> Receipt<V, C>
     where
         C: Call,
@@ -59,7 +59,7 @@ impl<V, C> Receipt<V, C> {
     ghost use Rattle.std.specs.Prelude.{◌≡◌};
     ghost use Rattle.future_cell.specs.Cells.{has_run};
 
-    /// Whether `set` ran a callback. It takes no memory.
+    /// Tells whether `set` ran a callback.
     pub fn ran(&self) -> bool
         ensures { result ≡ has_run self.now }
     {

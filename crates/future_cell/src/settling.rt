@@ -18,7 +18,8 @@ pub struct Settled<V> {
     ran: u8,
 }
 
-/// A new cell. It takes all the memory of the cell, and where there is not enough it answers `AllocError` and keeps none.
+/// Makes a new cell: returns its setter and its waiter. It takes all the memory of the cell, and where there is
+/// not enough it answers `AllocError` and keeps none.
 pub fn pair<V, C: Call>(alloc: Global) -> Result<(Setter<V, C>, Waiter<V, C>), AllocError>
     ensures cell { IfOk result (λ halves. setter_cell halves.0 ≡ waiter_cell halves.1) }
     ensures fresh { IfOk result (λ halves. (shown halves.1 ≡ None) × (registration halves.1 ≡ No) × (looks halves.1 ≡ 0) × (last_found halves.1 ≡ EMPTY)) }
@@ -81,14 +82,14 @@ fn count_of(registered: Registered) -> u8
 }
 
 impl<V> Settled<V> {
-    /// The value that was set, which every peek showed. It takes no memory.
+    /// Returns the value that was set, which every peek showed.
     pub fn value(&self) -> &V
         ensures { result.now ≡ settled_value self.now }
     {
         &self.value
     }
 
-    /// The value that was set, to keep. It takes no memory.
+    /// Returns the value that was set, to keep.
     pub fn into_value(self) -> V
         ensures { result ≡ settled_value self }
     {
@@ -96,7 +97,7 @@ impl<V> Settled<V> {
         value
     }
 
-    /// How many callbacks ran: 1 where one was registered, else 0. It takes no memory.
+    /// Returns how many callbacks ran: 1 where one was registered, else 0.
     pub fn ran(&self) -> u8
         ensures { result ≡ settled_runs self.now }
     {

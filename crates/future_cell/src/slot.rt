@@ -4,7 +4,7 @@ ghost use Rattle.future_cell.specs.declared.stage.Item.TheVariants.{Value, Callb
 
 use crate::stage::Item;
 
-/// Nothing is in it.
+/// Asserts that nothing is in the slot.
 pub fn expect_empty<V, C>(item: Option<Item<V, C>>)
     requires { item ≡ None }
 {
@@ -14,7 +14,7 @@ pub fn expect_empty<V, C>(item: Option<Item<V, C>>)
     }
 }
 
-/// The value in it.
+/// Returns the value in the slot.
 pub fn value_of<V, C>(item: Option<Item<V, C>>) -> V
     requires { (v : V) × (item ≡ Some (Value v)) }
     ensures { item ≡ Some (Value result) }
@@ -25,7 +25,7 @@ pub fn value_of<V, C>(item: Option<Item<V, C>>) -> V
     }
 }
 
-/// The callback in it.
+/// Returns the callback in the slot.
 pub fn callback_of<V, C>(item: Option<Item<V, C>>) -> C
     requires { (c : C) × (item ≡ Some (Callback c)) }
     ensures { item ≡ Some (Callback result) }

@@ -44,8 +44,8 @@ impl<V, C> Waiter<V, C> {
         }
     }
 
-    /// Shows the value, if it is there. What it showed once it shows for good. It takes no memory.
-    /// None says that the value was not there when this call looked.
+    /// Shows the value, if it is there. What it showed once it shows for good. None says that the value was not
+    /// there when this call looked.
     pub fn peek(&mut self) -> Option<&V>
         ensures* after { sem 𝓛 (follows_so (the_row V.row C.row) (the_row V.row C.row) self.entry.ghost_name none (λ _ _. ⊤) (λ n. Peeked self.old n × MatchOption result (NotYet self.old n) (λ r. shown n ≡ Some r.now))) }
     {
@@ -77,14 +77,14 @@ impl<V, C> Waiter<V, C> {
         }
     }
 
-    /// What became of the callback. It takes no memory.
+    /// Returns what became of the callback.
     pub fn registered(&self) -> Registered
         ensures { result ≡ registration self.now }
     {
         self.registered
     }
 
-    /// Hands the callback over, or runs it here where the value is there. It takes no memory.
+    /// Hands the callback over, or runs it here where the value is there.
     pub fn on_ready(&mut self, callback: C) -> Ready
     where
         C: Call,

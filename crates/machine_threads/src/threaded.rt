@@ -34,7 +34,7 @@ pub struct ThreadedMachine {
 }
 
 impl ThreadedMachine {
-    /// A machine that was started, which posts by this sender. It takes no memory.
+    /// Makes a machine that was started, which posts by this sender.
     pub fn new(alloc: Global, seat: Seat, sender: Sender<Post>) -> ThreadedMachine
         requires seated { IsSeated seat }
         requires begun { progress_of seat ≡ begun_as seat.machine.machine }

@@ -51,7 +51,7 @@ impl IntoIterator for Receipts {
     ghost into_iter_gives = { λ receipts iter. (into_iter_items iter ≡ receipts) × (into_iter_len iter ≡ length receipts) × (into_iter_len iter < 2 ^ 64)
         × EveryRun (into_iter_steps {X = Receipt Reply Wake} {Z = Global}) (λ p. ItemsAre p (into_iter_items p.from)) };
 
-    /// The receipts in order, each by value. It takes no memory.
+    /// Returns an iterator over the receipts in order, each by value.
     fn into_iter(self) -> IntoIter<Receipt<Reply, Wake>> {
         self.items.into_iter()
     }

@@ -13,8 +13,8 @@ use std::thread::Threads;
 /// How many bytes the source gives, and a sink takes, at most in one call.
 const PIECE: usize = 4_096;
 
-/// The status of a run over these bytes, whose dump goes to a sink that keeps nothing. Neither the source nor a sink ever
-/// fails, so neither 4 nor 5 comes.
+/// Runs the words over these bytes, with a sink that keeps nothing, and returns the status. Neither the source
+/// nor a sink ever fails, so neither 4 nor 5 comes.
 pub fn status_over_bytes<R: Threads + Wait + Sync + Clone + Drop + Send + 'static, G: Gate>(
     rt: &R,
     alloc: Global,

@@ -226,7 +226,7 @@ fn next_in_turn(seats: &[Seat], from: usize) -> Option<usize>
     }
 }
 
-/// The first machine, from one on, that asks.
+/// Returns the first machine, from one on, that asks.
 pub fn first_asking(seats: &[Seat], from: usize) -> Option<usize>
     ensures { IsFirstAsking seats.now from result }
 {
@@ -240,7 +240,7 @@ pub fn first_asking(seats: &[Seat], from: usize) -> Option<usize>
     None
 }
 
-/// Whether the machine of a number asks.
+/// Tells whether the machine of a number asks.
 pub fn asks(seats: &[Seat], number: usize) -> bool
     ensures { result ≡ asks_at seats.now number }
 {
@@ -250,7 +250,7 @@ pub fn asks(seats: &[Seat], number: usize) -> bool
     }
 }
 
-/// For proofs: no memory holds an order of 2^62 places. It does nothing when it runs.
+/// Shows to a proof that no memory holds an order of 2^62 places. It does nothing when it runs.
 pub fn shows_short(order: &Order)
     ensures { length order.now < 2 ^ 62 }
 {

@@ -19,8 +19,9 @@ use machine_seat::Seat;
 use stack_machine::{End, Machine, State};
 use std::alloc::{AllocError, Global};
 
-/// The dump of machines that have stopped, of the order, and of the pairs of the map at the last version. Room for so many bytes is
-/// asked for at once, so that a long dump is moved seldom; where there is no memory for it, the dump grows from nothing.
+/// Renders the dump of machines that have stopped, of the order, and of the pairs of the map at the last
+/// version. Room for so many bytes is asked for at once, so that a long dump is moved seldom; where there is no
+/// memory for it, the dump grows from nothing.
 #[tactic(auto, unfolding(crate::specs::Dumps::dump_of))]
 pub fn render(
     alloc: Global,

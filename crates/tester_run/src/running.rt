@@ -140,8 +140,8 @@ fn summary_of(
     })
 }
 
-/// What stands at the end of a run over so many pairs, rendered. The memory of the core and of the machines isn't given back then,
-/// which would be a walk through all of it: the program is about to end.
+/// Renders what stands at the end of a run over so many pairs. The memory of the core and of the machines isn't
+/// given back then, which would be a walk through all of it: the program is about to end.
 pub fn rendered_of(
     alloc: Global,
     core: Core,
@@ -166,7 +166,7 @@ pub fn rendered_of(
     })
 }
 
-/// Machine 0 as it is started.
+/// Starts machine 0, at its seat.
 pub fn first_seat(alloc: Global, arguments: &RunArgs, core: &Core) -> Result<Seat, AllocError>
     ensures started { IfOk result (λ seat. IsStarted seat arguments.now core.now) }
     ensures first { IfOk result (λ seat. IsFirst seat arguments.now core.now) }
@@ -178,7 +178,7 @@ pub fn first_seat(alloc: Global, arguments: &RunArgs, core: &Core) -> Result<Sea
     Ok(seat)
 }
 
-/// Machine 0 alone, as it is started.
+/// Starts machine 0, at the only seat.
 pub fn first_seats(alloc: Global, arguments: &RunArgs, core: &Core) -> Result<Vec<Seat>, AllocError>
     ensures { IfOk result (λ seats. AreFirst seats.items arguments.now core.now) }
 {

@@ -21,8 +21,8 @@ pub enum Counted {
     Items,
 }
 
-/// The summary of machines that have stopped, of the order, and of the map at the last version. It is refused for want of memory
-/// alone, which a count past 64 bits is too.
+/// Counts up the summary of machines that have stopped, of the order, and of the map at the last version. It is
+/// refused for want of memory alone, which a count past 64 bits is too.
 #[tactic(auto, unfolding(crate::specs::Summaries::summary_of))]
 pub fn summarize(
     alloc: Global,

@@ -12,8 +12,8 @@ mod service;
 
 pub use service::CoreService;
 
-/// For proofs: what the thread of a core and the threads of machines came back with is the run of the order in which the core
-/// answered. It does nothing when it runs.
+/// Shows to a proof that what the thread of a core and the threads of machines came back with is the run of the
+/// order in which the core answered. It does nothing when it runs.
 pub fn threads_gather_to_a_run()
     ensures { GatherToARun }
 {}

@@ -2,7 +2,7 @@
 
 ghost use Rattle.thread_laws.specs.OneOrder.{HaveOneOrder};
 
-/// For proofs: the order by turns of a complete run is the only one. It does nothing when it runs.
+/// Shows to a proof that the order by turns of a complete run is the only one. It does nothing when it runs.
 pub fn turns_are_one()
     ensures { HaveOneOrder }
 {}

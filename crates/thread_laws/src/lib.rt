@@ -16,8 +16,8 @@ mod by_turns;
 
 pub use by_turns::turns_are_one;
 
-/// For proofs: machines that each ran by themselves, with the replies of one order, are the machines of the run of that order. It
-/// does nothing when it runs.
+/// Shows to a proof that machines that each ran by themselves, with the replies of one order, are the machines
+/// of the run of that order. It does nothing when it runs.
 pub fn machines_weave_to_a_run()
     ensures run { WeaveToARun }
     ensures whole { WeaveToAWholeRun }

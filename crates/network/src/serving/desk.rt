@@ -33,7 +33,7 @@ impl Desk {
     ghost use Rattle.network.specs.Serving.{Replies, Serves};
     ghost use Rattle.network.specs.Desks.{AddsReply, AddsReplyTo, AddsAnswer};
 
-    /// Nothing was served, and machine 0 is started. It takes no memory.
+    /// Makes the desk at which nothing was served yet, and machine 0 is started.
     pub fn new(alloc: Global) -> Desk
         ensures nothing { (result.order ≡ []) × (result.receipts.items ≡ []) × (result.short ≡ false) }
         ensures machines { (result.machines ≡ 1) × (result.over ≡ 0) }
@@ -123,7 +123,7 @@ impl Desk {
         }
     }
 
-    /// What was served. It takes no memory.
+    /// Returns what was served.
     pub fn close(self) -> Served
         ensures { (result.order ≡ self.order) × (result.receipts ≡ self.receipts.items) × (result.short ≡ self.short) × (result.machines ≡ self.machines) }
     {
