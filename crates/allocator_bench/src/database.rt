@@ -21,7 +21,7 @@ pub struct Database {
 }
 
 impl Database {
-    /// The database whose first version has these pairs.
+    /// Makes the database whose first version has these pairs.
     pub fn load(alloc: Global, pairs: Pairs) -> Result<Database, AllocError> {
         Ok(Database {
             alloc,
@@ -31,14 +31,14 @@ impl Database {
         })
     }
 
-    /// A transaction before its first call.
+    /// Makes a transaction before its first call.
     pub fn begin(&mut self) -> Txn {
         let life = self.lives;
         self.lives = self.lives.wrapping_add(1);
         Txn::new(self.alloc, life)
     }
 
-    /// The calls of a transaction over this database.
+    /// Lends the transaction out for calls over this database.
     pub fn on<'a>(&'a self, txn: &'a mut Txn) -> TxnOn<'a> {
         TxnOn {
             txn,

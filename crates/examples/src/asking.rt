@@ -9,7 +9,7 @@ use fdb_calls::{Request, TxnCall};
 use key_bytes::{Bytes, KeyRange, Pair, Pairs};
 use std::alloc::Global;
 
-/// The word at a place.
+/// Returns the word at a place.
 pub fn word(words: &[Bytes], place: usize) -> Result<&[u8], SpellFault> {
     match words.get(place) {
         Some(word) => Ok(word.as_slice()),
@@ -17,7 +17,7 @@ pub fn word(words: &[Bytes], place: usize) -> Result<&[u8], SpellFault> {
     }
 }
 
-/// A copy of the word at a place.
+/// Returns a copy of the word at a place.
 pub fn bytes(words: &[Bytes], place: usize) -> Result<Bytes, SpellFault> {
     match words.get(place) {
         Some(word) => Ok(word.copy()?),

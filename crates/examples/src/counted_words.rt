@@ -13,7 +13,7 @@ pub struct CountedWords {
 }
 
 impl CountedWords {
-    /// These words, before any was drawn.
+    /// Makes a source of these words, before any was drawn.
     pub fn new(alloc: Global, words: &[u32]) -> Result<CountedWords, AllocError> {
         Ok(CountedWords {
             words: ListWords::new(alloc, words)?,

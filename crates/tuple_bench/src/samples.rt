@@ -17,7 +17,7 @@ pub fn mixed(alloc: Global) -> Result<Vec<Tuple>> {
     Ok(tuples)
 }
 
-/// A tuple nested so deep, with a number at each depth.
+/// Makes a tuple nested so deep, with a number at each depth.
 pub fn nested(alloc: Global, depth: u8) -> Result<Vec<Tuple>> {
     let mut tuple = Tuple::new(alloc);
     for number in 0..depth {
