@@ -1,3 +1,3 @@
 mod line;
 mod machines;
-mod network;
+mod serving;
