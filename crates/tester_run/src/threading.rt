@@ -228,6 +228,7 @@ fn start_network<R: Threads + Wait + Sync + Clone + Drop + Send + 'static>(
     let flag = called_off.clone()?;
     let own = rt.clone()?;
     let promise = Serving(Snapshot::of(&receiver), Snapshot::of(&service));
+    let begun = Serving(Snapshot::of(&receiver), Snapshot::of(&service));
     match thread::spawn_with(
         rt,
         promise,
@@ -242,14 +243,22 @@ fn start_network<R: Threads + Wait + Sync + Clone + Drop + Send + 'static>(
                     service,
                 } => Ok(Network::Refused(service)),
                 Back::Served(answered) => {
-                    // It took an Over, and nothing was posted.
-                    let mut receiver = answered.receiver;
-                    receiver.close_with(sender);
+                    never_served(begun, answered, sender);
                     unreachable!()
                 }
             }
         }
     }
+}
+
+// Shows that a thread that couldn't be started can't have served: it would have taken an Over, and the one sender has posted nothing.
+fn never_served(begun: Serving, answered: Answered, sender: Sender<Post>)
+    requires fresh { IsFresh begun.0.value sender }
+    requires served { IsServed begun.0.value begun.1.value answered }
+    ensures { ⊥ }
+{
+    let mut receiver = answered.receiver;
+    receiver.close_with(sender);
 }
 
 // Serves until all machines are over, unless it was called off.
