@@ -65,8 +65,13 @@ fn core_after_set(alloc: Global) -> Result<Option<Core>, AllocError> {
     }
 }
 
+// How many pairs a loop over a core's pairs meets.
 fn left(core: &Core) -> usize {
-    core.pairs_left().count()
+    let mut left = 0usize;
+    for _ in core.pairs_left() {
+        left = left.wrapping_add(1);
+    }
+    left
 }
 
 fn dumped(core: &Core) -> Result<usize, AllocError> {
