@@ -11,12 +11,12 @@ pub settled-requires : goal.settled-requires
 settled-requires g c =
     let receiver = c.args.child.promise.0.value in
     let service = c.args.child.promise.1.value in
-    let answered = c.answered_by.result in
-    let served = c.answered_by.ensures receiver service c.join.ensures in
+    let answered = c.answered_by-answered.result in
+    let served = c.answered_by-answered.ensures receiver service c.join.ensures in
     let first = c.new-machine.result in
     let ended = c.in_ok-team.team.items in
     let as_many = c.if-answered-len.false ∙ c.len.ensures ∙ c.in_ok-team.team.ok.0 in
-    let team = subst (IsTeamOf first) (sym c.in_ok-team.ensures) (c.run_machine.ensures.team (c.is_whole.ensures c.if-not-is_whole.false)) in
+    let team = subst (IsTeamOf first) (sym c.in_ok-team.ensures) (c.run_machine-ran.ensures.team (c.is_whole.ensures c.if-not-is_whole.false)) in
     record {
       none_closed = none_closed receiver c.args.sender service answered c.requires.fresh served;
       one_line = same_line receiver c.args.sender service answered c.requires.fresh served first ended team c.new-machine.ensures.line;
@@ -31,10 +31,10 @@ pub returns : goal.returns
 returns g c =
     let receiver = c.args.child.promise.0.value in
     let service = c.args.child.promise.1.value in
-    let served = c.answered_by.ensures receiver service c.join.ensures in
+    let served = c.answered_by-answered.ensures receiver service c.join.ensures in
     let as_many = c.if-answered-len.false ∙ c.len.ensures ∙ c.in_ok-team.team.ok.0 in
     let first = c.new-machine.result in
-    let team = subst (IsTeamOf first) (sym c.in_ok-team.ensures) (c.run_machine.ensures.team (c.is_whole.ensures c.if-not-is_whole.false)) in
+    let team = subst (IsTeamOf first) (sym c.in_ok-team.ensures) (c.run_machine-ran.ensures.team (c.is_whole.ensures c.if-not-is_whole.false)) in
     subst (λ (seat : Seat). IfOk c.settled.result (EndsFrom service.core (words_from service.words) seat)) c.new-machine.ensures.seat
-    (settled_ends receiver c.args.sender service c.answered_by.result c.requires.fresh served first c.in_ok-team.team.items c.settled.result
+    (settled_ends receiver c.args.sender service c.answered_by-answered.result c.requires.fresh served first c.in_ok-team.team.items c.settled.result
     c.if-answered.false as_many team c.threads_gather_to_a_run.ensures c.settled.ensures.core c.settled.ensures.order c.settled.ensures.settled)

@@ -1,3 +1,4 @@
+use Rattle.std.specs.Prelude.{Ok}
 use Rattle.thread_laws.proofs.Alone.{started_begun}
 use Rattle.tester_run.proofs.Finished.{run_renders, starts_at}
 use Rattle.tester_run.proofs.threading.run_threaded.Goals as goal
@@ -11,5 +12,5 @@ returns g c =
     let ends = c.in_ok-ended.ensures c.args.pairs c.args.arguments.now
     (starts_at c.args.pairs c.args.arguments.now c.in_ok-core.core _ c.in_ok-seat.seat c.in_ok-core.ensures.begun c.new-words.ensures.to_come
     c.in_ok-seat.ensures.first) in
-    run_renders c.args.pairs c.args.arguments.now ended.core ends.words ended.seats.items ended.order c.rendered_of.result
-    ends.leads ends.seated ends.none c.rendered_of.ensures.order c.rendered_of.ensures.dump c.rendered_of.ensures.status
+    run_renders c.args.pairs c.args.arguments.now ended.core ends.words ended.seats.items ended.order (Ok c.in_ok-rendered_of.field-0)
+    ends.leads ends.seated ends.none c.in_ok-rendered_of.ensures.order c.in_ok-rendered_of.ensures.dump c.in_ok-rendered_of.ensures.status
