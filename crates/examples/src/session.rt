@@ -112,10 +112,19 @@ impl Session {
             b"layer" => self.set_layer(words),
             b"last" => self.show(self.core.last()),
             b"drawn" => self.show(self.words.drawn),
-            b"count" => self.show(self.core.pairs_left().count() as u64),
+            b"count" => self.show_count(),
             b"times" => self.repeat(words),
             _ => self.reply_to(words),
         }
+    }
+
+    // Tells how many pairs the core has.
+    fn show_count(&self) -> Result<String, SpellFault> {
+        let mut count = 0u64;
+        for _ in self.core.pairs_left() {
+            count = count.wrapping_add(1);
+        }
+        self.show(count)
     }
 
     // Takes a request so many times, and returns the last reply, or the first that differs from the one before.
