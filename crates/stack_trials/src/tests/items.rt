@@ -132,6 +132,25 @@ fn items_that_wait_become_known(rt: HostRuntime) {
     assert_eq!(rt; wait(rt.alloc()), Ok(told));
 }
 
+// Pushes an item that waits on one that is known: how many items there are then, and the place of the one that waits.
+fn push_on(alloc: Global, stack: &mut Stack) -> Result<(usize, Option<usize>), StackFault> {
+    lay_all(alloc, stack, &[Int(4)])?;
+    stack.push_waiting(5, 0)?;
+    Ok((stack.len(), stack.first_waiting()))
+}
+
+fn push(alloc: Global) -> Result<(usize, Option<usize>), StackFault> {
+    let mut stack = Stack::new(alloc);
+    let told = push_on(alloc, &mut stack);
+    drop(stack);
+    told
+}
+
+#[test]
+fn an_item_that_waits_is_pushed(rt: HostRuntime) {
+    assert_eq!(rt; push(rt.alloc()), Ok((2, Some(1))));
+}
+
 fn put_six(stack: &mut Stack) -> Result<(), AllocError> {
     stack.put(Item {
         value: ItemValue::Known(Elem::Int(6)),
