@@ -11,7 +11,7 @@ use version_store::Store;
 /// The greatest version at which a transaction is committed.
 const LAST: u64 = 1_000_000_000_000;
 
-/// The versions of a database, what each commit declared, and how many lives were begun.
+/// The versions of a database, the write conflict ranges of each commit, and how many lives were begun.
 #[derive(Drop)]
 pub struct Database {
     alloc: Global,

@@ -6,7 +6,7 @@ use Rattle.database_rules.specs.declared.Code.{Code}
 use Rattle.database_rules.specs.Histories.{Setting}
 use Rattle.database_rules.specs.Transactions.{Transaction}
 use Rattle.fdb_calls.specs.Calling.{Called}
-use Rattle.allocator_rules.specs.Acts.{Act, Draws, Reads, Writes, Silences, Declares, Acted, act_called, acted_by, all_acted, refusal, words_of}
+use Rattle.allocator_rules.specs.Acts.{Act, Draws, Reads, Writes, DisablesWriteConflict, AddsWriteConflict, Acted, act_called, acted_by, all_acted, refusal, words_of}
 
 -- ---- two parts
 
@@ -117,8 +117,8 @@ none_drawn setting (act ∷ acts) t none =
     zero_of Draws none = absurd cc
     zero_of (Reads read snapshot) none = refl
     zero_of (Writes mutation) none = refl
-    zero_of Silences none = refl
-    zero_of (Declares key) none = refl
+    zero_of DisablesWriteConflict none = refl
+    zero_of (AddsWriteConflict key) none = refl
 
     by : (refused : Option Code) (words : ℕ) → words ≡ 0 → (others : Acted) → others.words ≡ 0
         → (acted_by refused (act_called setting t act).transaction words others).words ≡ 0

@@ -13,7 +13,7 @@ use Rattle.database_rules.specs.KeyByKey.{is_plain}
 use Rattle.database_rules.specs.Reads.{Get}
 use Rattle.database_rules.specs.States.{covers, unreadable}
 use Rattle.database_rules.specs.Transactions.{Transaction, view, writes_of, op_code}
-use Rattle.database_rules.proofs.Declaring.{written_wrote}
+use Rattle.database_rules.proofs.AddingConflicts.{written_wrote}
 use Rattle.fdb_calls.specs.declared.Reply.TheVariants as reply
 use Rattle.fdb_calls.specs.Calling.{write_by}
 use Rattle.allocator_rules.specs.declared.TheConstants.{GREATEST_COUNTER}
@@ -66,7 +66,7 @@ readable_before : (t : Transaction) (code : Option ℕ) (mutation : Mutation) (q
 readable_before t (Some code) mutation q plain is = is
 readable_before t None mutation q plain is =
     sym (same_unreadable (writes_of t) mutation q plain)
-    ∙ sym (ap (λ writes. covers (unreadable writes) q) (written_wrote t.script mutation (not t.is_silenced))) ∙ is
+    ∙ sym (ap (λ writes. covers (unreadable writes) q) (written_wrote t.script mutation (not t.skips_write_conflict))) ∙ is
 
 -- what is read of a counter that 1 was added to
 pub count_read : (setting : Setting) (t : Transaction) (space : List ℕ) (start : ℕ) (value : Option (List ℕ))

@@ -7,11 +7,11 @@ use Rattle.database_rules.specs.Databases.{Set}
 use Rattle.database_rules.specs.Histories.{Setting}
 use Rattle.database_rules.specs.Reads.{Get}
 use Rattle.database_rules.specs.Transactions.{Transaction, view}
-use Rattle.allocator_rules.specs.Acts.{Draws, Reads, Writes, Silences, act_called, all_acted}
+use Rattle.allocator_rules.specs.Acts.{Draws, Reads, Writes, DisablesWriteConflict, act_called, all_acted}
 use Rattle.allocator_rules.specs.Counters.{recent_key, is_recent}
 use Rattle.allocator_rules.specs.Granting.{Candidate, first_absent, tried, tries}
 use Rattle.allocator_rules.proofs.Acting.{Keep, keep-append, all_keep, none_drawn}
-use Rattle.allocator_rules.proofs.Viewing.{after_read, after_silence, set_seen}
+use Rattle.allocator_rules.proofs.Viewing.{after_read, after_disabling, set_seen}
 
 -- ---- which are tried
 
@@ -76,9 +76,9 @@ keep_tries setting space present candidate here = by candidate.is_drawn
     reads t presents number =
         ap (λ m. is_recent space m number) (after_read setting t (Get (recent_key space candidate.number)) false) ∙ presents number
 
-    silences : (t : Transaction) → Presents setting space present t
-        → Presents setting space present (act_called setting t Silences).transaction
-    silences t presents number = ap (λ m. is_recent space m number) (after_silence setting t) ∙ presents number
+    disables_write_conflict : (t : Transaction) → Presents setting space present t
+        → Presents setting space present (act_called setting t DisablesWriteConflict).transaction
+    disables_write_conflict t presents number = ap (λ m. is_recent space m number) (after_disabling setting t) ∙ presents number
 
     sets : (t : Transaction) → Presents setting space present t
         → Presents setting space present (act_called setting t (Writes (Set (recent_key space candidate.number) []))).transaction
@@ -87,10 +87,10 @@ keep_tries setting space present candidate here = by candidate.is_drawn
         ∙ presents number
 
     by : (is_drawn : Bool) → Keep setting (Presents setting space present)
-        ((cond is_drawn (Draws ∷ []) []) ++ Reads (Get (recent_key space candidate.number)) false ∷ Silences ∷ Writes
+        ((cond is_drawn (Draws ∷ []) []) ++ Reads (Get (recent_key space candidate.number)) false ∷ DisablesWriteConflict ∷ Writes
         (Set (recent_key space candidate.number) []) ∷ [])
-    by true = ((λ t presents. presents), (reads, (silences, (sets, tt))))
-    by false = (reads, (silences, (sets, tt)))
+    by true = ((λ t presents. presents), (reads, (disables_write_conflict, (sets, tt))))
+    by false = (reads, (disables_write_conflict, (sets, tt)))
 
 keep_all : (setting : Setting) (space : List ℕ) (present : ℕ → Bool) (candidates : List Candidate) → all_present present candidates ≡ true
     → Keep setting (Presents setting space present) (flat_map (tries space) candidates)

@@ -15,9 +15,9 @@ use Rattle.database_rules.specs.Transactions.{Transaction, view, version_in, wri
 use Rattle.database_rules.proofs.KeyByKey.{get-do_all, at_keys-append}
 use Rattle.database_rules.proofs.Filling.{none_unreadable}
 use Rattle.database_rules.proofs.States.{covers-unreadable-append}
-use Rattle.database_rules.proofs.Declaring.{written_wrote, written_read}
+use Rattle.database_rules.proofs.AddingConflicts.{written_wrote, written_read}
 use Rattle.fdb_calls.specs.Calling.{read_by, read_at_version, write_by, does_by}
-use Rattle.allocator_rules.specs.Acts.{Act, Draws, Reads, Writes, Silences, Declares, act_called, all_acted}
+use Rattle.allocator_rules.specs.Acts.{Act, Draws, Reads, Writes, DisablesWriteConflict, AddsWriteConflict, act_called, all_acted}
 use Rattle.allocator_rules.proofs.Acting.{all_keep}
 use Rattle.std.proofs.Common.{subst}
 use Rattle.std.specs.List.{list_all}
@@ -28,7 +28,7 @@ use Rattle.key_bytes.specs.Keys.{after}
 use Rattle.database_rules.specs.declared.AtomicOp.{AtomicOp}
 use Rattle.database_rules.specs.Atomics.{atom, is_versionstamped}
 use Rattle.database_rules.specs.Intervals.{one}
-use Rattle.database_rules.specs.Transactions.{silenced, with_write_range}
+use Rattle.database_rules.specs.Transactions.{with_write_conflict_disabled, with_write_range}
 use Rattle.fdb_calls.specs.declared.Reply.{Reply}
 use Rattle.fdb_calls.specs.declared.Reply.TheVariants as reply
 use Rattle.allocator_rules.specs.Acts.{refusal}
@@ -112,7 +112,7 @@ write_seen : (setting : Setting) (t : Transaction) (code : Option ℕ) (mutation
 write_seen setting t (Some code) mutation P same written = same
 write_seen setting t None mutation P same written =
     subst (λ writes. P (seen writes (at setting.history (version_in setting t))))
-    (sym (written_wrote t.script mutation (not t.is_silenced))) written
+    (sym (written_wrote t.script mutation (not t.skips_write_conflict))) written
 
 pub after_write : (setting : Setting) (t : Transaction) (mutation : Mutation) (P : Database → Type 0)
     → P (view setting t) → P (wrote setting t mutation) → P (view setting (act_called setting t (Writes mutation)).transaction)
@@ -141,18 +141,18 @@ pub after_read : (setting : Setting) (t : Transaction) (read : Read) (snapshot :
     → view setting (act_called setting t (Reads read snapshot)).transaction ≡ view setting t
 after_read setting t read snapshot = read_view setting t (read_code t.phase false read) snapshot read
 
-silent_view : (setting : Setting) (t after : Transaction) (code : Option ℕ) (reply : Reply) → view setting after ≡ view setting t
+without_conflict_view : (setting : Setting) (t after : Transaction) (code : Option ℕ) (reply : Reply) → view setting after ≡ view setting t
     → view setting (does_by code t after reply).transaction ≡ view setting t
-silent_view setting t after (Some code) reply same = refl
-silent_view setting t after None reply same = same
+without_conflict_view setting t after (Some code) reply same = refl
+without_conflict_view setting t after None reply same = same
 
-pub after_silence : (setting : Setting) (t : Transaction) → view setting (act_called setting t Silences).transaction ≡ view setting t
-after_silence setting t = silent_view setting t (silenced t) (phase_code t.phase) reply.Done refl
+pub after_disabling : (setting : Setting) (t : Transaction) → view setting (act_called setting t DisablesWriteConflict).transaction ≡ view setting t
+after_disabling setting t = without_conflict_view setting t (with_write_conflict_disabled t) (phase_code t.phase) reply.Done refl
 
-pub after_declaring : (setting : Setting) (t : Transaction) (key : List ℕ)
-    → view setting (act_called setting t (Declares key)).transaction ≡ view setting t
-after_declaring setting t key =
-    silent_view setting t (with_write_range t (one key)) (range_code t.phase key (after key)) reply.Done refl
+pub after_adding_conflicts : (setting : Setting) (t : Transaction) (key : List ℕ)
+    → view setting (act_called setting t (AddsWriteConflict key)).transaction ≡ view setting t
+after_adding_conflicts setting t key =
+    without_conflict_view setting t (with_write_range t (one key)) (range_code t.phase key (after key)) reply.Done refl
 
 -- ---- one key
 
@@ -170,8 +170,8 @@ spared setting (Writes mutation) t q apart =
     let parts = and_parts (is_plain mutation) (not (touches mutation q)) apart in
     after_write setting t mutation (λ m. finite.get m q ≡ finite.get (view setting t) q) refl
     (same_seen (writes_of t) mutation (at setting.history (version_in setting t)) q parts.0 (not-true (touches mutation q) parts.1))
-spared setting Silences t q apart = ap (λ m. finite.get m q) (after_silence setting t)
-spared setting (Declares key) t q apart = ap (λ m. finite.get m q) (after_declaring setting t key)
+spared setting DisablesWriteConflict t q apart = ap (λ m. finite.get m q) (after_disabling setting t)
+spared setting (AddsWriteConflict key) t q apart = ap (λ m. finite.get m q) (after_adding_conflicts setting t key)
 
 spare : (setting : Setting) (q : List ℕ) (value : Option (List ℕ)) (acts : List Act) → list_all (spares q) acts ≡ true
     → Keep setting (λ t. finite.get (view setting t) q ≡ value) acts
@@ -215,6 +215,6 @@ atomic_seen setting t op key operand plain readable passed = by (op_code t.phase
     by (Some code) passed = absurd cc
     by None passed =
         ap (λ writes. finite.get (seen writes (at setting.history (version_in setting t))) key)
-        (written_wrote t.script (Atomic op key operand) (not t.is_silenced))
+        (written_wrote t.script (Atomic op key operand) (not t.skips_write_conflict))
         ∙ touched_seen (writes_of t) (Atomic op key operand) (at setting.history (version_in setting t)) key (ap not plain)
         (itself key) readable

@@ -17,10 +17,10 @@ pub data Act : Type 0 where
   -- a read, by snapshot or not
   Reads : (read : Read) (snapshot : Bool) → Act
   Writes : (mutation : Mutation) → Act
-  -- the next write declares nothing
-  Silences : Act
-  -- a key is declared, as if it were written
-  Declares : (key : List ℕ) → Act
+  -- the next write adds no write conflict range
+  DisablesWriteConflict : Act
+  -- a key gets a write conflict range, as if it were written
+  AddsWriteConflict : (key : List ℕ) → Act
 
 abbrev pub write_called : Transaction → Mutation → Called
 write_called transaction (Set key value) = set_called transaction key value
@@ -33,8 +33,8 @@ abbrev pub act_called : Setting → Transaction → Act → Called
 act_called setting transaction Draws = answers transaction reply.Done
 act_called setting transaction (Reads read snapshot) = read_called setting transaction false snapshot read
 act_called setting transaction (Writes mutation) = write_called transaction mutation
-act_called setting transaction Silences = no_write_conflict_called transaction
-act_called setting transaction (Declares key) = write_conflict_called transaction (one key)
+act_called setting transaction DisablesWriteConflict = no_write_conflict_called transaction
+act_called setting transaction (AddsWriteConflict key) = write_conflict_called transaction (one key)
 
 -- the code of a call that was refused
 abbrev pub refusal : Reply → Option Code
@@ -69,8 +69,8 @@ abbrev pub writing : Act → List Mutation
 writing Draws = []
 writing (Reads read snapshot) = []
 writing (Writes mutation) = mutation ∷ []
-writing Silences = []
-writing (Declares key) = []
+writing DisablesWriteConflict = []
+writing (AddsWriteConflict key) = []
 
 abbrev pub written_by : List Act → List Mutation
 written_by acts = flat_map writing acts

@@ -10,7 +10,7 @@ use Rattle.database_rules.specs.Reads.{Get, GetKeyRange}
 use Rattle.database_rules.specs.Slices.{Entries}
 use Rattle.database_rules.specs.Transactions.{Transaction, view, with_granted}
 use Rattle.allocator_rules.specs.declared.TheConstants.{RANDOM_TRIES}
-use Rattle.allocator_rules.specs.Acts.{Act, Draws, Reads, Writes, Silences, Declares, Acted, all_acted}
+use Rattle.allocator_rules.specs.Acts.{Act, Draws, Reads, Writes, DisablesWriteConflict, AddsWriteConflict, Acted, all_acted}
 use Rattle.allocator_rules.specs.Counters.{counters_prefix, counter_key, recent_prefix, recent_key, counters_begin, counters_end, window, counter_in, greatest_counter, one_more, counted, counts_half, is_recent}
 
 -- ---- candidates
@@ -60,11 +60,11 @@ abbrev pub counts : (space : List ℕ) → (start : ℕ) → List Act
 counts space start =
     Writes (Atomic atomic.Add (counter_key space start) one_more) ∷ Reads (Get (counter_key space start)) true ∷ []
 
--- counters and numbers below a start are cleared, the numbers without being declared
+-- counters and numbers below a start are cleared, the numbers without a write conflict range
 abbrev pub clears_below : (space : List ℕ) → (start : ℕ) → List Act
 clears_below space start =
     Writes (ClearRange (counters_prefix space) (counter_key space start))
-    ∷ Silences
+    ∷ DisablesWriteConflict
     ∷ Writes (ClearRange (recent_prefix space) (recent_key space start))
     ∷ []
 
@@ -74,19 +74,19 @@ opens false space first = asks_greatest space ∷ counts space first
 opens true space first =
     asks_greatest space ∷ counts space first ++ clears_below space (first + window first) ++ counts space (first + window first)
 
--- a number is read, and set without being declared
+-- a number is read, and set without a write conflict range
 abbrev pub tries : (space : List ℕ) → Candidate → List Act
 tries space candidate =
     (if candidate.is_drawn then Draws ∷ [] else [])
     ++ Reads (Get (recent_key space candidate.number)) false
-    ∷ Silences
+    ∷ DisablesWriteConflict
     ∷ Writes (Set (recent_key space candidate.number) [])
     ∷ []
 
--- the number that was absent is declared
+-- the number that was absent gets a write conflict range
 abbrev pub claims : (space : List ℕ) → Option ℕ → List Act
 claims space None = []
-claims space (Some number) = Declares (recent_key space number) ∷ []
+claims space (Some number) = AddsWriteConflict (recent_key space number) ∷ []
 
 -- ---- a call
 

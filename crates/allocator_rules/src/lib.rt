@@ -1,10 +1,9 @@
-//! The high-contention allocator in definitions alone: which number a call of it grants, and by which calls of its
-//! transaction.
+//! The high-contention allocator in definitions: which number a call of it grants, and by which calls of its transaction.
 //!
-//! Nothing here runs. `specs/Acts.antt` has calls of a transaction as data, and what they leave made one after the other,
-//! each by the calls' own definitions; `specs/Counters.antt` the keys of an allocator and what they say; and
-//! `specs/Granting.antt` the number that a call grants: it is chosen in a list of candidates, and the calls that find it are a
-//! list too. `proofs/` has what follows from these definitions alone.
+//! `specs/Acts.antt` has calls of a transaction as data, and what they leave made one after the other, each by the calls' own
+//! definitions; `specs/Counters.antt` the keys of an allocator and what they say; and `specs/Granting.antt` the number that a call
+//! grants: it is chosen in a list of candidates, and the calls that find it are a list too. `proofs/` has what follows from these
+//! definitions alone.
 #![tactic(auto)]
 
 /// How many random numbers of the window are tried, before its numbers are tried in order.

@@ -16,8 +16,8 @@ use Rattle.txn_core.specs.Stands as txn
 abbrev pub KeptTransactions : Type 0
 KeptTransactions = finite.FinMap key_cmp txn.Kept
 
--- what a core keeps of the database: the store of its versions, the index of what commits declared to write, the transactions
--- by name, what became of each life that was drawn, and how many requests it took
+-- what a core keeps of the database: the store of its versions, the conflict set, the transactions by name, what became of each
+-- life that was drawn, and how many requests it took
 pub record ContentsModel : Type 0 where
   pub store : Versions
   pub index : Index

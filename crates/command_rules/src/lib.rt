@@ -1,8 +1,7 @@
-//! The command line in definitions alone: which words are a command, and what that command asks for.
+//! The command line in definitions: which words are a command, and what that command asks for.
 //!
-//! Nothing here runs but the types of what is asked. `specs/Grammar.antt` says which words are which command, by
-//! definitions that no reader takes part in. `command_laws` shows that a command of `clap` reads words so, and
-//! `command_words` reads them.
+//! `src/` has the types of what is asked. `specs/Grammar.antt` says which words are which command, by definitions that no reader
+//! takes part in. `command_laws` shows that a command of `clap` reads words so, and `command_words` reads them.
 #![tactic(auto)]
 
 mod args;

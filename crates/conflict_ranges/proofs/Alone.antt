@@ -10,7 +10,7 @@ use Rattle.std.specs.List.{filter}
 use Rattle.std.specs.Ordering.{eq_by_cmp, is_eq}
 use Rattle.key_bytes.specs.Keys.{key_cmp, key_lt}
 use Rattle.key_bytes.proofs.Orders.{irreflexive}
-use Rattle.edge_map.proofs.Held.{IsBelow, IsRising, rising_below, rising_rest}
+use Rattle.range_map.proofs.Held.{IsBelow, IsRising, rising_below, rising_rest}
 use Rattle.conflict_ranges.specs.Writes.{version_in}
 use Rattle.conflict_ranges.proofs.Greatest.{greatest, grows}
 

@@ -6,7 +6,7 @@ use Rattle.std.specs.declared.result.Result.{Result}
 use Rattle.std.specs.declared.result.Result.TheVariants.{Ok, Err}
 use Rattle.key_bytes.specs.declared.range.KeyRange.{KeyRange}
 use Rattle.database_rules.specs.States.{covers}
-use Rattle.edge_map.specs.Edges.{Edges, held}
+use Rattle.range_map.specs.Boundaries.{Boundaries, held}
 use Rattle.conflict_ranges.specs.declared.membership.Membership.{Membership}
 use Rattle.conflict_ranges.specs.Segments.{ranges_of, IsSound}
 use Rattle.conflict_ranges.proofs.Segments.{covers-ranges_of}
@@ -19,17 +19,17 @@ pub on_err_always : {T E P : Type 0} (r : Result T E) → P → OnErr r P
 on_err_always (Ok x) p = tt
 on_err_always (Err e) p = p
 
--- what a set covers, by its edges
-pub covers_held : (members : Edges Membership) (ranges : List KeyRange) → ranges_of members ≡ ranges → IsSound members
+-- what a set covers, by its boundaries
+pub covers_held : (members : Boundaries Membership) (ranges : List KeyRange) → ranges_of members ≡ ranges → IsSound members
     → (key : List ℕ) → covers ranges key ≡ (held members key).0
 covers_held members ranges is sound key = sym (ap (λ ranges. covers ranges key) is) ∙ covers-ranges_of members sound key
 
--- a set without an edge
-pub sound_new : (out : Membership) (members : Edges Membership) → out.0 ≡ false → members ≡ record { base = out; entries = [] } → IsSound members
+-- a set without a boundary
+pub sound_new : (out : Membership) (members : Boundaries Membership) → out.0 ≡ false → members ≡ record { base = out; entries = [] } → IsSound members
 unfolding IsStrictlySortedBy
 sound_new out members is_out is = rw is (record { rising = tt; above = λ _ _. is_out })
 
-module _ (old new : Edges Membership) (membership : Membership) (sound_old : IsSound old) (sound_new : IsSound new) (key : List ℕ) (t : Bool)
+module _ (old new : Boundaries Membership) (membership : Membership) (sound_old : IsSound old) (sound_new : IsSound new) (key : List ℕ) (t : Bool)
     (is : held new key ≡ cond t membership (held old key)) where
   -- keys that are given the membership of those in the set come in
   pub covers_more : membership.0 ≡ true → covers (ranges_of new) key ≡ (covers (ranges_of old) key || t)

@@ -1,19 +1,19 @@
--- The greatest number that a key of a range has: what its begin has, and what the edges in it have.
+-- The greatest number that a key of a range has: what its begin has, and what the boundaries in it have.
 use Rattle.std.proofs.Common.{◌≡◌, ◌≤◌, ◌⊎◌, inl, inr, ℕ, max, arith, Bool, true, false, cond, not, List, [], ◌∷◌, refl, sym, ap, subst, ◌∙◌, true≢false}
 use Rattle.std.proofs.lemmas.Bool.{cases_lt}
 use Rattle.std.specs.List.{filter}
 use Rattle.key_bytes.specs.Keys.{key_lt, within}
 use Rattle.key_bytes.proofs.Orders.{above_not_below, irreflexive, le_lt}
 use Rattle.database_rules.specs.States.{range_from}
-use Rattle.edge_map.specs.Edges.{Edges, held, held_from}
-use Rattle.edge_map.proofs.Held.{IsBelow, IsRising, below_lower, held_past, rising_below, rising_rest}
+use Rattle.range_map.specs.Boundaries.{Boundaries, held, held_from}
+use Rattle.range_map.proofs.Held.{IsBelow, IsRising, below_lower, held_past, rising_below, rising_rest}
 use Rattle.conflict_ranges.proofs.Between.{from_within, is_within}
 use Rattle.conflict_ranges.proofs.Walks.{IsReached}
 
 abbrev Numbers : Type 0
 Numbers = List (List ℕ × ℕ)
 
--- the greatest of a number and of what these edges have
+-- the greatest of a number and of what these boundaries have
 abbrev pub greatest : ℕ → Numbers → ℕ
 greatest number [] = number
 greatest number (e ∷ es) = greatest (max number e.1) es
@@ -26,7 +26,7 @@ module _ (begin end : List ℕ) where
   abbrev inside : Numbers → Numbers
   inside es = filter (λ e. within begin end e.0) es
 
-  -- of these edges, where the begin has no more than a number, a key has no more than the greatest
+  -- of these boundaries, where the begin has no more than a number, a key has no more than the greatest
   abbrev IsBelowGreatest : ℕ → Numbers → List ℕ → Type 0
   IsBelowGreatest d es key =
       (number : ℕ) → held_from d es begin ≤ number → held_from d es key ≤ greatest number (inside es)
@@ -59,7 +59,7 @@ module _ (begin end : List ℕ) where
           let more = grows number (inside ((q, x) ∷ es)) in omega (arith, here, more)
       by_key false over rest = by_begin (key_lt begin q) refl over least rest
 
-  -- it is the number that was there before, or a key of the range has it, which is above all that lies below the edges
+  -- it is the number that was there before, or a key of the range has it, which is above all that lies below the boundaries
   abbrev IsMet : ℕ → Numbers → ℕ → Type 0
   IsMet d es number =
       (key : List ℕ) × (within begin end key ≡ true) × ((low : List ℕ) → IsBelow low es → key_lt low key ≡ true)
@@ -108,17 +108,17 @@ module _ (begin end : List ℕ) where
         | inr met ↦ inr (later (greatest number (inside es)) met)
       ]
 
-  module _ (edges : Edges ℕ) (rising : IsRising edges.entries) where
+  module _ (boundaries : Boundaries ℕ) (rising : IsRising boundaries.entries) where
     abbrev newest : ℕ
-    newest = greatest (held edges begin) (inside edges.entries)
+    newest = greatest (held boundaries begin) (inside boundaries.entries)
 
-    pub newest_above : (key : List ℕ) → within begin end key ≡ true → held edges key ≤ newest
+    pub newest_above : (key : List ℕ) → within begin end key ≡ true → held boundaries key ≤ newest
     newest_above key is_in =
         let sides = from_within begin end key is_in in
-        above_from edges.base edges.entries key rising sides.0 sides.1 (held edges begin) (omega arith)
+        above_from boundaries.base boundaries.entries key rising sides.0 sides.1 (held boundaries begin) (omega arith)
 
-    pub newest_reached : key_lt begin end ≡ true → IsReached (range_from begin end) edges newest
-    newest_reached some = elim (met_from edges.base edges.entries rising (held edges begin)) [
+    pub newest_reached : key_lt begin end ≡ true → IsReached (range_from begin end) boundaries newest
+    newest_reached some = elim (met_from boundaries.base boundaries.entries rising (held boundaries begin)) [
       | inl same ↦ (begin, is_within begin end begin (irreflexive begin) some, sym same)
       | inr (key, is_in, _, has) ↦ (key, is_in, has)
     ]

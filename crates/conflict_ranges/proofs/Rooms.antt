@@ -5,7 +5,7 @@ use Rattle.key_bytes.specs.declared.range.KeyRange.{KeyRange}
 use Rattle.key_bytes.specs.Keys.{within}
 use Rattle.key_bytes.specs.Ranges.{has}
 use Rattle.database_rules.specs.States.{covers, range_from}
-use Rattle.edge_map.specs.Edges.{Edges}
+use Rattle.range_map.specs.Boundaries.{Boundaries}
 use Rattle.conflict_ranges.specs.Ends.{IsSplitAt}
 use Rattle.conflict_ranges.specs.Writes.{newest_at, version_in, Index, IsBounded, Keeps, KeepsRoom, GoesAlone, GoesAsRange, HasRoomFor, IsReadyFor, with_version}
 use Rattle.conflict_ranges.proofs.Splits.{IsLike}
@@ -13,18 +13,18 @@ use Rattle.conflict_ranges.proofs.Splits.{IsLike}
 pub room_kept : (version : ℕ) (range : KeyRange) (old new : Index) → Keeps old new → HasRoomFor old version range → HasRoomFor new version range
 room_kept version range old new kept room = record {
   alone = λ goes. let newest = kept.newest in let below = goes.1 in kept.keys range.begin (room.alone (goes.0, omega (arith, newest, below)));
-  as_range = λ goes. let edges = room.as_range (still goes) in (kept.edges range.begin edges.0, kept.edges range.end edges.1);
+  as_range = λ goes. let boundaries = room.as_range (still goes) in (kept.boundaries range.begin boundaries.0, kept.boundaries range.end boundaries.1);
 }
   where
     still : GoesAsRange new version range.begin range.end → GoesAsRange old version range.begin range.end
     still (inl longer) = inl longer
     still (inr above) = let newest = kept.newest in inr (omega (arith, newest, above))
 
-module _ (version : ℕ) (index : Index) (ranges : Edges ℕ) where
-  -- no more than edges came in
+module _ (version : ℕ) (index : Index) (ranges : Boundaries ℕ) where
+  -- no more than boundaries came in
   pub like_kept : IsLike index.ranges ranges → KeepsRoom version index (record index { ranges = ranges })
   like_kept like range = room_kept version range index (record index { ranges = ranges })
-      (record { newest = refl; keys = λ key there. there; edges = like.kept })
+      (record { newest = refl; keys = λ key there. there; boundaries = like.kept })
 
   pub like_same : IsLike index.ranges ranges → (key : List ℕ) → newest_at (record index { ranges = ranges }) key ≡ newest_at index key
   like_same like key = ap (max (version_in (finite.get index.keys key))) (like.same key)
@@ -35,7 +35,7 @@ module _ (version : ℕ) (index : Index) (ranges : Edges ℕ) where
     ranges = λ key. subst (λ newest. newest ≤ index.newest) (sym (like.same key)) (bounded.ranges key);
   }
 
-  -- the ends of a range became edges
+  -- the ends of a range became boundaries
   pub room_made : (begin end : List ℕ) → GoesAsRange index version begin end → IsSplitAt begin end index.ranges ranges
       → HasRoomFor (record index { ranges = ranges }) version (range_from begin end)
   room_made begin end as_range split = record { alone = λ alone. absurd (other as_range alone); as_range = λ _. (split.begins, split.ends) }

@@ -12,25 +12,25 @@ use Rattle.key_bytes.specs.Keys.{key_cmp, key_lt, key_le, within}
 use Rattle.key_bytes.proofs.Orders.{irreflexive, above_not_below, le_lt, lt_le, lt_trans}
 use Rattle.key_map.specs.Ends.{first}
 use Rattle.database_rules.specs.States.{covers, range_from}
-use Rattle.edge_map.specs.Edges.{Edges, held, held_from, edges_of}
-use Rattle.edge_map.proofs.Held.{IsBelow, IsRising, is_among, rising_below, rising_rest, below_lower}
+use Rattle.range_map.specs.Boundaries.{Boundaries, held, held_from, boundaries_of}
+use Rattle.range_map.proofs.Held.{IsBelow, IsRising, is_among, rising_below, rising_rest, below_lower}
 use Rattle.conflict_ranges.specs.declared.membership.Membership.{Membership}
 use Rattle.conflict_ranges.specs.Segments.{ranges_from, left_from, ranges_of, IsSound, AreFrom, AreApart}
 use Rattle.conflict_ranges.proofs.Between.{le_le, lowest}
 
--- no edge is above a key
+-- no boundary is above a key
 abbrev IsPast : {X : Type 0} → List ℕ → List (List ℕ × X) → Type 0
 IsPast key [] = Unit {0}
 IsPast key (e ∷ es) = (key_lt key e.0 ≡ false) × IsPast key es
 
--- ---- the edges above a key
+-- ---- the boundaries above a key
 
-pub first_above : (b edge : List ℕ) (keys : List (List ℕ)) → first (filter (key_lt b) keys) ≡ Some edge → key_lt b edge ≡ true
-first_above b edge [] none = absurd (none-some edge none)
-first_above b edge (key ∷ keys) some = elim (key_lt b key) as (λ t. key_lt b key ≡ t
-    → first (cond t (key ∷ filter (key_lt b) keys) (filter (key_lt b) keys)) ≡ Some edge → key_lt b edge ≡ true) [
-      | true ↦ λ above is. ap (key_lt b) (sym (same_Some key edge is)) ∙ above
-      | false ↦ λ _ is. first_above b edge keys is
+pub first_above : (b boundary : List ℕ) (keys : List (List ℕ)) → first (filter (key_lt b) keys) ≡ Some boundary → key_lt b boundary ≡ true
+first_above b boundary [] none = absurd (none-some boundary none)
+first_above b boundary (key ∷ keys) some = elim (key_lt b key) as (λ t. key_lt b key ≡ t
+    → first (cond t (key ∷ filter (key_lt b) keys) (filter (key_lt b) keys)) ≡ Some boundary → key_lt b boundary ≡ true) [
+      | true ↦ λ above is. ap (key_lt b) (sym (same_Some key boundary is)) ∙ above
+      | false ↦ λ _ is. first_above b boundary keys is
     ] refl some
 
 module _ {X : Type 0} where
@@ -57,7 +57,7 @@ module _ {X : Type 0} where
         | false ↦ λ _. below-upper key es
       ] refl
 
-  -- all edges are above what is below them
+  -- all boundaries are above what is below them
   upper-all : (key : List ℕ) (es : List (List ℕ × X)) → IsBelow key es → upper key es ≡ es
   upper-all key [] below = refl
   upper-all key (e ∷ es) below =
@@ -67,7 +67,7 @@ module _ {X : Type 0} where
   held_below d [] key below = refl
   held_below d (e ∷ es) key below = ap (λ t. cond (not t) (held_from e.1 es key) d) below.0
 
-  -- what keys from a key on have, by the edges above it
+  -- what keys from a key on have, by the boundaries above it
   held-upper : (d : X) (es : List (List ℕ × X)) (b k : List ℕ) → IsRising es → key_lt k b ≡ false
       → held_from (held_from d es b) (upper b es) k ≡ held_from d es k
   held-upper d [] b k rising from = refl
@@ -81,52 +81,52 @@ module _ {X : Type 0} where
           ap (λ x. cond (key_le e.0 k) x d) (ap (λ x. held_from x (upper b es) k) (sym (held_below e.1 es b below)) ∙ rest)
       by_first false past rest = rest ∙ sym (ap (λ t. cond (not t) (held_from e.1 es k) d) (le_le e.0 b k past from))
 
-  -- where no edge above a key is above another, none at all is
-  past_all : (b k edge : List ℕ) (es : List (List ℕ × X)) → key_lt k b ≡ false → IsPast k (upper b es) → is_among edge es ≡ true
-      → key_lt k edge ≡ false
-  past_all b k edge [] from past among = absurd (false≢true among)
-  past_all b k edge (e ∷ es) from past among =
-      by_first (key_lt b e.0) refl past (is_at (key_cmp edge) e.0) refl (past_all b k edge es from)
+  -- where no boundary above a key is above another, none at all is
+  past_all : (b k boundary : List ℕ) (es : List (List ℕ × X)) → key_lt k b ≡ false → IsPast k (upper b es) → is_among boundary es ≡ true
+      → key_lt k boundary ≡ false
+  past_all b k boundary [] from past among = absurd (false≢true among)
+  past_all b k boundary (e ∷ es) from past among =
+      by_first (key_lt b e.0) refl past (is_at (key_cmp boundary) e.0) refl (past_all b k boundary es from)
     where
-      among_rest : is_at (key_cmp edge) e.0 ≡ false → is_among edge es ≡ true
-      among_rest other = sym (ap (λ t. is_some (cond t (Some e.1) (lookup (is_at (key_cmp edge)) es))) other) ∙ among
+      among_rest : is_at (key_cmp boundary) e.0 ≡ false → is_among boundary es ≡ true
+      among_rest other = sym (ap (λ t. is_some (cond t (Some e.1) (lookup (is_at (key_cmp boundary)) es))) other) ∙ among
 
       by_first : (t : Bool) → key_lt b e.0 ≡ t → IsPast k (cond t (e ∷ upper b es) (upper b es)) → (s : Bool)
-          → is_at (key_cmp edge) e.0 ≡ s → (IsPast k (upper b es) → is_among edge es ≡ true → key_lt k edge ≡ false)
-          → key_lt k edge ≡ false
-      by_first true _ past true same rest = ap (key_lt k) (tells_apart exact_bytes edge e.0 same) ∙ past.0
+          → is_at (key_cmp boundary) e.0 ≡ s → (IsPast k (upper b es) → is_among boundary es ≡ true → key_lt k boundary ≡ false)
+          → key_lt k boundary ≡ false
+      by_first true _ past true same rest = ap (key_lt k) (tells_apart exact_bytes boundary e.0 same) ∙ past.0
       by_first true _ past false other rest = rest past.1 (among_rest other)
-      by_first false low past true same rest = ap (key_lt k) (tells_apart exact_bytes edge e.0 same) ∙ le_le e.0 b k low from
+      by_first false low past true same rest = ap (key_lt k) (tells_apart exact_bytes boundary e.0 same) ∙ le_le e.0 b k low from
       by_first false low past false other rest = rest past (among_rest other)
 
-  -- the first edge above a key, what it has, and the edges above it
-  upper-first : (d : X) (es : List (List ℕ × X)) (b edge : List ℕ) → IsRising es → first (filter (key_lt b) (keys_of es)) ≡ Some edge
-      → upper b es ≡ (edge, held_from d es edge) ∷ upper edge es
-  upper-first d [] b edge rising is = absurd (none-some edge is)
-  upper-first d (e ∷ es) b edge rising is =
-      by_first (key_lt b e.0) refl is (upper-first e.1 es b edge (rising_rest e.0 e.1 es rising))
+  -- the first boundary above a key, what it has, and the boundaries above it
+  upper-first : (d : X) (es : List (List ℕ × X)) (b boundary : List ℕ) → IsRising es → first (filter (key_lt b) (keys_of es)) ≡ Some boundary
+      → upper b es ≡ (boundary, held_from d es boundary) ∷ upper boundary es
+  upper-first d [] b boundary rising is = absurd (none-some boundary is)
+  upper-first d (e ∷ es) b boundary rising is =
+      by_first (key_lt b e.0) refl is (upper-first e.1 es b boundary (rising_rest e.0 e.1 es rising))
     where
       below : IsBelow e.0 es
       below = rising_below e.0 e.1 es rising
 
-      skipped : key_lt edge e.0 ≡ false
-          → (edge, cond (key_le e.0 edge) (held_from e.1 es edge) d) ∷ cond (key_lt edge e.0) (e ∷ upper edge es) (upper edge es)
-          ≡ (edge, held_from e.1 es edge) ∷ upper edge es
-      skipped here = λ i. (edge, cond (not (here i)) (held_from e.1 es edge) d) ∷ cond (here i) (e ∷ upper edge es) (upper edge es)
+      skipped : key_lt boundary e.0 ≡ false
+          → (boundary, cond (key_le e.0 boundary) (held_from e.1 es boundary) d) ∷ cond (key_lt boundary e.0) (e ∷ upper boundary es) (upper boundary es)
+          ≡ (boundary, held_from e.1 es boundary) ∷ upper boundary es
+      skipped here = λ i. (boundary, cond (not (here i)) (held_from e.1 es boundary) d) ∷ cond (here i) (e ∷ upper boundary es) (upper boundary es)
 
       by_first : (t : Bool) → key_lt b e.0 ≡ t
-          → first (cond t (e.0 ∷ filter (key_lt b) (keys_of es)) (filter (key_lt b) (keys_of es))) ≡ Some edge
-          → (first (filter (key_lt b) (keys_of es)) ≡ Some edge → upper b es ≡ (edge, held_from e.1 es edge) ∷ upper edge es)
+          → first (cond t (e.0 ∷ filter (key_lt b) (keys_of es)) (filter (key_lt b) (keys_of es))) ≡ Some boundary
+          → (first (filter (key_lt b) (keys_of es)) ≡ Some boundary → upper b es ≡ (boundary, held_from e.1 es boundary) ∷ upper boundary es)
           → cond t (e ∷ upper b es) (upper b es)
-          ≡ (edge, cond (key_le e.0 edge) (held_from e.1 es edge) d) ∷ cond (key_lt edge e.0) (e ∷ upper edge es) (upper edge es)
+          ≡ (boundary, cond (key_le e.0 boundary) (held_from e.1 es boundary) d) ∷ cond (key_lt boundary e.0) (e ∷ upper boundary es) (upper boundary es)
       by_first true above is rest =
-          let same : e.0 ≡ edge = same_Some e.0 edge is in
-          let here : key_lt edge e.0 ≡ false = ap (λ k. key_lt k e.0) (sym same) ∙ irreflexive e.0 in
-          let under : IsBelow edge es = subst (λ k. IsBelow k es) same below in
+          let same : e.0 ≡ boundary = same_Some e.0 boundary is in
+          let here : key_lt boundary e.0 ≡ false = ap (λ k. key_lt k e.0) (sym same) ∙ irreflexive e.0 in
+          let under : IsBelow boundary es = subst (λ k. IsBelow k es) same below in
           (λ i. (same i, e.1) ∷ upper-all b es (below_lower b e.0 es above below) i)
-          ∙ sym (skipped here ∙ (λ i. (edge, held_below e.1 es edge under i) ∷ upper-all edge es under i))
+          ∙ sym (skipped here ∙ (λ i. (boundary, held_below e.1 es boundary under i) ∷ upper-all boundary es under i))
       by_first false past is rest =
-          let here : key_lt edge e.0 ≡ false = above_not_below e.0 edge (le_lt e.0 b edge past (first_above b edge (keys_of es) is)) in
+          let here : key_lt boundary e.0 ≡ false = above_not_below e.0 boundary (le_lt e.0 b boundary past (first_above b boundary (keys_of es) is)) in
           rest is ∙ sym (skipped here)
 
 -- ---- which keys the ranges have
@@ -170,13 +170,13 @@ module _ (k : List ℕ) where
       split false = refl
 
 -- the ranges from a key on have the keys of the set that are not below it
-pub covers-left_from : (members : Edges Membership) (begin key : List ℕ) → IsSound members
+pub covers-left_from : (members : Boundaries Membership) (begin key : List ℕ) → IsSound members
     → covers (left_from members begin) key ≡ cond (key_lt key begin) false (held members key).0
 covers-left_from members begin key sound =
     covers_from key begin (held members begin) (upper begin members.entries) (below-upper begin members.entries)
     (rising-upper begin members.entries sound.rising)
     (λ q from past. ap (λ m. m.0) (held-upper members.base members.entries begin q sound.rising from)
-    ∙ sound.above q (λ edge among. past_all begin q edge members.entries from past among))
+    ∙ sound.above q (λ boundary among. past_all begin q boundary members.entries from past among))
     ∙ by_key (key_lt key begin) refl
   where
     by_key : (t : Bool) → key_lt key begin ≡ t
@@ -185,7 +185,7 @@ covers-left_from members begin key sound =
     by_key false from = ap (λ m. m.0) (held-upper members.base members.entries begin key sound.rising from)
 
 -- the ranges of a set have its keys
-pub covers-ranges_of : (members : Edges Membership) → IsSound members → (key : List ℕ) → covers (ranges_of members) key ≡ (held members key).0
+pub covers-ranges_of : (members : Boundaries Membership) → IsSound members → (key : List ℕ) → covers (ranges_of members) key ≡ (held members key).0
 covers-ranges_of members sound key =
     covers-left_from members [] key sound ∙ ap (λ t. cond t false (held members key).0) (lowest key)
 
@@ -213,12 +213,12 @@ apart-ranges_from b m (e ∷ es) below rising =
       | false ↦ rest
     ]
 
-pub apart-ranges_of : (members : Edges Membership) → IsSound members → AreApart (ranges_of members)
+pub apart-ranges_of : (members : Boundaries Membership) → IsSound members → AreApart (ranges_of members)
 apart-ranges_of members sound =
     apart-ranges_from [] (held members []) (upper [] members.entries) (below-upper [] members.entries)
     (rising-upper [] members.entries sound.rising)
 
--- ---- there are no more ranges than edges
+-- ---- there are no more ranges than boundaries
 
 length-ranges_from : (b : List ℕ) (m : Membership) (es : List (List ℕ × Membership)) → length (ranges_from b m es) ≤ length es
 length-ranges_from b m [] = omega arith
@@ -238,19 +238,19 @@ length-upper key (e ∷ es) =
       | false ↦ omega (arith, rest)
     ]
 
-pub length-ranges_of : (members : Edges Membership) → length (ranges_of members) ≤ length members.entries
+pub length-ranges_of : (members : Boundaries Membership) → length (ranges_of members) ≤ length members.entries
 length-ranges_of members =
     let ranges = length-ranges_from [] (held members []) (upper [] members.entries) in
-    let edges = length-upper [] members.entries in
-    omega (arith, ranges, edges)
+    let boundaries = length-upper [] members.entries in
+    omega (arith, ranges, boundaries)
 
--- ---- the edges that are left
+-- ---- the boundaries that are left
 
-pub fewer_edges : {X : Type 0} (edges : Edges X) (begin edge : List ℕ) → IsRising edges.entries
-    → first (filter (key_lt begin) (edges_of edges)) ≡ Some edge
-    → length (filter (key_lt edge) (edges_of edges)) < length (filter (key_lt begin) (edges_of edges))
-fewer_edges edges begin edge rising is =
-    let left = ap (λ ks. length ks) (sym (keys_of-upper begin edges.entries)
-    ∙ ap keys_of (upper-first edges.base edges.entries begin edge rising is)
-    ∙ ap (λ ks. edge ∷ ks) (keys_of-upper edge edges.entries)) in
+pub fewer_boundaries : {X : Type 0} (boundaries : Boundaries X) (begin boundary : List ℕ) → IsRising boundaries.entries
+    → first (filter (key_lt begin) (boundaries_of boundaries)) ≡ Some boundary
+    → length (filter (key_lt boundary) (boundaries_of boundaries)) < length (filter (key_lt begin) (boundaries_of boundaries))
+fewer_boundaries boundaries begin boundary rising is =
+    let left = ap (λ ks. length ks) (sym (keys_of-upper begin boundaries.entries)
+    ∙ ap keys_of (upper-first boundaries.base boundaries.entries begin boundary rising is)
+    ∙ ap (λ ks. boundary ∷ ks) (keys_of-upper boundary boundaries.entries)) in
     omega (arith, left)

@@ -10,11 +10,11 @@ use Rattle.std.specs.Option.{unwrap_or}
 use Rattle.std.specs.Ordering.{eq_by_cmp, is_eq}
 use Rattle.key_bytes.specs.Keys.{key_cmp, after, within}
 use Rattle.database_rules.proofs.Ranges.{has_one}
-use Rattle.edge_map.specs.Edges.{Edges, held, is_edge, changed}
-use Rattle.edge_map.proofs.Held.{IsRising, held-changed}
+use Rattle.range_map.specs.Boundaries.{Boundaries, held, is_boundary, changed}
+use Rattle.range_map.proofs.Held.{IsRising, held-changed}
 use Rattle.conflict_ranges.specs.Writes.{version_in, newest_at, Index, IsBounded, GoesAlone, KeepsRoom}
 use Rattle.conflict_ranges.proofs.Rooms.{room_kept}
-use Rattle.conflict_ranges.proofs.Splits.{edge_given}
+use Rattle.conflict_ranges.proofs.Splits.{boundary_given}
 
 abbrev Versions : Type 0
 Versions = FinMap key_cmp ℕ
@@ -83,7 +83,7 @@ module _ (begin end : List ℕ) (version : ℕ) (old : Index) (bounded : IsBound
 
   pub alone_keeps : KeepsRoom version old alone
   alone_keeps range =
-      room_kept version range old alone (record { newest = refl; keys = known old.keys begin version; edges = λ edge there. there })
+      room_kept version range old alone (record { newest = refl; keys = known old.keys begin version; boundaries = λ boundary there. there })
 
 -- ---- a key that is given a version by itself, which none is above: it is the newest then
 
@@ -128,12 +128,12 @@ bounded_left begin end keys newest all q =
     by_test true = all q
     by_test false = omega arith
 
-module _ (begin end : List ℕ) (version : ℕ) (old : Index) (ranges : Edges ℕ) (rising : IsRising old.ranges.entries)
-    (is_begin : is_edge begin old.ranges ≡ true) (is_end : is_edge end old.ranges ≡ true)
+module _ (begin end : List ℕ) (version : ℕ) (old : Index) (ranges : Boundaries ℕ) (rising : IsRising old.ranges.entries)
+    (is_begin : is_boundary begin old.ranges ≡ true) (is_end : is_boundary end old.ranges ≡ true)
     (is : ranges ≡ changed (within begin end) (λ _. version) old.ranges) (bounded : IsBounded old) (low : version ≤ old.newest) where
   -- what ranges give a key
   held_now : (q : List ℕ) → held ranges q ≡ cond (within begin end q) version (held old.ranges q)
-  held_now q = ap (λ edges. held edges q) is ∙ held-changed begin end (λ _. version) old.ranges q rising is_begin is_end
+  held_now q = ap (λ boundaries. held boundaries q) is ∙ held-changed begin end (λ _. version) old.ranges q rising is_begin is_end
 
   bounded_now : (q : List ℕ) → held ranges q ≤ old.newest
   bounded_now q =
@@ -143,8 +143,8 @@ module _ (begin end : List ℕ) (version : ℕ) (old : Index) (ranges : Edges �
       by_test true = low
       by_test false = bounded.ranges q
 
-  edge_kept : (edge : List ℕ) → is_edge edge old.ranges ≡ true → is_edge edge ranges ≡ true
-  edge_kept edge there = edge_given (within begin end) version old.ranges ranges is edge ∙ there
+  boundary_kept : (boundary : List ℕ) → is_boundary boundary old.ranges ≡ true → is_boundary boundary ranges ≡ true
+  boundary_kept boundary there = boundary_given (within begin end) version old.ranges ranges is boundary ∙ there
 
   -- where no version is above this one, the keys by themselves stay as they are
   abbrev pub in_range : Index
@@ -164,7 +164,7 @@ module _ (begin end : List ℕ) (version : ℕ) (old : Index) (ranges : Edges �
 
   pub range_keeps : KeepsRoom version old in_range
   range_keeps range =
-      room_kept version range old in_range (record { newest = refl; keys = λ key there. there; edges = edge_kept })
+      room_kept version range old in_range (record { newest = refl; keys = λ key there. there; boundaries = boundary_kept })
 
   -- where one is, the keys of the range lose what they had by themselves
   abbrev pub instead : Index
@@ -185,7 +185,7 @@ module _ (begin end : List ℕ) (version : ℕ) (old : Index) (ranges : Edges �
   pub instead_keeps : version < old.newest → KeepsRoom version old instead
   instead_keeps above range room = record {
     alone = λ goes. let below = goes.1 in absurd (omega (arith, above, below));
-    as_range = λ goes. let edges = room.as_range goes in (edge_kept range.begin edges.0, edge_kept range.end edges.1);
+    as_range = λ goes. let boundaries = room.as_range goes in (boundary_kept range.begin boundaries.0, boundary_kept range.end boundaries.1);
   }
 
 -- ---- the newest version that a key of a range has

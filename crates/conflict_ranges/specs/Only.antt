@@ -1,4 +1,4 @@
--- A set of one range, which needs no edge.
+-- A set of one range, which needs no boundary.
 use Rattle.std.specs.Prelude.{◌≡◌, true, List, [], ◌∷◌, Option, Some, None}
 use Rattle.key_bytes.specs.declared.range.KeyRange.{KeyRange}
 use Rattle.key_bytes.specs.Keys.{key_lt}

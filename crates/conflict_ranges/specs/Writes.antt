@@ -1,14 +1,14 @@
--- Which version last declared each key.
+-- The last write version of each key.
 use Rattle.std.specs.Prelude.{◌≡◌, ◌≢◌, ◌≤◌, ◌<◌, ◌⊎◌, ℕ, max, true, List, [], ◌∷◌, Option, Some, None}
 use Rattle.std.specs.FinMap as finite
 use Rattle.key_bytes.specs.declared.range.KeyRange.{KeyRange}
 use Rattle.key_bytes.specs.Keys.{key_cmp, after}
-use Rattle.edge_map.specs.Edges.{Edges, held, is_edge}
+use Rattle.range_map.specs.Boundaries.{Boundaries, held, is_boundary}
 
--- the versions of keys that were declared alone, those of keys in ranges, and one that none of these is above
+-- the versions of keys that were installed alone, those of keys in ranges, and one that none of these is above
 pub record Index : Type 0 where
   pub keys : finite.FinMap key_cmp ℕ
-  pub ranges : Edges ℕ
+  pub ranges : Boundaries ℕ
   pub newest : ℕ
 
 -- a version, or 0 where there is none
@@ -40,7 +40,7 @@ GoesAsRange index version begin end = (end ≢ after begin) ⊎ (version < index
 pub record HasRoomFor (index : Index) (version : ℕ) (range : KeyRange) : Type 0 where
   pub alone : GoesAlone index version range.begin range.end → finite.contains_key index.keys range.begin ≡ true
   pub as_range : GoesAsRange index version range.begin range.end
-      → (is_edge range.begin index.ranges ≡ true) × (is_edge range.end index.ranges ≡ true)
+      → (is_boundary range.begin index.ranges ≡ true) × (is_boundary range.end index.ranges ≡ true)
 
 -- giving these ranges this version takes no memory
 abbrev pub IsReadyFor : Index → ℕ → List KeyRange → Type 0
@@ -51,7 +51,7 @@ IsReadyFor index version (range ∷ ranges) = HasRoomFor index version range × 
 pub record Keeps (old new : Index) : Type 0 where
   pub newest : new.newest ≡ old.newest
   pub keys : (key : List ℕ) → finite.contains_key old.keys key ≡ true → finite.contains_key new.keys key ≡ true
-  pub edges : (edge : List ℕ) → is_edge edge old.ranges ≡ true → is_edge edge new.ranges ≡ true
+  pub boundaries : (boundary : List ℕ) → is_boundary boundary old.ranges ≡ true → is_boundary boundary new.ranges ≡ true
 
 -- each range that has room at a version still has it
 abbrev pub KeepsRoom : ℕ → Index → Index → Type 0

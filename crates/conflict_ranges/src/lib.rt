@@ -1,19 +1,19 @@
-//! Conflict ranges: sets of keys, and which version last declared each key.
+//! Conflict ranges: sets of keys, and the last write version of each key.
 //!
-//! A `RangeSet` holds the keys that a transaction rests on, or those that it declares to write. Contracts see the list of
-//! its ranges, which are not empty, lie apart and rise (`specs/Segments.antt`), and say of each change which keys the set
-//! has then.
+//! A `RangeSet` holds the read conflict ranges of a transaction, or its write conflict ranges. Contracts see the list of its
+//! ranges, which are not empty, lie apart and rise (`specs/Segments.antt`), and say of each change which keys the set has then.
 //!
-//! A `WriteIndex` has for each key the version of the last commit that declared to write it (`specs/Writes.antt`), so that a
-//! commit may be judged by the newest version that it has in each range that the transaction rests on.
+//! A `WriteIndex` is the conflict set: it has for each key the version of the last commit with the key among its write conflict
+//! ranges (`specs/Writes.antt`), so that a commit may be judged by the newest version that it has in each read conflict range of
+//! the transaction.
 //!
-//! Both lie in a map of edges: each edge has what all keys from it up to the next edge have. But a set of one range, as most
-//! are, keeps that range in place, and makes edges of its ends when another comes (`specs/Only.antt`); and an index keeps a key
-//! that was declared alone, as most are, as that key.
+//! Both lie in a map of boundaries: each boundary has what all keys from it up to the next boundary have. But a set of one range,
+//! as most are, keeps that range in place, and makes boundaries of its ends when another comes (`specs/Only.antt`); and an index
+//! keeps a key that is one key, as most are, as that key.
 #![tactic(auto)]
 
-mod edge_ranges;
-mod edge_ranges_left;
+mod boundary_ranges;
+mod boundary_ranges_left;
 mod members;
 mod membership;
 mod newest;

@@ -1,42 +1,42 @@
-//! Which keys are in a set, by its edges.
+//! Which keys are in a set, by its boundaries.
 
 ghost use Rattle.std.specs.Prelude.{◌≡◌, ◌+◌, ◌*◌, ◌≤◌, ◌↔◌, ℕ, length, List, true, if◌then◌else◌, IsTrue, OnOk, OnErr};
 ghost use Rattle.std.specs.List.Sorted.{IsStrictlySortedBy};
 ghost use Rattle.key_bytes.specs.Keys.{key_cmp, within};
 ghost use Rattle.key_bytes.specs.Ranges.{has};
 ghost use Rattle.database_rules.specs.States.{covers};
-ghost use Rattle.edge_map.specs.Edges.{changed, edges_of, held};
+ghost use Rattle.range_map.specs.Boundaries.{changed, boundaries_of, held};
 ghost use Rattle.conflict_ranges.specs.Ends.{HasRoom, IsSplitAt};
 ghost use Rattle.conflict_ranges.specs.Segments.{IsSound};
 
 use crate::membership::Membership;
 use crate::walking::around_within;
-use edge_map::EdgeMap;
 use key_bytes::KeyRange;
+use range_map::RangeMap;
 use std::alloc::AllocError;
 
-// Makes the ends of a range edges, which changes what no key has. After a refusal the edges are as they were.
-fn split(members: &mut EdgeMap<Membership>, range: &KeyRange) -> Result<(), AllocError>
+// Makes the ends of a range boundaries, which changes what no key has. After a refusal the boundaries are as they were.
+fn split(members: &mut RangeMap<Membership>, range: &KeyRange) -> Result<(), AllocError>
     ensures ok { OnOk result (IsSplitAt range.now.begin range.now.end members.old members.new) }
     ensures err { OnErr result (members.new ≡ members.old) }
-    ensures rising { OnOk result (IsStrictlySortedBy key_cmp (edges_of members.new)) }
+    ensures rising { OnOk result (IsStrictlySortedBy key_cmp (boundaries_of members.new)) }
 {
     members.split_both(&range.begin, &range.end)
 }
 
-// Gives each edge of a range a membership.
-fn give(members: &mut EdgeMap<Membership>, range: &KeyRange, membership: Membership)
+// Gives each boundary of a range a membership.
+fn give(members: &mut RangeMap<Membership>, range: &KeyRange, membership: Membership)
     ensures given { members.new
         ≡ changed (within range.now.begin range.now.end) (λ _. membership) members.old }
-    ensures rising { IsStrictlySortedBy key_cmp (edges_of members.old) }
+    ensures rising { IsStrictlySortedBy key_cmp (boundaries_of members.old) }
 {
     members.shows_rising();
     members.change(&range.begin, &range.end, &membership);
 }
 
-// Gives the keys of a range a membership. After a refusal the edges are as they were.
+// Gives the keys of a range a membership. After a refusal the boundaries are as they were.
 pub(crate) fn put(
-    members: &mut EdgeMap<Membership>,
+    members: &mut RangeMap<Membership>,
     range: &KeyRange,
     membership: Membership,
 ) -> Result<(), AllocError>
@@ -54,9 +54,9 @@ pub(crate) fn put(
     Ok(())
 }
 
-// Makes the ends of ranges edges, which changes what no key has, after a refusal too.
+// Makes the ends of ranges boundaries, which changes what no key has, after a refusal too.
 pub(crate) fn split_all(
-    members: &mut EdgeMap<Membership>,
+    members: &mut RangeMap<Membership>,
     ranges: &[KeyRange],
 ) -> Result<(), AllocError>
     ensures same { (key : List ℕ) → held members.new key ≡ held members.old key }
@@ -70,9 +70,9 @@ pub(crate) fn split_all(
     Ok(())
 }
 
-// Gives the keys of ranges, whose ends are edges, a membership.
+// Gives the keys of ranges, whose ends are boundaries, a membership.
 pub(crate) fn put_all(
-    members: &mut EdgeMap<Membership>,
+    members: &mut RangeMap<Membership>,
     ranges: &[KeyRange],
     membership: Membership,
 )
@@ -88,7 +88,7 @@ pub(crate) fn put_all(
 }
 
 // Whether a key of a range is in the set. It takes no memory.
-pub(crate) fn any_in(members: &EdgeMap<Membership>, range: &KeyRange) -> bool
+pub(crate) fn any_in(members: &RangeMap<Membership>, range: &KeyRange) -> bool
     ensures { IsTrue result
         ↔ ((key : List ℕ) × (has range.now key ≡ true) × ((held members.now key).0 ≡ true)) }
 {
@@ -102,9 +102,9 @@ pub(crate) fn any_in(members: &EdgeMap<Membership>, range: &KeyRange) -> bool
         if membership.0 {
             return true;
         }
-        let Some(edge) = next else {
+        let Some(boundary) = next else {
             return false;
         };
-        from = edge;
+        from = boundary;
     }
 }

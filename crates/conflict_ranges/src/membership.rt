@@ -1,12 +1,12 @@
 //! Whether keys are in a set.
 
-use edge_map::{Change, Spread};
+use range_map::{Change, Spread};
 
-// Whether the keys from an edge up to the next one are in a set.
+// Whether the keys from a boundary up to the next one are in a set.
 #[derive(Clone, Copy)]
 pub(crate) struct Membership(pub(crate) bool);
 
-// A new edge gets what its key had.
+// A new boundary gets what its key had.
 impl Spread for Membership {
     ghost spread = { λ membership. membership };
 

@@ -3,12 +3,12 @@
 ghost use Rattle.std.specs.Prelude.{◌≡◌, ◌≢◌, ◌≤◌, ◌⊎◌, ℕ, List, true, IsTrue, MatchBool};
 ghost use Rattle.std.specs.FinMap as finite;
 ghost use Rattle.key_bytes.specs.Keys.{after, key_lt, within};
-ghost use Rattle.edge_map.specs.Edges.{held};
+ghost use Rattle.range_map.specs.Boundaries.{held};
 ghost use Rattle.conflict_ranges.specs.Writes.{version_in};
 
-use edge_map::{Change, EdgeMap};
 use key_bytes::Key;
 use key_map::KeyMap;
+use range_map::{Change, RangeMap};
 
 // The keys were last written at this version, whatever it was before.
 #[derive(Drop)]
@@ -33,15 +33,15 @@ pub(crate) fn is_after(key: &Key, next: &Key) -> bool
 }
 
 // The newest version that ranges give a key from `begin` on that is less than `end`. It takes no memory, two searches, and one step
-// for each edge between them.
-pub(crate) fn newest_of_ranges(ranges: &EdgeMap<u64>, begin: &Key, end: &Key) -> u64
+// for each boundary between them.
+pub(crate) fn newest_of_ranges(ranges: &RangeMap<u64>, begin: &Key, end: &Key) -> u64
     requires { IsTrue (key_lt begin.now end.now) }
     ensures above { (key : List ℕ) → within begin.now end.now key ≡ true → held ranges.now key ≤ result }
     ensures reached { (key : List ℕ) × (within begin.now end.now key ≡ true) × (held ranges.now key ≡ result) }
 {
     ranges.shows_rising();
     let mut newest = *ranges.at(begin);
-    for (_, version) in ranges.edges_between(begin, end) {
+    for (_, version) in ranges.boundaries_between(begin, end) {
         newest = newest.max(*version);
     }
     newest

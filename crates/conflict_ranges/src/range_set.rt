@@ -5,19 +5,19 @@ ghost use Rattle.std.specs.List.{list_any};
 ghost use Rattle.key_bytes.specs.Ranges.{has, meets};
 ghost use Rattle.database_rules.specs.States.{covers};
 
-use crate::edge_ranges::EdgeRanges;
+use crate::boundary_ranges::BoundaryRanges;
 use crate::ranges_left::RangesLeft;
 use key_bytes::{Key, KeyRange};
 use std::alloc::{AllocError, Global};
 use std::marker::Model;
 
-/// A set of keys. Contracts see its ranges in rising order: its only one, or what lies between one edge and the next and is
-/// in the set, so they are not empty and lie apart. Which keys the set has is `covers` of them. Until a second range comes
-/// the set takes no memory but for copies of the two ends, and no search.
+/// A set of keys. Contracts see its ranges in rising order: its only one, or what lies between one boundary and the next and is in
+/// the set, so they are not empty and lie apart. Which keys the set has is `covers` of them. Until a second range comes the set
+/// takes no memory but for copies of the two ends, and no search.
 pub struct RangeSet {
-    // The only range that was added. While there is one, the edges say nothing.
+    // The only range that was added. While there is one, the boundaries say nothing.
     only: Option<KeyRange>,
-    laid: EdgeRanges,
+    laid: BoundaryRanges,
 }
 
 // Written out, so that a caller's proof sees one call where a set ends, and nothing of what lies in it.
@@ -65,7 +65,7 @@ impl RangeSet {
     {
         RangeSet {
             only: None,
-            laid: EdgeRanges::new(alloc),
+            laid: BoundaryRanges::new(alloc),
         }
     }
 
@@ -99,10 +99,10 @@ impl RangeSet {
         Ok(())
     }
 
-    /// Adds the keys of a range. The first one is kept in place, with no search. A second one makes edges of the ends of
-    /// both, unless the first has all its keys; from then on it takes two walks along a few edges, or six searches of more at
-    /// most, and writes once for each edge in the range. After a refusal the set is as it was (API reference, "Transaction":
-    /// conflict ranges).
+    /// Adds the keys of a range. The first one is kept in place, with no search. A second one makes boundaries of the ends of both,
+    /// unless the first has all its keys; from then on it takes two walks along a few boundaries, or six searches of more at most,
+    /// and writes once for each boundary in the range. After a refusal the set is as it was (API reference, "Transaction": conflict
+    /// ranges).
     pub fn add(&mut self, range: &KeyRange) -> Result<(), AllocError>
         ensures ok { OnOk result ((key : List ℕ)
             → covers self.new key ≡ (covers self.old key || has range.now key)) }
@@ -123,9 +123,9 @@ impl RangeSet {
         Ok(())
     }
 
-    /// Takes the keys of a range away. It makes edges of the ends of a range in place, takes two walks along a few edges, or six
-    /// searches of more at most, and writes once for each edge in the range. After a refusal the set is as it was (API reference,
-    /// "Transaction": conflict ranges).
+    /// Takes the keys of a range away. It makes boundaries of the ends of a range in place, takes two walks along a few boundaries,
+    /// or six searches of more at most, and writes once for each boundary in the range. After a refusal the set is as it was (API
+    /// reference, "Transaction": conflict ranges).
     pub fn subtract(&mut self, range: &KeyRange) -> Result<(), AllocError>
         ensures ok { OnOk result ((key : List ℕ)
             → covers self.new key ≡ (covers self.old key && not (has range.now key))) }
@@ -162,8 +162,8 @@ impl RangeSet {
         Ok(())
     }
 
-    /// Tells whether some key is both in the set and in the range. It takes one search for the range's begin,
-    /// and one for each edge in the range that it comes to; none where the set keeps its range in place.
+    /// Tells whether some key is both in the set and in the range. It takes one search for the range's begin, and one for each
+    /// boundary in the range that it comes to; none where the set keeps its range in place.
     pub fn meets(&self, range: &KeyRange) -> bool
         ensures value { result ≡ list_any (λ own. meets own range.now) self.now }
         ensures common { IsTrue result
@@ -182,7 +182,7 @@ impl RangeSet {
         match &self.only {
             Some(only) => RangesLeft::one(only),
             None if self.laid.is_unused() => RangesLeft::none(),
-            None => RangesLeft::of_edges(self.laid.ranges()),
+            None => RangesLeft::of_boundaries(self.laid.ranges()),
         }
     }
 

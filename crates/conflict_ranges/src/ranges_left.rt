@@ -5,7 +5,7 @@ ghost use Rattle.std.specs.Iterator.{at_most};
 ghost use Rattle.std.specs.Map.Iter.{TakesFirst};
 ghost use Rattle.conflict_ranges.specs.Segments.{range_between};
 
-use crate::edge_ranges_left::EdgeRangesLeft;
+use crate::boundary_ranges_left::BoundaryRangesLeft;
 use key_bytes::{Key, KeyRange};
 use std::iter::FusedIterator;
 use std::marker::Model;
@@ -16,8 +16,8 @@ use std::marker::Model;
 pub struct RangesLeft<'a> {
     // The range in place of its set, until it is taken.
     only: Option<&'a KeyRange>,
-    // Those between the edges, where the set keeps none in place.
-    laid: Option<EdgeRangesLeft<'a>>,
+    // Those between the boundaries, where the set keeps none in place.
+    laid: Option<BoundaryRangesLeft<'a>>,
 }
 
 impl<'a> Model for RangesLeft<'a> {
@@ -53,8 +53,8 @@ impl<'a> RangesLeft<'a> {
         }
     }
 
-    // What is left between the edges.
-    pub(crate) fn of_edges(laid: EdgeRangesLeft<'a>) -> RangesLeft<'a>
+    // What is left between the boundaries.
+    pub(crate) fn of_boundaries(laid: BoundaryRangesLeft<'a>) -> RangesLeft<'a>
         ensures { result ≡ laid.entry }
     {
         RangesLeft {

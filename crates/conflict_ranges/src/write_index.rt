@@ -1,27 +1,27 @@
-//! Which version last declared each key.
+//! The last write version of each key.
 
 ghost use Rattle.std.specs.Prelude.{◌≡◌, ◌≤◌, ◌⊎◌, ℕ, List, [], true, max, if◌then◌else◌, MatchBool, OnOk, OnErr};
 ghost use Rattle.std.specs.FinMap as finite;
 ghost use Rattle.key_bytes.specs.Keys.{after, within};
 ghost use Rattle.key_bytes.specs.Ranges.{has};
 ghost use Rattle.database_rules.specs.States.{covers, range_from};
-ghost use Rattle.edge_map.specs.Edges.{is_edge};
+ghost use Rattle.range_map.specs.Boundaries.{is_boundary};
 ghost use Rattle.conflict_ranges.specs.Writes.{newest_at, GoesAlone, GoesAsRange, HasRoomFor, IsReadyFor, Keeps, KeepsRoom, with_version};
 
 use crate::newest::{Written, is_after, newest_of_keys, newest_of_ranges};
 use crate::range_set::RangeSet;
-use edge_map::EdgeMap;
 use key_bytes::{Key, KeyRange};
 use key_map::KeyMap;
+use range_map::RangeMap;
 use std::alloc::{AllocError, Global};
 use std::marker::Model;
 
-/// The newest version of each key: that of the last commit that declared to write it, or 0 (API reference, "Transaction":
-/// conflict ranges). A range of one key is kept as that key, any other by its ends. Contracts see what is known of keys alone and
-/// of ranges; `newest_at` says of both the version of a key.
+/// The newest version of each key: that of the last commit with it among its write conflict ranges, or 0 (API reference,
+/// "Transaction": conflict ranges). A range of one key is kept as that key, any other by its ends. Contracts see what is known of
+/// keys alone and of ranges; `newest_at` says of both the version of a key.
 pub struct WriteIndex {
     keys: KeyMap<u64>,
-    ranges: EdgeMap<u64>,
+    ranges: RangeMap<u64>,
     // No version is greater.
     newest: u64,
 }
@@ -60,7 +60,7 @@ impl WriteIndex {
     {
         WriteIndex {
             keys: KeyMap::new(alloc),
-            ranges: EdgeMap::new(alloc, 0),
+            ranges: RangeMap::new(alloc, 0),
             newest: 0,
         }
     }
@@ -73,8 +73,8 @@ impl WriteIndex {
         self.newest
     }
 
-    /// Returns the newest version that a key of the range has; 0 where the range is empty. For one key it takes
-    /// two searches, and else four, and one step for each key and each edge in the range.
+    /// Returns the newest version that a key of the range has; 0 where the range is empty. For one key it takes two searches, and
+    /// else four, and one step for each key and each boundary in the range.
     pub fn newest_in(&self, range: &KeyRange) -> u64
         ensures above { (key : List ℕ) → has range.now key ≡ true → newest_at self.now key ≤ result }
         ensures reached { (result ≡ 0)
@@ -118,7 +118,7 @@ impl WriteIndex {
     }
 
     /// Takes the memory that `install` of these ranges at this version needs: one search for a range of one key, and for any other
-    /// range one walk along a few edges, or five searches of more at most. Each key keeps its version, after a refusal too.
+    /// range one walk along a few boundaries, or five searches of more at most. Each key keeps its version, after a refusal too.
     pub fn reserve(&mut self, ranges: &RangeSet, version: u64) -> Result<(), AllocError>
         ensures same { (key : List ℕ) → newest_at self.new key ≡ newest_at self.old key }
         ensures newest { self.new.newest ≡ self.old.newest }
@@ -155,7 +155,7 @@ impl WriteIndex {
         self.ranges.split_both(begin, end)
     }
 
-    // Makes a key known, which was declared alone at no version yet.
+    // Makes a key known, which no commit has had as a range of its own yet.
     fn add_key(&mut self, key: &Key) -> Result<(), AllocError>
         ensures same { (key : List ℕ) → newest_at self.new key ≡ newest_at self.old key }
         ensures kept { Keeps self.old self.new }
@@ -165,9 +165,8 @@ impl WriteIndex {
         Ok(())
     }
 
-    /// Gives the keys of the ranges this version, after room was made for them. It takes one search for each
-    /// range, and one write for each edge in it; where a greater version is known, one step for each key
-    /// besides.
+    /// Gives the keys of the ranges this version, after room was made for them. It takes one search for each range, and one write
+    /// for each boundary in it; where a greater version is known, one step for each key besides.
     pub fn install(&mut self, ranges: RangeSet, version: u64)
         requires { IsReadyFor self.old version ranges }
         ensures given { (key : List ℕ) → newest_at self.new key
@@ -194,8 +193,8 @@ impl WriteIndex {
     }
 
     /// Gives the keys of a list of ranges this version; they may meet, and be empty. After a refusal each key keeps its version. One
-    /// range of one key takes what `declare_key` takes, and other ranges what `reserve` and `install` take.
-    pub fn declare_all(&mut self, ranges: &[KeyRange], version: u64) -> Result<(), AllocError>
+    /// range of one key takes what `install_key` takes, and other ranges what `reserve` and `install` take.
+    pub fn install_all(&mut self, ranges: &[KeyRange], version: u64) -> Result<(), AllocError>
         ensures given { OnOk result ((key : List ℕ) → newest_at self.new key
             ≡ (if covers ranges.now key then version else newest_at self.old key)) }
         ensures newest { OnOk result (self.new.newest ≡ max self.old.newest version) }
@@ -204,15 +203,15 @@ impl WriteIndex {
     {
         if let [range] = ranges {
             if is_after(&range.begin, &range.end) {
-                return self.declare_key(&range.begin, version);
+                return self.install_key(&range.begin, version);
             }
         }
-        self.declare_list(ranges, version)
+        self.install_each(ranges, version)
     }
 
-    /// Gives a key this version. After a refusal each key keeps its version. It takes one search, and memory only where the key wasn't
-    /// declared alone before; where a greater version is known, what `reserve` and `install` take for its range.
-    pub fn declare_key(&mut self, key: &Key, version: u64) -> Result<(), AllocError>
+    /// Gives a key this version. After a refusal each key keeps its version. It takes one search, and memory only where the key
+    /// wasn't installed alone before; where a greater version is known, what `reserve` and `install` take for its range.
+    pub fn install_key(&mut self, key: &Key, version: u64) -> Result<(), AllocError>
         ensures given { OnOk result ((other : List ℕ) → newest_at self.new other
             ≡ (if within key.now (after key.now) other then version else newest_at self.old other)) }
         ensures newest { OnOk result (self.new.newest ≡ max self.old.newest version) }
@@ -223,11 +222,11 @@ impl WriteIndex {
             return self.put_key(key, version);
         }
         let range = KeyRange::single(key.allocator(), key)?;
-        self.declare_list(&[range], version)
+        self.install_each(&[range], version)
     }
 
     // Takes the memory for the ranges of a list, and gives their keys this version.
-    fn declare_list(&mut self, ranges: &[KeyRange], version: u64) -> Result<(), AllocError>
+    fn install_each(&mut self, ranges: &[KeyRange], version: u64) -> Result<(), AllocError>
         ensures given { OnOk result ((key : List ℕ) → newest_at self.new key
             ≡ (if covers ranges.now key then version else newest_at self.old key)) }
         ensures newest { OnOk result (self.new.newest ≡ max self.old.newest version) }
@@ -239,7 +238,7 @@ impl WriteIndex {
         Ok(())
     }
 
-    // Gives a key this version, which none is above: one search. Only a key that wasn't declared alone before takes memory. After
+    // Gives a key this version, which none is above: one search. Only a key that wasn't installed alone before takes memory. After
     // a refusal the index is unchanged.
     fn put_key(&mut self, key: &Key, version: u64) -> Result<(), AllocError>
         requires { self.old.newest ≤ version }
@@ -289,10 +288,10 @@ impl WriteIndex {
         *self.keys.get_mut(begin).unwrap() = version;
     }
 
-    // Gives the keys between two edges this version. It takes no memory.
+    // Gives the keys between two boundaries this version. It takes no memory.
     fn give_range(&mut self, begin: &Key, end: &Key, version: u64)
         requires bounded { version ≤ self.old.newest }
-        requires edges { (is_edge begin.now self.old.ranges ≡ true) × (is_edge end.now self.old.ranges ≡ true) }
+        requires boundaries { (is_boundary begin.now self.old.ranges ≡ true) × (is_boundary end.now self.old.ranges ≡ true) }
         ensures given { (key : List ℕ) → newest_at self.new key
             ≡ (if within begin.now end.now key then version else newest_at self.old key) }
         ensures kept { KeepsRoom version self.old self.new }

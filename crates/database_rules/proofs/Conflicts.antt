@@ -15,30 +15,30 @@ use Rattle.database_rules.specs.Histories.{Commit, History, conflicts}
 use Rattle.database_rules.specs.Newest.{newest_of, IsNewestIn}
 use Rattle.database_rules.proofs.States.{covers-append}
 use Rattle.database_rules.proofs.Ranges.{covers_single, any_meet_at, common_key_of}
-use Rattle.database_rules.proofs.Newest.{any_declares, newest_later}
+use Rattle.database_rules.proofs.Newest.{any_adds_conflict, newest_later}
 
 -- ---- conflicts, by keys
 
-conflict_at : (commits : List Commit) (reads : List KeyRange) (k : List ℕ) → covers reads k ≡ true → any_declares commits k ≡ true
-    → list_any (λ commit. any_meet commit.declared reads) commits ≡ true
+conflict_at : (commits : List Commit) (reads : List KeyRange) (k : List ℕ) → covers reads k ≡ true → any_adds_conflict commits k ≡ true
+    → list_any (λ commit. any_meet commit.write_conflicts reads) commits ≡ true
 conflict_at [] reads k in_reads in_commits = in_commits
 conflict_at (commit ∷ commits) reads k in_reads in_commits =
-    elim (or_cases (covers commit.declared k) (any_declares commits k) in_commits) [
-      | inl first ↦ or_left (any_meet commit.declared reads) _ (any_meet_at commit.declared reads k first in_reads)
-      | inr later ↦ or_right (any_meet commit.declared reads) _ (conflict_at commits reads k in_reads later)
+    elim (or_cases (covers commit.write_conflicts k) (any_adds_conflict commits k) in_commits) [
+      | inl first ↦ or_left (any_meet commit.write_conflicts reads) _ (any_meet_at commit.write_conflicts reads k first in_reads)
+      | inr later ↦ or_right (any_meet commit.write_conflicts reads) _ (conflict_at commits reads k in_reads later)
     ]
 
-conflict_key : (commits : List Commit) (reads : List KeyRange) → list_any (λ commit. any_meet commit.declared reads) commits ≡ true
-    → (k : List ℕ) × (covers reads k ≡ true) × (any_declares commits k ≡ true)
+conflict_key : (commits : List Commit) (reads : List KeyRange) → list_any (λ commit. any_meet commit.write_conflicts reads) commits ≡ true
+    → (k : List ℕ) × (covers reads k ≡ true) × (any_adds_conflict commits k ≡ true)
 conflict_key [] reads conflict = absurd (both_ways false refl conflict)
 conflict_key (commit ∷ commits) reads conflict =
-    elim (or_cases (any_meet commit.declared reads) (list_any (λ commit. any_meet commit.declared reads) commits) conflict) [
+    elim (or_cases (any_meet commit.write_conflicts reads) (list_any (λ commit. any_meet commit.write_conflicts reads) commits) conflict) [
       | inl first ↦
-          let common = common_key_of commit.declared reads first in
-          (common.0, common.2, or_left (covers commit.declared common.0) (any_declares commits common.0) common.1)
+          let common = common_key_of commit.write_conflicts reads first in
+          (common.0, common.2, or_left (covers commit.write_conflicts common.0) (any_adds_conflict commits common.0) common.1)
       | inr later ↦
           let common = conflict_key commits reads later in
-          (common.0, common.1, or_right (covers commit.declared common.0) (any_declares commits common.0) common.2)
+          (common.0, common.1, or_right (covers commit.write_conflicts common.0) (any_adds_conflict commits common.0) common.2)
     ]
 
 -- reads have a key whose newest commit is after the version

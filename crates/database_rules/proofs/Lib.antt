@@ -3,7 +3,7 @@ pub mod States
 pub mod Ranges
 pub mod Deciding
 pub mod Filling
-pub mod Declaring
+pub mod AddingConflicts
 pub mod Newest
 pub mod Conflicts
 pub mod Stamps

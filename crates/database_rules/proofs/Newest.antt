@@ -9,32 +9,32 @@ use Rattle.database_rules.specs.States.{covers}
 use Rattle.database_rules.specs.Histories.{Commit, History}
 use Rattle.database_rules.specs.Newest.{newest_from, newest_of}
 
--- one of these commits declares to write the key
-abbrev pub any_declares : List Commit → List ℕ → Bool
-any_declares commits k = list_any (λ commit. covers commit.declared k) commits
+-- one of these commits has the key among its write conflict ranges
+abbrev pub any_adds_conflict : List Commit → List ℕ → Bool
+any_adds_conflict commits k = list_any (λ commit. covers commit.write_conflicts k) commits
 
 -- among commits of which the first has this number
 newest_from_push : (number newest : ℕ) (commits : List Commit) (commit : Commit) (k : List ℕ)
     → newest_from number newest (commits ++ commit ∷ []) k
-    ≡ cond (covers commit.declared k) (number + length commits) (newest_from number newest commits k)
-newest_from_push number newest [] commit k = ap (λ n. cond (covers commit.declared k) n newest) (omega arith)
+    ≡ cond (covers commit.write_conflicts k) (number + length commits) (newest_from number newest commits k)
+newest_from_push number newest [] commit k = ap (λ n. cond (covers commit.write_conflicts k) n newest) (omega arith)
 newest_from_push number newest (first ∷ commits) commit k =
-    let before = cond (covers first.declared k) number newest in
+    let before = cond (covers first.write_conflicts k) number newest in
     newest_from_push (number + 1) before commits commit k
-    ∙ ap (λ n. cond (covers commit.declared k) n (newest_from (number + 1) before commits k)) (omega arith)
+    ∙ ap (λ n. cond (covers commit.write_conflicts k) n (newest_from (number + 1) before commits k)) (omega arith)
 
--- one more commit is the newest of the keys that it declares to write, and no other
+-- one more commit is the newest of the keys of its write conflict ranges, and of no other
 pub newest_push : (history : History) (commit : Commit) (k : List ℕ)
-    → newest_of (history ++ commit ∷ []) k ≡ (if covers commit.declared k then length history + 1 else newest_of history k)
+    → newest_of (history ++ commit ∷ []) k ≡ (if covers commit.write_conflicts k then length history + 1 else newest_of history k)
 newest_push history commit k =
-    newest_from_push 1 0 history commit k ∙ ap (λ n. cond (covers commit.declared k) n (newest_of history k)) (omega arith)
+    newest_from_push 1 0 history commit k ∙ ap (λ n. cond (covers commit.write_conflicts k) n (newest_of history k)) (omega arith)
 
 newest_from_bound : (number newest : ℕ) (commits : List Commit) (k : List ℕ) → newest < number
     → newest_from number newest commits k < number + length commits
 newest_from_bound number newest [] k less = omega arith
 newest_from_bound number newest (commit ∷ commits) k less =
-    let rest = newest_from_bound (number + 1) (cond (covers commit.declared k) number newest) commits k
-    (cond_both (covers commit.declared k) number newest (λ n. n < number + 1) (λ _. omega arith) (λ _. omega arith)) in
+    let rest = newest_from_bound (number + 1) (cond (covers commit.write_conflicts k) number newest) commits k
+    (cond_both (covers commit.write_conflicts k) number newest (λ n. n < number + 1) (λ _. omega arith) (λ _. omega arith)) in
     omega (arith, rest)
 
 -- it is one of the history
@@ -42,12 +42,12 @@ pub newest_bound : (history : History) (k : List ℕ) → newest_of history k �
 newest_bound history k = let less = newest_from_bound 1 0 history k (omega arith) in omega (arith, less)
 
 newest_from_later : (number newest version : ℕ) (commits : List Commit) (k : List ℕ) → newest < number
-    → nat_lt version (newest_from number newest commits k) ≡ (nat_lt version newest || any_declares (drop (version + 1 - number) commits) k)
+    → nat_lt version (newest_from number newest commits k) ≡ (nat_lt version newest || any_adds_conflict (drop (version + 1 - number) commits) k)
 newest_from_later number newest version [] k less =
-    sym (ap (λ list. nat_lt version newest || any_declares list k) (drop-nil (version + 1 - number)) ∙ or-false (nat_lt version newest))
+    sym (ap (λ list. nat_lt version newest || any_adds_conflict list k) (drop-nil (version + 1 - number)) ∙ or-false (nat_lt version newest))
 newest_from_later number newest version (commit ∷ commits) k less =
-    newest_from_later (number + 1) (cond (covers commit.declared k) number newest) version commits k
-    (cond_both (covers commit.declared k) number newest (λ n. n < number + 1) (λ _. omega arith) (λ _. omega arith))
+    newest_from_later (number + 1) (cond (covers commit.write_conflicts k) number newest) version commits k
+    (cond_both (covers commit.write_conflicts k) number newest (λ n. n < number + 1) (λ _. omega arith) (λ _. omega arith))
     ∙ by (cases_lt version number)
   where
     now : (b rest : Bool) → version < number
@@ -57,29 +57,29 @@ newest_from_later number newest version (commit ∷ commits) k less =
     now false rest before = refl
 
     by : (version < number) ⊎ (number ≤ version)
-        → (nat_lt version (cond (covers commit.declared k) number newest) || any_declares (drop (version + 1 - (number + 1)) commits) k)
-        ≡ (nat_lt version newest || any_declares (drop (version + 1 - number) (commit ∷ commits)) k)
+        → (nat_lt version (cond (covers commit.write_conflicts k) number newest) || any_adds_conflict (drop (version + 1 - (number + 1)) commits) k)
+        ≡ (nat_lt version newest || any_adds_conflict (drop (version + 1 - number) (commit ∷ commits)) k)
     by (inl before) =
         let none : version + 1 - (number + 1) ≡ 0 = omega arith in
         let none_yet : version + 1 - number ≡ 0 = omega arith in
-        ap (λ n. nat_lt version (cond (covers commit.declared k) number newest) || any_declares (drop n commits) k) none
-        ∙ now (covers commit.declared k) (any_declares commits k) before
-        ∙ sym (ap (λ n. nat_lt version newest || any_declares (drop n (commit ∷ commits)) k) none_yet)
+        ap (λ n. nat_lt version (cond (covers commit.write_conflicts k) number newest) || any_adds_conflict (drop n commits) k) none
+        ∙ now (covers commit.write_conflicts k) (any_adds_conflict commits k) before
+        ∙ sym (ap (λ n. nat_lt version newest || any_adds_conflict (drop n (commit ∷ commits)) k) none_yet)
     by (inr after) =
         let left : version + 1 - (number + 1) ≡ version - number = omega arith in
         let one_more : version + 1 - number ≡ suc (version - number) = omega arith in
-        ap (λ b. b || any_declares (drop (version + 1 - (number + 1)) commits) k)
-        (cond_both (covers commit.declared k) number newest (λ n. nat_lt version n ≡ false) (λ _. le-ltb version number after)
+        ap (λ b. b || any_adds_conflict (drop (version + 1 - (number + 1)) commits) k)
+        (cond_both (covers commit.write_conflicts k) number newest (λ n. nat_lt version n ≡ false) (λ _. le-ltb version number after)
         (λ _. le-ltb version newest (omega arith)))
-        ∙ ap (λ n. any_declares (drop n commits) k) left
-        ∙ sym (ap (λ n. any_declares (drop n (commit ∷ commits)) k) one_more)
-        ∙ sym (ap (λ b. b || any_declares (drop (version + 1 - number) (commit ∷ commits)) k) (le-ltb version newest (omega arith)))
+        ∙ ap (λ n. any_adds_conflict (drop n commits) k) left
+        ∙ sym (ap (λ n. any_adds_conflict (drop n (commit ∷ commits)) k) one_more)
+        ∙ sym (ap (λ b. b || any_adds_conflict (drop (version + 1 - number) (commit ∷ commits)) k) (le-ltb version newest (omega arith)))
 
--- a commit after a version declares a key exactly where the newest of the key is after it
+-- a commit after a version has a key among its write conflict ranges exactly where the newest of the key is after it
 pub newest_later : (history : History) (version : ℕ) (k : List ℕ)
-    → nat_lt version (newest_of history k) ≡ any_declares (drop version history) k
+    → nat_lt version (newest_of history k) ≡ any_adds_conflict (drop version history) k
 newest_later history version k =
     let same : version + 1 - 1 ≡ version = omega arith in
     newest_from_later 1 0 version history k (omega arith)
-    ∙ ap (λ b. b || any_declares (drop (version + 1 - 1) history) k) (le-ltb version 0 (omega arith))
-    ∙ ap (λ n. any_declares (drop n history) k) same
+    ∙ ap (λ b. b || any_adds_conflict (drop (version + 1 - 1) history) k) (le-ltb version 0 (omega arith))
+    ∙ ap (λ n. any_adds_conflict (drop n history) k) same

@@ -11,11 +11,11 @@ use Rattle.database_rules.specs.Reads.{Read, Answer}
 
 -- ---- scripts
 
--- what a transaction did: a write that was accepted, and whether it declares the keys that it writes, which a commit is
--- judged by; an ordinary read with its answer; or the end of a call of the prefix allocator on the subspace of this prefix,
--- which granted a number, and whose entries are those from this place of the script on
+-- what a transaction did: a write that was accepted, and whether it adds them to the write conflict ranges, which a commit is
+-- judged by; an ordinary read with its answer; or the end of a call of the prefix allocator on the subspace of this prefix, which
+-- granted a number, and whose entries are those from this place of the script on
 pub data Entry : Type 0 where
-  Wrote : (mutation : Mutation) (declares : Bool) → Entry
+  Wrote : (mutation : Mutation) (adds_conflict : Bool) → Entry
   HasRead : (read : Read) (answer : Answer) → Entry
   Granted : (space : List ℕ) (number from : ℕ) → Entry
 
@@ -26,7 +26,7 @@ Script = List Entry
 -- the mutations of a script, in their order
 abbrev pub written : Script → List Mutation
 written [] = []
-written (Wrote mutation declares ∷ script) = mutation ∷ written script
+written (Wrote mutation adds_conflict ∷ script) = mutation ∷ written script
 written (HasRead read answer ∷ script) = written script
 written (Granted space number from ∷ script) = written script
 
@@ -37,21 +37,21 @@ write_range (Clear key) = one key
 write_range (ClearRange begin end) = range_from begin end
 write_range (Atomic op key operand) = one key
 
--- the keys that the writes of a script declare, where this is the versionstamp of its commit
-abbrev pub declared_by : (stamp : List ℕ) → Script → List KeyRange
-declared_by stamp [] = []
-declared_by stamp (Wrote mutation true ∷ script) = write_range (filled stamp mutation) ∷ declared_by stamp script
-declared_by stamp (Wrote mutation false ∷ script) = declared_by stamp script
-declared_by stamp (HasRead read answer ∷ script) = declared_by stamp script
-declared_by stamp (Granted space number from ∷ script) = declared_by stamp script
+-- the write conflict ranges of a script, where this is the versionstamp of its commit
+abbrev pub write_conflicts_by : (stamp : List ℕ) → Script → List KeyRange
+write_conflicts_by stamp [] = []
+write_conflicts_by stamp (Wrote mutation true ∷ script) = write_range (filled stamp mutation) ∷ write_conflicts_by stamp script
+write_conflicts_by stamp (Wrote mutation false ∷ script) = write_conflicts_by stamp script
+write_conflicts_by stamp (HasRead read answer ∷ script) = write_conflicts_by stamp script
+write_conflicts_by stamp (Granted space number from ∷ script) = write_conflicts_by stamp script
 
--- the keys that they write without declaring them
-abbrev pub silent_by : (stamp : List ℕ) → Script → List KeyRange
-silent_by stamp [] = []
-silent_by stamp (Wrote mutation true ∷ script) = silent_by stamp script
-silent_by stamp (Wrote mutation false ∷ script) = write_range (filled stamp mutation) ∷ silent_by stamp script
-silent_by stamp (HasRead read answer ∷ script) = silent_by stamp script
-silent_by stamp (Granted space number from ∷ script) = silent_by stamp script
+-- the keys that they write without a write conflict range
+abbrev pub without_conflict_by : (stamp : List ℕ) → Script → List KeyRange
+without_conflict_by stamp [] = []
+without_conflict_by stamp (Wrote mutation true ∷ script) = without_conflict_by stamp script
+without_conflict_by stamp (Wrote mutation false ∷ script) = write_range (filled stamp mutation) ∷ without_conflict_by stamp script
+without_conflict_by stamp (HasRead read answer ∷ script) = without_conflict_by stamp script
+without_conflict_by stamp (Granted space number from ∷ script) = without_conflict_by stamp script
 
 -- ---- the history
 
@@ -63,10 +63,10 @@ pub record Commit : Type 0 where
   pub script : Script
   -- its mutations, each with the versionstamp of this commit
   pub mutations : List Mutation
-  -- the keys that it rests on, those that it declares to write, and those that it writes without declaring them
+  -- its read conflict ranges, its write conflict ranges, and what it writes without a write conflict range
   pub read_ranges : List KeyRange
-  pub declared : List KeyRange
-  pub silent : List KeyRange
+  pub write_conflicts : List KeyRange
+  pub without_conflict : List KeyRange
 
 -- the commits in order: the one at place n made version n + 1
 abbrev pub History : Type 0
@@ -90,15 +90,15 @@ set_of entry = Set entry.0 entry.1
 
 -- the first commit: the pairs of the input as sets, in the order of their lines, so that of two values of one key the later stays
 abbrev pub loaded : List (List ℕ × List ℕ) → Commit
-loaded pairs = record { version = 0; script = []; mutations = map set_of pairs; read_ranges = []; declared = []; silent = [] }
+loaded pairs = record { version = 0; script = []; mutations = map set_of pairs; read_ranges = []; write_conflicts = []; without_conflict = [] }
 
 -- the versionstamp of the commit that makes a version: the version as 8 bytes, the highest first, and 00 00
 unfoldable pub stamp_of : ℕ → List ℕ
 stamp_of version = reverse (little_bytes 8 version) ++ 0 ∷ 0 ∷ []
 
--- a commit after a version declares to write a key that these ranges have
+-- a commit after a version has a key of these ranges among its write conflict ranges
 abbrev pub conflicts : History → (version : ℕ) → (reads : List KeyRange) → Bool
-conflicts history version reads = list_any (λ commit. any_meet commit.declared reads) (drop version history)
+conflicts history version reads = list_any (λ commit. any_meet commit.write_conflicts reads) (drop version history)
 
 -- ---- what a call is made in
 

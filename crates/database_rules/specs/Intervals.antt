@@ -1,5 +1,5 @@
--- The keys that a read rests on, without those that the writes of its own transaction decide (API reference,
--- "Transaction": conflict ranges).
+-- The read conflict range of a read, without those that the writes of its own transaction decide (API reference, "Transaction":
+-- conflict ranges).
 use Rattle.std.specs.Prelude.{ℕ, zero, suc, ℤ, pos, negsuc, Bool, true, false, if◌then◌else◌, List, [], ◌∷◌, length, flat_map, nat_le, bytes_eq}
 use Rattle.std.specs.List.{list_any}
 use Rattle.key_bytes.specs.declared.range.KeyRange.{KeyRange}
@@ -80,7 +80,7 @@ slice_interval begin end limit backward pairs =
     then (if backward then range_from (last_key end pairs) end else range_from begin (after (last_key begin pairs)))
     else range_from begin end
 
--- the keys that a read rests on which is answered on this database
+-- the read conflict range of a read that is answered on this database
 abbrev pub interval : Read → Database → List KeyRange
 interval (Get key) database = one key ∷ []
 interval (GetKey selector) database = selector_interval selector (select database selector) ∷ []
@@ -93,6 +93,6 @@ interval (GetRange begin end limit backward) database =
     (slice database (select database begin) (select database end) limit backward)
     ∷ []
 
--- the keys that an ordinary read adds to those that its transaction rests on: of a database, after these mutations
+-- the keys that an ordinary read adds to the read conflict ranges of its transaction: of a database, after these mutations
 unfoldable pub added : Read → Database → List Mutation → List KeyRange
 added read database mutations = without (decided mutations) (interval read (seen mutations database))

@@ -1,18 +1,19 @@
--- The newest commit that declares to write a key, by which conflicts are found without going through the commits again.
+-- The newest commit with a key among its write conflict ranges, by which conflicts are found without going through the commits
+-- again.
 use Rattle.std.specs.Prelude.{◌≡◌, ℕ, ◌+◌, ◌≤◌, ◌⊎◌, IsTrue, if◌then◌else◌, List, [], ◌∷◌}
 use Rattle.key_bytes.specs.declared.range.KeyRange.{KeyRange}
 use Rattle.key_bytes.specs.Ranges.{has}
 use Rattle.database_rules.specs.States.{covers}
 use Rattle.database_rules.specs.Histories.{Commit, History}
 
--- the number of the last of these commits that declares to write a key, or what was the newest before them; the first of
--- them has this number
+-- the number of the last of these commits with a key among its write conflict ranges, or what was the newest before them; the first
+-- of them has this number
 abbrev pub newest_from : (number newest : ℕ) → List Commit → List ℕ → ℕ
 newest_from number newest [] key = newest
 newest_from number newest (commit ∷ commits) key =
-    newest_from (number + 1) (if covers commit.declared key then number else newest) commits key
+    newest_from (number + 1) (if covers commit.write_conflicts key then number else newest) commits key
 
--- the number, counted from 1, of the last commit that declares to write a key; 0 where none does
+-- the number, counted from 1, of the last commit with a key among its write conflict ranges; 0 where there is none
 abbrev pub newest_of : History → List ℕ → ℕ
 newest_of history key = newest_from 1 0 history key
 

@@ -15,7 +15,7 @@ use Rattle.database_rules.specs.Databases.{Database, Mutation, Set, Clear, Clear
 use Rattle.database_rules.specs.States.{has_room, seen, stamped, stamped_bytes, unreadable}
 use Rattle.database_rules.specs.Intervals.{any_meet, interval}
 use Rattle.database_rules.specs.Reads.{Read, Get, GetKey, GetKeyRange, GetRange, Answer}
-use Rattle.database_rules.specs.Histories.{Script, Wrote, HasRead, Granted, written, declared_by, conflicts, Setting, at, last}
+use Rattle.database_rules.specs.Histories.{Script, Wrote, HasRead, Granted, written, write_conflicts_by, conflicts, Setting, at, last}
 
 pub record Transaction : Type 0 where
   -- the number of its life
@@ -24,13 +24,13 @@ pub record Transaction : Type 0 where
   pub version : Option ℕ
   -- what it did in this life
   pub script : Script
-  -- the keys that it rests on: those of its ordinary reads, and those that it was told to rest on
+  -- its read conflict ranges: those of its ordinary reads, and those that were added to it
   pub read_ranges : List KeyRange
-  -- the keys that it was told to declare, beside those that its writes declare; none of these ranges is empty
+  -- the write conflict ranges that were added to it, beside those of its writes; none of them is empty
   pub write_ranges : List KeyRange
   pub size : ℕ
-  -- its next write declares nothing (API reference, "FDB_TR_OPTION_NEXT_WRITE_NO_WRITE_CONFLICT_RANGE")
-  pub is_silenced : Bool
+  -- its next write adds no write conflict range (API reference, "FDB_TR_OPTION_NEXT_WRITE_NO_WRITE_CONFLICT_RANGE")
+  pub skips_write_conflict : Bool
   pub phase : Phase
 
 -- a life before its first call
@@ -42,7 +42,7 @@ fresh life = record {
   read_ranges = [];
   write_ranges = [];
   size = 0;
-  is_silenced = false;
+  skips_write_conflict = false;
   phase = phase.Active;
 }
 
@@ -50,9 +50,9 @@ fresh life = record {
 abbrev pub writes_of : Transaction → List Mutation
 writes_of transaction = written transaction.script
 
--- the keys that its commit declares to write, where this is the commit's versionstamp
-abbrev pub declared_of : (stamp : List ℕ) → Transaction → List KeyRange
-declared_of stamp transaction = declared_by stamp transaction.script ++ transaction.write_ranges
+-- the write conflict ranges of its commit, where this is the commit's versionstamp
+abbrev pub write_conflicts_of : (stamp : List ℕ) → Transaction → List KeyRange
+write_conflicts_of stamp transaction = write_conflicts_by stamp transaction.script ++ transaction.write_ranges
 
 abbrev pub number_of : Code → ℕ
 number_of code = code.0
@@ -115,7 +115,7 @@ set_code phase key value = first_failing (after_phase phase (key_checks key valu
 unfoldable pub clear_code : Phase → List ℕ → Option ℕ
 clear_code phase key = first_failing (after_phase phase ((is_outside key, KEY_OUTSIDE_LEGAL_RANGE) ∷ []))
 
--- of a call with a range: a cleared one, or one that is told to be rested on or declared
+-- of a call with a range: a cleared one, or one that is added as a read or a write conflict range
 unfoldable pub range_code : Phase → List ℕ → List ℕ → Option ℕ
 range_code phase begin end = first_failing (after_phase phase
     ((is_end_outside begin || is_end_outside end, KEY_OUTSIDE_LEGAL_RANGE) ∷ (key_lt end begin, INVERTED_RANGE) ∷ []))
@@ -152,8 +152,7 @@ unfoldable pub set_version_code : Phase → (taken : Option ℕ) → ℤ → Opt
 set_version_code phase taken version = first_failing (after_phase phase
     ((is_some taken, READ_VERSION_ALREADY_SET) ∷ (not (is_positive version), VERSION_INVALID) ∷ []))
 
--- without a mutation, and without a range that it was told to declare, the commit is read-only: it succeeds and makes no
--- version
+-- without a mutation, and without a write conflict range that was added, the commit is read-only: it succeeds and makes no version
 abbrev pub is_read_only : Transaction → Bool
 is_read_only transaction = nat_lt (length (writes_of transaction)) 1 && nat_lt (length transaction.write_ranges) 1
 
@@ -183,7 +182,7 @@ is_ahead setting transaction = nat_lt (last setting.history) (version_in setting
 abbrev pub map_below : Setting → Transaction → Database
 map_below setting transaction = at setting.history (version_in setting transaction)
 
--- the read rests on a key that a mutation makes unreadable
+-- the read conflict range of the read has a key that a mutation makes unreadable
 abbrev pub is_hidden : Setting → Transaction → Read → Bool
 is_hidden setting transaction read = any_meet (interval read (view setting transaction)) (unreadable (writes_of transaction))
 
@@ -218,15 +217,15 @@ mutation_size (Clear key) = 2 * length key + 1
 mutation_size (ClearRange begin end) = length begin + length end
 mutation_size (Atomic op key operand) = length key + length operand
 
--- the transaction after an accepted write, which declares its keys unless it was told not to, once
+-- the transaction after an accepted write, which adds a write conflict range unless that was switched off for it
 abbrev pub with_mutation : Transaction → Mutation → Transaction
 with_mutation transaction mutation = record transaction {
-  script = transaction.script ++ Wrote mutation (not transaction.is_silenced) ∷ [];
+  script = transaction.script ++ Wrote mutation (not transaction.skips_write_conflict) ∷ [];
   size = grown transaction.size (mutation_size mutation);
-  is_silenced = false;
+  skips_write_conflict = false;
 }
 
--- ---- what it is told to rest on and to declare
+-- ---- read and write conflict ranges that are added to it
 
 abbrev pub range_size : KeyRange → ℕ
 range_size range = length range.begin + length range.end
@@ -247,13 +246,13 @@ with_write_range transaction range = record transaction {
   size = grown transaction.size (range_size range);
 }
 
-abbrev pub silenced : Transaction → Transaction
-silenced transaction = record transaction { is_silenced = true }
+abbrev pub with_write_conflict_disabled : Transaction → Transaction
+with_write_conflict_disabled transaction = record transaction { skips_write_conflict = true }
 
 -- ---- its commit
 
--- the checks of a commit at its version: it is above the last one, or a commit after it declares a key that the transaction
--- rests on
+-- the checks of a commit at its version: it is above the last one, or a commit after it has a key of the transaction's read
+-- conflict ranges among its write conflict ranges
 abbrev pub conflict_checks : Setting → Transaction → List (Bool × ℕ)
 conflict_checks setting transaction =
     (is_ahead setting transaction, FUTURE_VERSION)

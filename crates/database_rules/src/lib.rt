@@ -1,12 +1,11 @@
-//! The database in definitions alone: what a finite map is after mutations, what commits and histories are, what a
-//! transaction is, and which check of a call fails first.
+//! The database in definitions: what a finite map is after mutations, what commits and histories are, what a transaction is, and
+//! which check of a call fails first.
 //!
-//! Nothing here runs but a few types that definitions and code share. The crates above state their contracts by these
-//! words: `specs/Databases.antt` has the database and the mutations, `specs/Atomics.antt` the atomic operations,
-//! `specs/Reads.antt` the reads and their answers, by `specs/Selecting.antt` and `specs/Slices.antt`,
-//! `specs/Intervals.antt` the keys that a read rests on, `specs/Histories.antt` scripts, commits, conflicts and the
-//! history, `specs/States.antt` what mutations say of one key, and `specs/Transactions.antt` a transaction and the checks of
-//! its calls.
+//! `src/` has the types that definitions and code share, error codes and limits among them. The crates above state their contracts
+//! by these definitions: `specs/Databases.antt` has the database and the mutations, `specs/Atomics.antt` the atomic operations,
+//! `specs/Reads.antt` the reads and their answers, by `specs/Selecting.antt` and `specs/Slices.antt`, `specs/Intervals.antt` the
+//! read conflict range of a read, `specs/Histories.antt` scripts, commits, conflicts and the history, `specs/States.antt` what
+//! mutations say of one key, and `specs/Transactions.antt` a transaction and the checks of its calls.
 #![tactic(auto)]
 
 ghost use Rattle.std.specs.Prelude.{◌≡◌};
@@ -29,13 +28,13 @@ pub const SIZE_LIMIT: u64 = 10_000_000;
 /// A read version is above the last version.
 pub const FUTURE_VERSION: u16 = 1009;
 
-/// A commit after the read version declared a key that the transaction rests on.
+/// A commit after the read version wrote a key of the transaction's read conflict ranges.
 pub const NOT_COMMITTED: u16 = 1020;
 
 /// The life of the transaction was cancelled.
 pub const TRANSACTION_CANCELLED: u16 = 1025;
 
-/// A read rests on a key whose value isn't known until the commit.
+/// A read needs a key whose value isn't known until the commit.
 pub const ACCESSED_UNREADABLE: u16 = 1036;
 
 /// Stamped bytes have no room for a versionstamp.

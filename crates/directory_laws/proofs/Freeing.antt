@@ -69,7 +69,7 @@ clear_by setting t None snapshot read passed =
     let taken = with_version setting t in
     not_hidden setting taken snapshot read (is_ahead setting taken) (is_hidden setting taken read) passed
 
--- what it rests on may be read
+-- its read conflict range may be read
 rests_readable : (setting : Setting) (t : Transaction) (snapshot : Bool) (read : Read) (ranges : List KeyRange) (key : List ℕ)
     → refusal (act_called setting t (Reads read snapshot)).reply ≡ None → interval read (view setting t) ≡ ranges → covers ranges key ≡ true
     → Readable t key

@@ -10,13 +10,13 @@ use Rattle.database_rules.specs.Databases.{Mutation, Set, Clear, ClearRange, Ato
 use Rattle.database_rules.specs.Histories.{Script, Wrote, HasRead, Granted, Setting, written}
 use Rattle.database_rules.specs.Intervals.{one}
 use Rattle.database_rules.specs.Reads.{Read, Answer, answer}
-use Rattle.database_rules.specs.Transactions.{Transaction, view, version_in, with_version, with_read, first_failing, late_checks, read_code, set_code, clear_code, range_code, op_code, phase_code, silenced, with_write_range}
-use Rattle.database_rules.proofs.Declaring.{written-append}
+use Rattle.database_rules.specs.Transactions.{Transaction, view, version_in, with_version, with_read, first_failing, late_checks, read_code, set_code, clear_code, range_code, op_code, phase_code, with_write_conflict_disabled, with_write_range}
+use Rattle.database_rules.proofs.AddingConflicts.{written-append}
 use Rattle.key_bytes.specs.Keys.{after}
 use Rattle.fdb_calls.specs.declared.Reply.{Reply}
 use Rattle.fdb_calls.specs.declared.Reply.TheVariants as reply
 use Rattle.fdb_calls.specs.Calling.{read_by, read_at_version, write_by, does_by}
-use Rattle.allocator_rules.specs.Acts.{Act, Draws, Reads, Writes, Silences, Declares, Acted, act_called, all_acted, acted_by, refusal, words_of}
+use Rattle.allocator_rules.specs.Acts.{Act, Draws, Reads, Writes, DisablesWriteConflict, AddsWriteConflict, Acted, act_called, all_acted, acted_by, refusal, words_of}
 use Rattle.allocator_rules.specs.Granting.{Ending, Grants, IsFull, IsNoCounter, IsRefused, Allocated, allocated, noted, ended, plan}
 use Rattle.database_rules.specs.declared.Code.{Code}
 use Rattle.directory_rules.specs.Courses.{Course, Gives, Refuses, Asks, Does, Allocates, ◌>>=◌, Reached, reached_by, granted_by, run}
@@ -92,7 +92,7 @@ write_grown : (setting : Setting) (may : Mutation → Bool) (t : Transaction) (c
     → Grown setting may t (write_by code t mutation).transaction
 write_grown setting may t (Some code) mutation allowed = same_grown setting may t
 write_grown setting may t None mutation allowed = record {
-  more = Wrote mutation (not t.is_silenced) ∷ [];
+  more = Wrote mutation (not t.skips_write_conflict) ∷ [];
   is = refl;
   all = and_from (may mutation) true allowed refl;
   version = refl;
@@ -114,10 +114,10 @@ act_grown setting may t (Writes (ClearRange begin end)) allowed =
     write_grown setting may t (range_code t.phase begin end) (ClearRange begin end) allowed
 act_grown setting may t (Writes (Atomic op key operand)) allowed =
     write_grown setting may t (op_code t.phase op key operand) (Atomic op key operand) allowed
-act_grown setting may t Silences allowed =
-    does_grown setting may t (silenced t) (phase_code t.phase) reply.Done
+act_grown setting may t DisablesWriteConflict allowed =
+    does_grown setting may t (with_write_conflict_disabled t) (phase_code t.phase) reply.Done
     (record { more = []; is = sym (append-nil t.script); all = refl; version = refl })
-act_grown setting may t (Declares key) allowed =
+act_grown setting may t (AddsWriteConflict key) allowed =
     does_grown setting may t (with_write_range t (one key)) (range_code t.phase key (after key)) reply.Done
     (record { more = []; is = sym (append-nil t.script); all = refl; version = refl })
 

@@ -6,7 +6,7 @@ use Rattle.database_rules.specs.Databases.{Database, Mutation, Set, Clear, Clear
 use Rattle.database_rules.specs.Histories.{Setting}
 use Rattle.database_rules.specs.States.{covers, unreadable, seen}
 use Rattle.database_rules.specs.Transactions.{Transaction, view, writes_of, map_below, set_code, clear_code, range_code, op_code}
-use Rattle.database_rules.proofs.Declaring.{written_wrote}
+use Rattle.database_rules.proofs.AddingConflicts.{written_wrote}
 use Rattle.fdb_calls.specs.Calling.{write_by}
 use Rattle.allocator_rules.specs.Acts.{Writes, act_called, refusal}
 use Rattle.allocator_rules.proofs.Viewing.{get-seen, get-seen_more, itself}
@@ -30,7 +30,7 @@ wrote_by : (setting : Setting) (t : Transaction) (code : Option ℕ) (mutation :
     → view setting (write_by code t mutation).transaction ≡ seen (writes_of t ++ mutation ∷ []) (map_below setting t)
 wrote_by setting t (Some code) mutation passed = absurd cc
 wrote_by setting t None mutation passed =
-    ap (λ writes. seen writes (map_below setting t)) (written_wrote t.script mutation (not t.is_silenced))
+    ap (λ writes. seen writes (map_below setting t)) (written_wrote t.script mutation (not t.skips_write_conflict))
 
 -- what is seen after a write that was let through
 pub wrote : (setting : Setting) (t : Transaction) (mutation : Mutation) → refusal (act_called setting t (Writes mutation)).reply ≡ None

@@ -11,7 +11,7 @@ use Rattle.database_rules.specs.Histories.{Setting, written, at}
 use Rattle.database_rules.specs.KeyByKey.{made_of, at_keys, is_plain}
 use Rattle.database_rules.specs.States.{touches, covers, unreadable, seen}
 use Rattle.database_rules.specs.Transactions.{Transaction, view, writes_of, map_below}
-use Rattle.database_rules.proofs.Declaring.{written-append}
+use Rattle.database_rules.proofs.AddingConflicts.{written-append}
 use Rattle.database_rules.proofs.Filling.{plain_readable}
 use Rattle.database_rules.proofs.KeyByKey.{get-do_all, at_keys-append}
 use Rattle.database_rules.proofs.States.{covers-unreadable-append}

@@ -1,9 +1,8 @@
-//! Directories in definitions alone: what each call of a directory layer does to its transaction, step by step, and what it
-//! answers.
+//! Directories in definitions: what each call of a directory layer does to its transaction, step by step, and what it answers.
 //!
-//! Nothing here runs. `specs/Courses.antt` has a call's steps as a tree, and what a tree makes of a transaction, each step by
-//! the calls' own definitions; `specs/Nodes.antt` the keys of a layer and what they say; `specs/Steps.antt` the steps that
-//! calls share; and `specs/Calls.antt` each call. The types are those that these steps speak of.
+//! `specs/Courses.antt` has a call's steps as a tree, and what a tree makes of a transaction, each step by the calls' own
+//! definitions; `specs/Nodes.antt` the keys of a layer and what they say; `specs/Steps.antt` the steps that calls share; and
+//! `specs/Calls.antt` each call. The types are those that these steps speak of.
 #![tactic(auto)]
 
 use fdb_tuple::Text;

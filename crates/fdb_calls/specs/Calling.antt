@@ -14,10 +14,10 @@ use Rattle.database_rules.specs.Intervals.{added}
 use Rattle.database_rules.specs.Modes.{lacks_limit}
 use Rattle.database_rules.specs.Reads as read
 use Rattle.database_rules.specs.Reads.{Read, Answer, answer}
-use Rattle.database_rules.specs.Histories.{Setting, Commit, last, silent_by, stamp_of}
-use Rattle.database_rules.specs.Transactions.{Transaction, fresh, writes_of, declared_of, is_read_only, is_cancelled, is_retryable, version_made}
+use Rattle.database_rules.specs.Histories.{Setting, Commit, last, without_conflict_by, stamp_of}
+use Rattle.database_rules.specs.Transactions.{Transaction, fresh, writes_of, write_conflicts_of, is_read_only, is_cancelled, is_retryable, version_made}
 use Rattle.database_rules.specs.Transactions.{first_failing, phase_code, read_code, set_code, clear_code, range_code, op_code, atomic_code, set_version_code, commit_code}
-use Rattle.database_rules.specs.Transactions.{version_in, map_below, view, late_checks, conflict_checks, with_version, with_read, with_mutation, with_read_range, with_write_range, silenced, with_phase, cancelled}
+use Rattle.database_rules.specs.Transactions.{version_in, map_below, view, late_checks, conflict_checks, with_version, with_read, with_mutation, with_read_range, with_write_range, with_write_conflict_disabled, with_phase, cancelled}
 use Rattle.fdb_calls.specs.declared.TxnCall.{TxnCall}
 use Rattle.fdb_calls.specs.declared.TxnCall.TheVariants as call
 use Rattle.fdb_calls.specs.declared.Reply.{Reply}
@@ -83,8 +83,8 @@ commit_of stamp setting transaction = record {
   script = transaction.script;
   mutations = all_filled stamp (writes_of transaction);
   read_ranges = transaction.read_ranges;
-  declared = declared_of stamp transaction;
-  silent = silent_by stamp transaction.script;
+  write_conflicts = write_conflicts_of stamp transaction;
+  without_conflict = without_conflict_by stamp transaction.script;
 }
 
 -- a commit that is not read-only makes the next version
@@ -167,7 +167,7 @@ write_conflict_called transaction range =
     does_by (range_code transaction.phase range.begin range.end) transaction (with_write_range transaction range) reply.Done
 
 abbrev pub no_write_conflict_called : Transaction → Called
-no_write_conflict_called transaction = does_by (phase_code transaction.phase) transaction (silenced transaction) reply.Done
+no_write_conflict_called transaction = does_by (phase_code transaction.phase) transaction (with_write_conflict_disabled transaction) reply.Done
 
 -- the version is answered also where it is above the last one
 abbrev pub read_version_called : Setting → Transaction → Called

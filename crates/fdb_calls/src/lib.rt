@@ -68,15 +68,15 @@ pub enum TxnCall {
         key: Key,
         operand: Bytes,
     },
-    /// Lets the commit rest on the keys of a range, as if they had been read (`fdb_transaction_add_conflict_range`).
+    /// Adds a read conflict range, as if its keys had been read (`fdb_transaction_add_conflict_range`).
     ReadConflict {
         range: KeyRange,
     },
-    /// Lets the commit declare the keys of a range, as if they were written (`fdb_transaction_add_conflict_range`).
+    /// Adds a write conflict range, as if its keys were written (`fdb_transaction_add_conflict_range`).
     WriteConflict {
         range: KeyRange,
     },
-    /// Lets the next write declare nothing (`FDB_TR_OPTION_NEXT_WRITE_NO_WRITE_CONFLICT_RANGE`).
+    /// Lets the next write add no write conflict range (`FDB_TR_OPTION_NEXT_WRITE_NO_WRITE_CONFLICT_RANGE`).
     NoWriteConflict,
     /// Takes the read version (`fdb_transaction_get_read_version`).
     ReadVersion,

@@ -29,8 +29,8 @@ pub trait Tr {
     // it is still over the same transaction, and the same of whatever else it reads and is judged by
     ghost same: { Self → Self → Type 0 };
 
-    /// Returns the value of `key` that the transaction sees (`fdb_transaction_get`). A read by snapshot has the
-    /// same answer, and adds nothing to the keys that the transaction rests on.
+    /// Returns the value of `key` that the transaction sees (`fdb_transaction_get`). A read by snapshot has the same answer, and
+    /// adds no read conflict range.
     fn get(&mut self, key: &[u8], snapshot: bool) -> Result<Option<Bytes>, TrFault>
         ensures answer { (setting : Setting) (t : Transaction) → stands self.old setting t
             → Answered reply.Value result (stands self.new setting) t (read_called setting t false snapshot (read.Get key.now)) }
@@ -77,7 +77,7 @@ pub trait Tr {
             → Answered (λ _. reply.Done) result (stands self.new setting) t (atomic_called t op key.now operand.now) }
         ensures same { same self.old self.new };
 
-    /// Lets the next write declare nothing (`FDB_TR_OPTION_NEXT_WRITE_NO_WRITE_CONFLICT_RANGE`).
+    /// Lets the next write add no write conflict range (`FDB_TR_OPTION_NEXT_WRITE_NO_WRITE_CONFLICT_RANGE`).
     fn no_write_conflict(&mut self) -> Result<(), TrFault>
         ensures answer { (setting : Setting) (t : Transaction) → stands self.old setting t
             → Answered (λ _. reply.Done) result (stands self.new setting) t (no_write_conflict_called t) }

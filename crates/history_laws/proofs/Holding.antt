@@ -13,8 +13,8 @@ use Rattle.database_rules.specs.Intervals.{added}
 use Rattle.database_rules.specs.Reads.{Read, Answer, answer}
 use Rattle.key_bytes.specs.Ranges.{has}
 use Rattle.database_rules.specs.States.{covers, seen}
-use Rattle.database_rules.specs.Transactions.{Transaction, fresh, writes_of, version_in, view, map_below, is_tried, with_version, with_read, with_mutation, with_range, with_read_range, with_write_range, with_phase, with_granted, silenced, cancelled}
-use Rattle.database_rules.proofs.Declaring.{written_wrote, written_read, written_granted}
+use Rattle.database_rules.specs.Transactions.{Transaction, fresh, writes_of, version_in, view, map_below, is_tried, with_version, with_read, with_mutation, with_range, with_read_range, with_write_range, with_phase, with_granted, with_write_conflict_disabled, cancelled}
+use Rattle.database_rules.proofs.AddingConflicts.{written_wrote, written_read, written_granted}
 use Rattle.database_rules.proofs.Ranges.{covers_with_range}
 use Rattle.database_rules.proofs.States.{covers-append}
 use Rattle.history_laws.specs.Small.{is_small, are_small}
@@ -29,7 +29,7 @@ pub each_weaker : {P Q : List Mutation → Read → Answer → Type 0} (before :
     → ((writes : List Mutation) (read : Read) (given : Answer) → P writes read given → Q writes read given)
     → EachRead P before script → EachRead Q before script
 each_weaker before [] weaker each = tt
-each_weaker before (Wrote mutation declares ∷ script) weaker each = each_weaker (before ++ mutation ∷ []) script weaker each
+each_weaker before (Wrote mutation adds_conflict ∷ script) weaker each = each_weaker (before ++ mutation ∷ []) script weaker each
 each_weaker before (HasRead read given ∷ script) weaker each =
     (weaker before read given each.0, each_weaker before script weaker each.1)
 each_weaker before (Granted space number from ∷ script) weaker each = each_weaker before script weaker each
@@ -38,7 +38,7 @@ each_weaker before (Granted space number from ∷ script) weaker each = each_wea
 pub each-append : (P : List Mutation → Read → Answer → Type 0) (before : List Mutation) (first second : Script)
     → EachRead P before first → EachRead P (before ++ written first) second → EachRead P before (first ++ second)
 each-append P before [] second each other = subst (λ writes. EachRead P writes second) (append-nil before) other
-each-append P before (Wrote mutation declares ∷ first) second each other =
+each-append P before (Wrote mutation adds_conflict ∷ first) second each other =
     each-append P (before ++ mutation ∷ []) first second each
     (subst (λ writes. EachRead P writes second) (sym (append_assoc before (mutation ∷ []) (written first))) other)
 each-append P before (HasRead read given ∷ first) second each other = (each.0, each-append P before first second each.1 other)
@@ -63,7 +63,7 @@ answered_later before more (Some version) rests writes read given answered =
       small = answered.small;
     }
 
--- and where more is rested on
+-- and where there are more read conflict ranges
 answered_wider : (before : History) (version : Option ℕ) (rests others : List KeyRange)
     → ((key : List ℕ) → covers rests key ≡ true → covers others key ≡ true)
     → (writes : List Mutation) (read : Read) (given : Answer)
@@ -133,8 +133,8 @@ pub mutation_held : (before : History) (transaction : Transaction) (mutation : M
     → IsHeld before transaction → IsHeld before (with_mutation transaction mutation)
 mutation_held before transaction mutation small held = record {
   answered = each-append (IsAnsweredAt before transaction.version transaction.read_ranges) [] transaction.script
-      (Wrote mutation (not transaction.is_silenced) ∷ []) held.answered tt;
-  small = ap are_small (written_wrote transaction.script mutation (not transaction.is_silenced))
+      (Wrote mutation (not transaction.skips_write_conflict) ∷ []) held.answered tt;
+  small = ap are_small (written_wrote transaction.script mutation (not transaction.skips_write_conflict))
       ∙ are_small-append (writes_of transaction) (mutation ∷ [])
       ∙ and_from (are_small (writes_of transaction)) (are_small (mutation ∷ [])) held.small (and_from (is_small mutation) true small refl);
   from_one = held.from_one;
@@ -177,7 +177,7 @@ read_held setting transaction false read taken held =
       from_one = held.from_one;
     }
 
--- it is told to rest on a range
+-- a read conflict range is added to it
 pub read_range_held : (before : History) (transaction : Transaction) (range : KeyRange) → IsHeld before transaction
     → IsHeld before (with_read_range transaction range)
 read_range_held before transaction range held =
@@ -188,14 +188,14 @@ read_range_held before transaction range held =
       from_one = held.from_one;
     }
 
--- what is held does not speak of the keys that it was told to declare, nor of the size
+-- what is held does not speak of the write conflict ranges that were added to it, nor of the size
 pub write_range_held : (before : History) (transaction : Transaction) (range : KeyRange) → IsHeld before transaction
     → IsHeld before (with_write_range transaction range)
 write_range_held before transaction range held = record { answered = held.answered; small = held.small; from_one = held.from_one }
 
--- nor of whether its next write declares
-pub silenced_held : (before : History) (transaction : Transaction) → IsHeld before transaction → IsHeld before (silenced transaction)
-silenced_held before transaction held = record { answered = held.answered; small = held.small; from_one = held.from_one }
+-- nor of whether its next write adds a write conflict range
+pub write_conflict_disabled_held : (before : History) (transaction : Transaction) → IsHeld before transaction → IsHeld before (with_write_conflict_disabled transaction)
+write_conflict_disabled_held before transaction held = record { answered = held.answered; small = held.small; from_one = held.from_one }
 
 -- nor of its phase
 pub phase_held : (before : History) (transaction : Transaction) (phase : Phase) → IsHeld before transaction

@@ -115,7 +115,7 @@ each_whole : (first : Commit) (done : List Commit) (commit : Commit) (before : L
     → EachRead (IsAnswered (first ∷ done) commit.version commit.read_ranges) before script
     → EachRead (λ writes read given. given ≡ answer read (seen writes (after_commits (first ∷ done) finite.empty))) before script
 each_whole first done commit before [] stands judged none answered = tt
-each_whole first done commit before (Wrote mutation declares ∷ script) stands judged none answered =
+each_whole first done commit before (Wrote mutation adds_conflict ∷ script) stands judged none answered =
     each_whole first done commit (before ++ mutation ∷ []) script stands judged none answered
 each_whole first done commit before (HasRead read given ∷ script) stands judged none answered = (
   read_whole first done commit before read given stands judged none answered.0,
@@ -124,7 +124,7 @@ each_whole first done commit before (HasRead read given ∷ script) stands judge
 each_whole first done commit before (Granted space number from ∷ script) stands judged none answered =
     each_whole first done commit before script stands judged none answered
 
--- a commit gets its reads run whole, or a silent write fell between
+-- a commit gets its reads run whole, or a write without a write conflict range fell between
 commit_legal : (first : Commit) (done : List Commit) (commit : Commit) → StandsBefore first done → IsSound (first ∷ done) commit
     → RunsWhole (after_commits (first ∷ done) finite.empty) commit.script ⊎ IsTrue (fell_between (first ∷ done) commit)
 commit_legal first done commit stands sound = by (fell_between (first ∷ done) commit) refl

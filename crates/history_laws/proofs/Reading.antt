@@ -1,4 +1,4 @@
--- The answer of a read rests on its interval alone, and so does the interval.
+-- The answer of a read depends on its interval alone, and so does the interval.
 use Rattle.std.proofs.Common.{◌≡◌, ℕ, Bool, not, List, [], ◌∷◌, refl, sym, ap, ◌∙◌}
 use Rattle.std.specs.FinMap as finite
 use Rattle.std.proofs.lemmas.Bool.{and_from, or_left, or_right}
@@ -35,7 +35,8 @@ module _ (m n : Database) where
       agree key (covers_single (one key) key ∙ and_from (key_le key key) (key_lt key (after key)) (ap not (irreflexive key)) (below_after key))
 
 module _ (m n : Database) (small : IsBelowTop m) (small_other : IsBelowTop n) where
-  -- a range between selectors: each selector's key rests on its own interval, and the slice between these keys on that of the slice
+  -- a range between selectors: each selector's key depends on its own interval, and the slice between these keys on that of the
+  -- slice
   pub range_local : (begin end : Selector) (limit : ℕ) (backward : Bool) → AgreeOn (interval (GetRange begin end limit backward) m) m n
       → (answer (GetRange begin end limit backward) m ≡ answer (GetRange begin end limit backward) n)
       × (interval (GetRange begin end limit backward) m ≡ interval (GetRange begin end limit backward) n)
@@ -67,8 +68,8 @@ module _ (m n : Database) (small : IsBelowTop m) (small_other : IsBelowTop n) wh
           (agree_rest m n (selector_interval end (select m end)) (pairs_rest_on ∷ []) rest)
           ∙ (λ j. slice n (first j) (second j) limit backward)
 
--- Two databases with keys below FF alone that have the same of each key that a read rests on answer it alike, and it rests on
--- the same keys of both.
+-- Two databases with keys below FF alone that have the same of each key of a read's conflict range answer it alike, and it has the
+-- same keys of both.
 pub read_local : (read : Read) (m n : Database) → IsBelowTop m → IsBelowTop n → AgreeOn (interval read m) m n
     → (answer read m ≡ answer read n) × (interval read m ≡ interval read n)
 unfolding answer

@@ -28,39 +28,39 @@ reader = record {
   script = HasRead (Get k) (ValueIs (Some (digit 48))) ∷ Wrote (Set k (digit 49)) true ∷ [];
   mutations = Set k (digit 49) ∷ [];
   read_ranges = one k ∷ [];
-  declared = one k ∷ [];
-  silent = [];
+  write_conflicts = one k ∷ [];
+  without_conflict = [];
 }
 
--- another set 2 without declaring it
-abbrev silent_writer : Commit
-silent_writer = record {
+-- another set 2 without a write conflict range
+abbrev without_conflict_writer : Commit
+without_conflict_writer = record {
   version = 1;
   script = Wrote (Set k (digit 50)) false ∷ [];
   mutations = Set k (digit 50) ∷ [];
   read_ranges = [];
-  declared = [];
-  silent = one k ∷ [];
+  write_conflicts = [];
+  without_conflict = one k ∷ [];
 }
 
 -- where the reader's like came first, a second one of the same version conflicts
 second_conflicts : conflicts (first ∷ reader ∷ []) 1 (one k ∷ []) ≡ true
 second_conflicts = refl
 
--- where the silent one came first, the reader doesn't conflict
-silent_conflicts_not : conflicts (first ∷ silent_writer ∷ []) 1 (one k ∷ []) ≡ false
-silent_conflicts_not = refl
+-- where the one without a write conflict range came first, the reader doesn't conflict
+without_conflict_conflicts_not : conflicts (first ∷ without_conflict_writer ∷ []) 1 (one k ∷ []) ≡ false
+without_conflict_conflicts_not = refl
 
 -- but it fell between, and that history is legal by the exception
-silent_fell : fell_between (first ∷ silent_writer ∷ []) reader ≡ true
-silent_fell = refl
+without_conflict_fell : fell_between (first ∷ without_conflict_writer ∷ []) reader ≡ true
+without_conflict_fell = refl
 
-silent_legal : IsOneLegalHistory (first ∷ silent_writer ∷ reader ∷ [])
-silent_legal = record { legal = (inl tt, (inl tt, (inr refl, tt))); last_is = refl }
+without_conflict_legal : IsOneLegalHistory (first ∷ without_conflict_writer ∷ reader ∷ [])
+without_conflict_legal = record { legal = (inl tt, (inl tt, (inr refl, tt))); last_is = refl }
 
 -- its read isn't the one that it has run whole: there k has 2
-silent_not_whole : answer (Get k) (seen [] (after_commits (first ∷ silent_writer ∷ []) finite.empty)) ≡ ValueIs (Some (digit 50))
+without_conflict_not_whole : answer (Get k) (seen [] (after_commits (first ∷ without_conflict_writer ∷ []) finite.empty)) ≡ ValueIs (Some (digit 50))
 unfolding answer
-silent_not_whole =
-    ap ValueIs (get-seen [] (after_commits (first ∷ silent_writer ∷ []) finite.empty) k
+without_conflict_not_whole =
+    ap ValueIs (get-seen [] (after_commits (first ∷ without_conflict_writer ∷ []) finite.empty) k
     ∙ finite.get-insert nat_list_cmp_total (after_commits (first ∷ []) finite.empty) k (digit 50) k)

@@ -1,4 +1,4 @@
--- A selector is a slice from its place, so its key rests on its interval alone.
+-- A selector is a slice from its place, so its key depends on its interval alone.
 use Rattle.std.proofs.Common.{◌≡◌, ℕ, zero, suc, ◌<◌, ◌≤◌, ◌⊎◌, inl, inr, Bool, true, false, cond, not, ◌&&◌, List, [], ◌∷◌, length, take, get_or, Option, None, Some, refl, sym, ap, subst, ◌∙◌, arith}
 use Rattle.std.specs.Prelude.{ℤ, pos, negsuc, neg_ℤ, nat_le, bytes_eq, is_some}
 use Rattle.std.specs.FinMap as finite
@@ -18,7 +18,7 @@ use Rattle.database_rules.specs.Selecting.{select}
 use Rattle.database_rules.specs.Slices.{Entries, turned, slice}
 use Rattle.database_rules.specs.States.{range_from}
 use Rattle.database_rules.proofs.Ranges.{lt_lesser}
-use Rattle.range_read.proofs.Selectors.{law_up, law_down}
+use Rattle.range_read.proofs.Selectors.{law_up, law_backward}
 use Rattle.history_laws.specs.Held.{AgreeOn}
 use Rattle.history_laws.specs.Small.{IsBelowTop}
 use Rattle.history_laws.proofs.Maps.{chosen, alike_chosen}
@@ -94,7 +94,7 @@ module _ (m : Database) (s : Selector) (small : IsBelowTop m) where
       ∙ ap (λ es. get_or (keys_of (turned true es)) i [])
       (alike_chosen m (within [] (lesser (start_of s) top)) (λ k. key_lt k (start_of s)) alike)
       ∙ ap (λ es. get_or (keys_of es) i []) (sym (chosen-turned (λ k. key_lt k (start_of s)) true (finite.entries m)))
-      ∙ law_down m s i is)
+      ∙ law_backward m s i is)
     where
       alike : (k : List ℕ)
           → cond (within [] (lesser (start_of s) top) k) (finite.get m k) None ≡ cond (key_lt k (start_of s)) (finite.get m k) None
@@ -140,16 +140,16 @@ module _ (m : Database) (s : Selector) where
           (reached_inside n inside reached))).1
 
 -- an offset of 0 or below doesn't count up
-counts_down : (i : ℕ) → counts_up (neg_ℤ (pos i)) ≡ false
-counts_down zero = refl
-counts_down (suc i) = refl
+counts_backward : (i : ℕ) → counts_up (neg_ℤ (pos i)) ≡ false
+counts_backward zero = refl
+counts_backward (suc i) = refl
 
 -- the interval of a selector that counts down is that of the slice
 down_interval : (s : Selector) (i : ℕ) (got : Entries) → s.offset ≡ neg_ℤ (pos i)
     → selector_interval s (picked [] (suc i) got) ≡ slice_interval [] (lesser (start_of s) top) (suc i) true got
 down_interval s i got is =
     ap (λ b. cond b (range_from (start_of s) (end_at (picked [] (suc i) got))) (range_from (picked [] (suc i) got) (lesser (start_of s) top)))
-    (ap counts_up is ∙ counts_down i)
+    (ap counts_up is ∙ counts_backward i)
     ∙ elim (nat_le (suc i) (length got))
     as (λ b. nat_le (suc i) (length got) ≡ b → range_from (cond b (last_key [] got) []) (lesser (start_of s) top)
     ≡ cond b (range_from (last_key (lesser (start_of s) top) got) (lesser (start_of s) top)) (range_from [] (lesser (start_of s) top))) [
@@ -157,7 +157,7 @@ down_interval s i got is =
       | false ↦ λ all. refl
     ] refl
 
--- ---- its key rests on its interval
+-- ---- its key depends on its interval
 
 -- an offset counts up, or down
 which_way : (z : ℤ) → ((n : ℕ) × (z ≡ pos (suc n))) ⊎ ((i : ℕ) × (z ≡ neg_ℤ (pos i)))
@@ -175,11 +175,11 @@ module _ (m n : Database) (s : Selector) (small : IsBelowTop m) (small_other : I
         (subst (λ range. AgreeOn (range ∷ []) m n)
         (ap (selector_interval s) (up_is_slice m s small up.0 up.1) ∙ up_interval m s up.0 up.1) agree))
         ∙ sym (up_is_slice n s small_other up.0 up.1)
-    | inr down ↦
-        down_is_slice m s small down.0 down.1
-        ∙ ap (picked [] (suc down.0)) (slice_local m n [] (lesser (start_of s) top) (suc down.0) true
+    | inr backward ↦
+        down_is_slice m s small backward.0 backward.1
+        ∙ ap (picked [] (suc backward.0)) (slice_local m n [] (lesser (start_of s) top) (suc backward.0) true
         (subst (λ range. AgreeOn (range ∷ []) m n)
-        (ap (selector_interval s) (down_is_slice m s small down.0 down.1)
-        ∙ down_interval s down.0 (slice m [] (lesser (start_of s) top) (suc down.0) true) down.1) agree))
-        ∙ sym (down_is_slice n s small_other down.0 down.1)
+        (ap (selector_interval s) (down_is_slice m s small backward.0 backward.1)
+        ∙ down_interval s backward.0 (slice m [] (lesser (start_of s) top) (suc backward.0) true) backward.1) agree))
+        ∙ sym (down_is_slice n s small_other backward.0 backward.1)
   ]

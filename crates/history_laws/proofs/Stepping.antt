@@ -11,24 +11,24 @@ use Rattle.database_rules.specs.declared.Phase.TheVariants as phase
 use Rattle.database_rules.specs.declared.Tried.TheVariants as tried
 use Rattle.database_rules.specs.Atomics.{atomic_named}
 use Rattle.database_rules.specs.Databases.{Mutation, Set, Clear, ClearRange, Atomic}
-use Rattle.database_rules.specs.Histories.{History, Setting, conflicts, declared_by, last, silent_by, stamp_of}
+use Rattle.database_rules.specs.Histories.{History, Setting, conflicts, write_conflicts_by, last, without_conflict_by, stamp_of}
 use Rattle.database_rules.specs.Modes.{lacks_limit}
 use Rattle.database_rules.specs.Reads.{Read}
 use Rattle.database_rules.specs.Reads as read
 use Rattle.database_rules.specs.States.{covers}
-use Rattle.database_rules.specs.Transactions.{Transaction, writes_of, after_phase, is_read_only, is_cancelled, is_positive, is_retryable, first_failing, read_code, set_code, clear_code, range_code, op_code, atomic_code, named_checks, phase_code, set_version_code, commit_code, conflict_checks, late_checks, version_in, is_ahead, is_hidden, is_tried, with_version, with_mutation, with_phase, with_write_range, with_read_range, silenced, cancelled}
+use Rattle.database_rules.specs.Transactions.{Transaction, writes_of, after_phase, is_read_only, is_cancelled, is_positive, is_retryable, first_failing, read_code, set_code, clear_code, range_code, op_code, atomic_code, named_checks, phase_code, set_version_code, commit_code, conflict_checks, late_checks, version_in, is_ahead, is_hidden, is_tried, with_version, with_mutation, with_phase, with_write_range, with_read_range, with_write_conflict_disabled, cancelled}
 use Rattle.database_rules.proofs.States.{covers-append}
 use Rattle.fdb_calls.specs.declared.Reply.{Reply}
 use Rattle.fdb_calls.specs.declared.TxnCall.{TxnCall}
 use Rattle.fdb_calls.specs.declared.TxnCall.TheVariants as call
 use Rattle.fdb_calls.specs.Calling.{Called, called, answers, code_of, reset, named_atomic_called, set_read_version_called, is_fault, in_turn, logs, next_version, set_called, read_by, read_at_version, read_called, write_by, atomic_by, does_by, commit_of, commit_by, commit_allowed, commit_at_version, commit_refused, on_error_by, error_handled}
 use Rattle.database_rules.specs.Intervals.{one}
-use Rattle.allocator_rules.specs.Acts.{Act, Draws, Reads, Writes, Silences, Declares, act_called, write_called}
+use Rattle.allocator_rules.specs.Acts.{Act, Draws, Reads, Writes, DisablesWriteConflict, AddsWriteConflict, act_called, write_called}
 use Rattle.history_laws.specs.Small.{is_small}
 use Rattle.history_laws.specs.Held.{IsGood, IsHeld, IsSound}
 use Rattle.history_laws.proofs.Smallness.{set_small, op_small, filled_small}
 use Rattle.history_laws.proofs.Unmet.{written_covered}
-use Rattle.history_laws.proofs.Holding.{fresh_held, version_held, set_version_held, mutation_held, read_held, read_range_held, write_range_held, silenced_held, phase_held, cancelled_held}
+use Rattle.history_laws.proofs.Holding.{fresh_held, version_held, set_version_held, mutation_held, read_held, read_range_held, write_range_held, write_conflict_disabled_held, phase_held, cancelled_held}
 
 -- ---- checks that passed
 
@@ -173,24 +173,24 @@ commit_sound : (setting : Setting) (transaction : Transaction) → last setting.
     → IsSound setting.history (commit_of (stamp_of (next_version setting)) setting (with_version setting transaction))
 commit_sound setting transaction few none held =
     let stamp = stamp_of (next_version setting) in
-    let silent = silent_by stamp transaction.script in
-    let own = declared_by stamp transaction.script in
+    let without_conflict = without_conflict_by stamp transaction.script in
+    let own = write_conflicts_by stamp transaction.script in
     let conflict : Bool × ℕ = (conflicts setting.history (version_in setting transaction) transaction.read_ranges, NOT_COMMITTED) in record {
       answered = held.answered;
-      ranged = λ key touched. covers-append (own ++ transaction.write_ranges) silent key
-          ∙ by_either own transaction.write_ranges silent key
-          (sym (covers-append own silent key) ∙ written_covered stamp transaction.script key touched);
+      ranged = λ key touched. covers-append (own ++ transaction.write_ranges) without_conflict key
+          ∙ by_either own transaction.write_ranges without_conflict key
+          (sym (covers-append own without_conflict key) ∙ written_covered stamp transaction.script key touched);
       judged = (passed conflict [] (passed (is_ahead setting (with_version setting transaction), FUTURE_VERSION) (conflict ∷ []) none).1).0;
       small = filled_small (next_version setting) (writes_of transaction) few held.small;
     }
   where
-    by_either : (own told silent : List KeyRange) (key : List ℕ) → (covers own key || covers silent key) ≡ true
-        → (covers (own ++ told) key || covers silent key) ≡ true
-    by_either own told silent key either =
-        elim (or_cases (covers own key) (covers silent key) either) [
-          | inl first ↦ or_left (covers (own ++ told) key) (covers silent key)
+    by_either : (own told without_conflict : List KeyRange) (key : List ℕ) → (covers own key || covers without_conflict key) ≡ true
+        → (covers (own ++ told) key || covers without_conflict key) ≡ true
+    by_either own told without_conflict key either =
+        elim (or_cases (covers own key) (covers without_conflict key) either) [
+          | inl first ↦ or_left (covers (own ++ told) key) (covers without_conflict key)
               (covers-append own told key ∙ or_left (covers own key) (covers told key) first)
-          | inr second ↦ or_right (covers (own ++ told) key) (covers silent key) second
+          | inr second ↦ or_right (covers (own ++ told) key) (covers without_conflict key) second
         ]
 
 -- a commit that is refused
@@ -262,8 +262,8 @@ called_good setting life transaction (call.WriteConflict range) some few held =
     does_good setting.history (range_code transaction.phase range.begin range.end) transaction (with_write_range transaction range) _ held
     (λ none. write_range_held setting.history transaction range held)
 called_good setting life transaction call.NoWriteConflict some few held =
-    does_good setting.history (phase_code transaction.phase) transaction (silenced transaction) _ held
-    (λ none. silenced_held setting.history transaction held)
+    does_good setting.history (phase_code transaction.phase) transaction (with_write_conflict_disabled transaction) _ held
+    (λ none. write_conflict_disabled_held setting.history transaction held)
 called_good setting life transaction call.ReadVersion some few held =
     does_good setting.history (phase_code transaction.phase) transaction (with_version setting transaction) _ held
     (λ none. version_held setting transaction some held)
@@ -299,10 +299,10 @@ pub act_good : (setting : Setting) (transaction : Transaction) (act : Act) → 1
 act_good setting transaction Draws some held = answers_good setting.history transaction _ held
 act_good setting transaction (Reads read snapshot) some held = read_good setting transaction false snapshot read some held
 act_good setting transaction (Writes mutation) some held = written_good setting.history transaction mutation held
-act_good setting transaction Silences some held =
-    does_good setting.history (phase_code transaction.phase) transaction (silenced transaction) _ held
-    (λ none. silenced_held setting.history transaction held)
-act_good setting transaction (Declares key) some held =
+act_good setting transaction DisablesWriteConflict some held =
+    does_good setting.history (phase_code transaction.phase) transaction (with_write_conflict_disabled transaction) _ held
+    (λ none. write_conflict_disabled_held setting.history transaction held)
+act_good setting transaction (AddsWriteConflict key) some held =
     does_good setting.history (range_code transaction.phase (one key).begin (one key).end) transaction (with_write_range transaction (one key)) _ held
     (λ none. write_range_held setting.history transaction (one key) held)
 

@@ -1,4 +1,5 @@
--- What a transaction writes lies in what it declares or writes silently, and commits that meet no range leave its keys as they are.
+-- What a transaction writes has a write conflict range or is written without one, and commits that meet no range leave its keys as
+-- they are.
 use Rattle.std.proofs.Common.{◌≡◌, ℕ, zero, suc, Bool, true, false, cond, List, [], ◌∷◌, ◌++◌, Option, inl, inr, refl, sym, ap, ◌∙◌}
 use Rattle.std.specs.Prelude.{◌||◌, ⊤, drop}
 use Rattle.std.specs.FinMap as finite
@@ -7,7 +8,7 @@ use Rattle.std.proofs.lemmas.Bool.{both_ways, false_from_ne_true, or_cases, or_p
 use Rattle.key_bytes.specs.declared.range.KeyRange.{KeyRange}
 use Rattle.key_bytes.specs.Ranges.{has}
 use Rattle.database_rules.specs.Databases.{Database, Mutation, Set, Clear, ClearRange, Atomic, do_all}
-use Rattle.database_rules.specs.Histories.{Script, Wrote, HasRead, Granted, written, write_range, declared_by, silent_by, Commit, History, after_commits}
+use Rattle.database_rules.specs.Histories.{Script, Wrote, HasRead, Granted, written, write_range, write_conflicts_by, without_conflict_by, Commit, History, after_commits}
 use Rattle.database_rules.specs.Intervals.{any_meet}
 use Rattle.database_rules.specs.KeyByKey.{made_of, at_keys}
 use Rattle.database_rules.specs.States.{covers, filled, all_filled, touches}
@@ -18,7 +19,7 @@ use Rattle.history_laws.specs.Held.{AgreeOn, AreSound}
 
 -- ---- what a script writes
 
--- the range that a write declares has the keys that it touches
+-- the write conflict range of a write has the keys that it touches
 pub has_write_range : (mutation : Mutation) (key : List ℕ) → has (write_range mutation) key ≡ touches mutation key
 has_write_range (Set other value) key = has_one other key
 has_write_range (Clear other) key = has_one other key
@@ -31,18 +32,18 @@ or_swap true true c = refl
 or_swap true false c = refl
 or_swap false b c = refl
 
--- what a script declares and what it writes silently are together the keys that its writes touch
+-- the write conflict ranges of a script and what it writes without one are together the keys that its writes touch
 pub covers_written : (stamp : List ℕ) (script : Script) (key : List ℕ)
-    → covers (declared_by stamp script ++ silent_by stamp script) key
+    → covers (write_conflicts_by stamp script ++ without_conflict_by stamp script) key
     ≡ list_any (λ mutation. touches mutation key) (all_filled stamp (written script))
 covers_written stamp [] key = refl
 covers_written stamp (Wrote mutation true ∷ script) key = (λ i.
     has_write_range (filled stamp mutation) key i || covers_written stamp script key i)
 covers_written stamp (Wrote mutation false ∷ script) key =
     let range = write_range (filled stamp mutation) in
-    covers-append (declared_by stamp script) (range ∷ silent_by stamp script) key
-    ∙ or_swap (covers (declared_by stamp script) key) (has range key) (covers (silent_by stamp script) key)
-    ∙ ap (λ b. has range key || b) (sym (covers-append (declared_by stamp script) (silent_by stamp script) key))
+    covers-append (write_conflicts_by stamp script) (range ∷ without_conflict_by stamp script) key
+    ∙ or_swap (covers (write_conflicts_by stamp script) key) (has range key) (covers (without_conflict_by stamp script) key)
+    ∙ ap (λ b. has range key || b) (sym (covers-append (write_conflicts_by stamp script) (without_conflict_by stamp script) key))
     ∙ (λ i. has_write_range (filled stamp mutation) key i || covers_written stamp script key i)
 covers_written stamp (HasRead read answer ∷ script) key = covers_written stamp script key
 covers_written stamp (Granted space number from ∷ script) key = covers_written stamp script key
@@ -50,7 +51,7 @@ covers_written stamp (Granted space number from ∷ script) key = covers_written
 -- so each key that its writes touch is among them
 pub written_covered : (stamp : List ℕ) (script : Script) (key : List ℕ)
     → list_any (λ mutation. touches mutation key) (all_filled stamp (written script)) ≡ true
-    → covers (declared_by stamp script ++ silent_by stamp script) key ≡ true
+    → covers (write_conflicts_by stamp script ++ without_conflict_by stamp script) key ≡ true
 written_covered stamp script key touched = covers_written stamp script key ∙ touched
 
 -- ---- keys that no write touches
@@ -70,10 +71,10 @@ untouched writes m key none = get-do_all writes m key ∙ at_untouched writes ke
 
 -- ---- commits that meet no range
 
--- each key that the commit touches is among those that it declares or writes silently
+-- each key that the commit touches has a write conflict range or is written without one
 abbrev pub IsRanged : Commit → Type 0
 IsRanged commit = (key : List ℕ) → list_any (λ mutation. touches mutation key) commit.mutations ≡ true
-    → covers (commit.declared ++ commit.silent) key ≡ true
+    → covers (commit.write_conflicts ++ commit.without_conflict) key ≡ true
 
 -- the same of each of these commits
 abbrev pub AreRanged : List Commit → Type 0
@@ -93,23 +94,23 @@ ranged-drop (suc n) (commit ∷ commits) ranged = ranged-drop n commits ranged.1
 
 -- a commit that meets no range touches no key of it
 pub unmet_untouched : (commit : Commit) (rests : List KeyRange) → IsRanged commit
-    → any_meet commit.declared rests ≡ false → any_meet commit.silent rests ≡ false
+    → any_meet commit.write_conflicts rests ≡ false → any_meet commit.without_conflict rests ≡ false
     → (key : List ℕ) → covers rests key ≡ true → list_any (λ mutation. touches mutation key) commit.mutations ≡ false
-unmet_untouched commit rests ranged undeclared unsilent key is_in =
+unmet_untouched commit rests ranged without_write_conflicts with_conflict key is_in =
     false_from_ne_true (list_any (λ mutation. touches mutation key) commit.mutations) (λ touched.
-    elim (or_cases (covers commit.declared key) (covers commit.silent key)
-    (sym (covers-append commit.declared commit.silent key) ∙ ranged key touched)) [
-      | inl declares ↦ both_ways (any_meet commit.declared rests) undeclared (any_meet_at commit.declared rests key declares is_in)
-      | inr silently ↦ both_ways (any_meet commit.silent rests) unsilent (any_meet_at commit.silent rests key silently is_in)
+    elim (or_cases (covers commit.write_conflicts key) (covers commit.without_conflict key)
+    (sym (covers-append commit.write_conflicts commit.without_conflict key) ∙ ranged key touched)) [
+      | inl adds_conflict ↦ both_ways (any_meet commit.write_conflicts rests) without_write_conflicts (any_meet_at commit.write_conflicts rests key adds_conflict is_in)
+      | inr writes_without_conflict ↦ both_ways (any_meet commit.without_conflict rests) with_conflict (any_meet_at commit.without_conflict rests key writes_without_conflict is_in)
     ])
 
 -- commits that meet none of these ranges leave each key of them as it is
 pub commits_unmet : (commits : List Commit) (m : Database) (rests : List KeyRange) → AreRanged commits
-    → list_any (λ commit. any_meet commit.declared rests) commits ≡ false
-    → list_any (λ commit. any_meet commit.silent rests) commits ≡ false → AgreeOn rests (after_commits commits m) m
-commits_unmet [] m rests ranged undeclared unsilent key is_in = refl
-commits_unmet (commit ∷ commits) m rests ranged undeclared unsilent key is_in =
-    let first = or_parts (any_meet commit.declared rests) (list_any (λ other. any_meet other.declared rests) commits) undeclared in
-    let second = or_parts (any_meet commit.silent rests) (list_any (λ other. any_meet other.silent rests) commits) unsilent in
+    → list_any (λ commit. any_meet commit.write_conflicts rests) commits ≡ false
+    → list_any (λ commit. any_meet commit.without_conflict rests) commits ≡ false → AgreeOn rests (after_commits commits m) m
+commits_unmet [] m rests ranged without_write_conflicts with_conflict key is_in = refl
+commits_unmet (commit ∷ commits) m rests ranged without_write_conflicts with_conflict key is_in =
+    let first = or_parts (any_meet commit.write_conflicts rests) (list_any (λ other. any_meet other.write_conflicts rests) commits) without_write_conflicts in
+    let second = or_parts (any_meet commit.without_conflict rests) (list_any (λ other. any_meet other.without_conflict rests) commits) with_conflict in
     commits_unmet commits (do_all commit.mutations m) rests ranged.1 first.1 second.1 key is_in
     ∙ untouched commit.mutations m key (unmet_untouched commit rests ranged.0 first.0 second.0 key is_in)

@@ -1,4 +1,4 @@
--- What reads see rests on the keys that no write decides.
+-- What reads see depends on the keys that no write decides.
 use Rattle.std.proofs.Common.{◌≡◌, ℕ, false, cond, List, Option, None, refl, sym, ap, ◌∙◌}
 use Rattle.std.specs.Prelude.{not}
 use Rattle.std.specs.FinMap as finite

@@ -42,7 +42,7 @@ pub record IsHeld (before : History) (transaction : Transaction) : Type 0 where
 pub record IsSound (before : History) (commit : Commit) : Type 0 where
   pub answered : EachRead (IsAnswered before commit.version commit.read_ranges) [] commit.script
   pub ranged : (key : List ℕ) → list_any (λ mutation. touches mutation key) commit.mutations ≡ true
-      → covers (commit.declared ++ commit.silent) key ≡ true
+      → covers (commit.write_conflicts ++ commit.without_conflict) key ≡ true
   pub judged : conflicts before commit.version commit.read_ranges ≡ false
   pub small : are_small commit.mutations ≡ true
 

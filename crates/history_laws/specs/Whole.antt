@@ -1,5 +1,5 @@
--- One legal history: each transaction whose commit made a version would get the same ordinary reads run whole at its commit,
--- unless a write that doesn't declare its keys fell between.
+-- One legal history: each transaction whose commit made a version would get the same ordinary reads run whole at its commit, unless
+-- a write without a write conflict range fell between.
 use Rattle.std.specs.Prelude.{◌≡◌, ◌⊎◌, ◌<◌, ◌^◌, ℕ, ⊤, Bool, IsTrue, List, [], ◌∷◌, ◌++◌, length, drop, Some}
 use Rattle.std.specs.List.{AllByRecursion, list_any}
 use Rattle.std.specs.FinMap as finite
@@ -15,7 +15,7 @@ use Rattle.machine_rules.specs.Runs.{Run, start, run_from}
 -- this holds of each ordinary read of a script with its answer, and of the writes before it, where these were made before
 abbrev pub EachRead : (List Mutation → Read → Answer → Type 0) → List Mutation → Script → Type 0
 EachRead holds before [] = ⊤
-EachRead holds before (Wrote mutation declares ∷ script) = EachRead holds (before ++ mutation ∷ []) script
+EachRead holds before (Wrote mutation adds_conflict ∷ script) = EachRead holds (before ++ mutation ∷ []) script
 EachRead holds before (HasRead read given ∷ script) = holds before read given × EachRead holds before script
 EachRead holds before (Granted space number from ∷ script) = EachRead holds before script
 
@@ -23,12 +23,13 @@ EachRead holds before (Granted space number from ∷ script) = EachRead holds be
 abbrev pub RunsWhole : Database → Script → Type 0
 RunsWhole database script = EachRead (λ before read given. given ≡ answer read (seen before database)) [] script
 
--- a commit that came after the version at which a commit read, and before it, wrote a key that it rests on, without declaring it
+-- a commit that came after the version at which a commit read, and before it, wrote a key of its read conflict ranges, without a
+-- write conflict range
 abbrev pub fell_between : (before : List Commit) → Commit → Bool
-fell_between before commit = list_any (λ other. any_meet other.silent commit.read_ranges) (drop commit.version before)
+fell_between before commit = list_any (λ other. any_meet other.without_conflict commit.read_ranges) (drop commit.version before)
 
--- Each of these commits gets its reads run whole over the database before it, or a silent write fell between; where such
--- commits came before them, and this is the database that they left.
+-- Each of these commits gets its reads run whole over the database before it, or a write without a write conflict range fell
+-- between; where such commits came before them, and this is the database that they left.
 abbrev pub AreLegal : (before : List Commit) → Database → List Commit → Type 0
 AreLegal before database [] = ⊤
 AreLegal before database (commit ∷ commits) =

@@ -1,9 +1,9 @@
 //! What holds of every history that a run leaves, whatever its order of requests: it is one legal history.
 //!
 //! A transaction whose commit made a version would get the same ordinary reads run whole at its commit, over the database just
-//! before it, unless a write that doesn't declare its keys fell between (`specs/Whole.antt`). It is a law of the definitions
+//! before it, unless a write without a write conflict range fell between (`specs/Whole.antt`). It is a law of the definitions
 //! (`machine_rules`, `specs/Runs.antt`), proved once here, for each run, complete or not, and from step to step
-//! (`specs/Steps.antt`). What it rests on is in `specs/Held.antt`: what holds of each transaction while it is open, and of each
+//! (`specs/Steps.antt`). What its proof needs is in `specs/Held.antt`: what holds of each transaction while it is open, and of each
 //! commit among those before it.
 #![tactic(auto)]
 

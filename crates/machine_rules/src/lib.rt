@@ -1,12 +1,12 @@
 //! The serial stack machine in definitions: what each request does to the world, what each instruction does to
 //! a machine, and what a run over an order of requests leaves and dumps.
 //!
-//! Nothing here runs. Contracts above cite these words: `specs/Worlds.antt` has the world and the step of a
-//! request, `specs/Operands.antt` and `specs/StackOperations.antt` what the operations on a stack do, `specs/Calls.antt`
-//! what an operation asks of the database and makes of the reply, `specs/Waits.antt` what waits and for what,
-//! `specs/Instructions.antt` how a value is an instruction, `specs/Machines.antt` a machine, and `specs/Runs.antt` a
-//! run and its dump. `specs/WaitLaws.antt` and `specs/Laws.antt` show that a machine comes to rest and that waits end.
-//! The few types that the machine and its definitions share stand in `src/`.
+//! Contracts above cite these definitions: `specs/Worlds.antt` has the world and the step of a request, `specs/Operands.antt` and
+//! `specs/StackOperations.antt` what the operations on a stack do, `specs/Calls.antt` what an operation asks of the database and
+//! makes of the reply, `specs/Waits.antt` what waits and for what, `specs/Instructions.antt` how a value is an instruction,
+//! `specs/Machines.antt` a machine, and `specs/Runs.antt` a run and its dump. `specs/WaitLaws.antt` and `specs/Laws.antt` show that
+//! a machine comes to rest and that waits end. `src/` has the types that the machine and its definitions share: operations by kind,
+//! what a machine awaits, its ends.
 #![tactic(auto)]
 
 mod directories;
@@ -225,15 +225,15 @@ pub enum TransactionOperation {
     SetReadVersion,
     /// The version that the commit made is the last one seen from then on, or -1.
     GetCommittedVersion,
-    /// Pops two keys, and lets the commit rest on the range between them.
+    /// Pops two keys, and adds the range between them to the read conflict ranges.
     ReadConflictRange,
-    /// Pops two keys, and declares the range between them.
+    /// Pops two keys, and adds the range between them to the write conflict ranges.
     WriteConflictRange,
-    /// Pops a key, and lets the commit rest on it.
+    /// Pops a key, and adds it to the read conflict ranges.
     ReadConflictKey,
-    /// Pops a key, and declares it.
+    /// Pops a key, and adds it to the write conflict ranges.
     WriteConflictKey,
-    /// Lets the next write declare nothing.
+    /// Lets the next write add no write conflict range.
     DisableWriteConflict,
     /// Pushes an item that waits for the versionstamp of the commit.
     GetVersionstamp,

@@ -24,8 +24,8 @@ use Rattle.machine_rules.specs.Machines.{Machine, Progress, resumed, silent}
 use Rattle.machine_rules.specs.Runs.{at_rest, start_prefix, started_by}
 use Rattle.thread_laws.specs.Alone.{IsAlone, after_reply, anew, asked_over, begun_as}
 use Rattle.thread_laws.proofs.Alone.{after_reply-anew, one_more}
-use Rattle.machine_seat.specs.declared.seat.Seat.{Seat}
-use Rattle.machine_seat.specs.Seats.{progress_of, IsSeated}
+use Rattle.suspended_machine.specs.declared.suspended.SuspendedMachine.{SuspendedMachine}
+use Rattle.suspended_machine.specs.SuspendedMachines.{progress_of, IsSuspended}
 use Rattle.machine_threads.specs.declared.threaded.ThreadedMachine.{ThreadedMachine}
 use Rattle.machine_threads.specs.Threaded.{history_of, machine_in, replies_to, requests_in, shown_by, HasAsked, IsLater, IsRunning, IsStartedBy}
 use Rattle.machine_threads.proofs.Lists.{prefix_refl, prefix_trans}
@@ -53,30 +53,30 @@ asked_over-length begun (reply ∷ replies) = ap suc (asked_over-length (after_r
 
 -- ---- before the first request
 
-pub asked_none : (seat : Seat) → IsSeated seat → progress_of seat ≡ begun_as seat.machine.machine → HasAsked seat [] []
-asked_none seat seated begun = record {
-  for_itself = All-nil (AsksFor seat.machine.machine.number);
+pub asked_none : (suspended : SuspendedMachine) → IsSuspended suspended → progress_of suspended ≡ begun_as suspended.machine.machine → HasAsked suspended [] []
+asked_none suspended is_suspended begun = record {
+  for_itself = All-nil (AsksFor suspended.machine.machine.number);
   no_over = refl;
   own_cells = refl;
   replies = [];
   replies_are = refl;
   alone = record { asked = refl; now_is = begun };
-  seated = seated;
+  is_suspended = is_suspended;
 }
 
 -- ---- one request and its reply
 
 -- a machine keeps what it was started with
-pub kept_anew : (before after : Seat) (reply : Reply) → progress_of after ≡ at_rest (resumed before.machine.machine reply)
+pub kept_anew : (before after : SuspendedMachine) (reply : Reply) → progress_of after ≡ at_rest (resumed before.machine.machine reply)
     → anew after.machine.machine ≡ anew before.machine.machine
 kept_anew before after reply is = ap (λ (p : Progress). anew p.machine) is ∙ after_reply-anew (progress_of before) reply
 
-pub asked_more : (before after : Seat) (waiters : List (Waiter Reply Wake)) (asks : List Post) (request : Request)
+pub asked_more : (before after : SuspendedMachine) (waiters : List (Waiter Reply Wake)) (asks : List Post) (request : Request)
     (setter : Setter Reply Wake) (waiter : Waiter Reply Wake) (reply : Reply)
     → HasAsked before waiters asks → before.asks ≡ Some request → setter_cell setter ≡ waiter_cell waiter → shown waiter ≡ Some reply
-    → progress_of after ≡ at_rest (resumed before.machine.machine reply) → IsSeated after
+    → progress_of after ≡ at_rest (resumed before.machine.machine reply) → IsSuspended after
     → HasAsked after (waiters ++ waiter ∷ []) (asks ++ Ask before.machine.machine.number request setter ∷ [])
-asked_more before after waiters asks request setter waiter reply had asks_it cell is_shown is seated =
+asked_more before after waiters asks request setter waiter reply had asks_it cell is_shown is is_suspended =
     let number = before.machine.machine.number in
     let kept = kept_anew before after reply is in
     let more = one_more (begun_as before.machine.machine) (progress_of before) (requests_in asks) had.replies request reply had.alone asks_it in
@@ -95,19 +95,19 @@ asked_more before after waiters asks request setter waiter reply had asks_it cel
           (had.replies ++ reply ∷ []) p) (sym is)
           (subst (λ (rs : List Request). IsAlone (begun_as before.machine.machine) rs (had.replies ++ reply ∷ [])
           (after_reply (progress_of before) reply)) (sym (requests-push asks number request setter)) more));
-      seated = seated;
+      is_suspended = is_suspended;
     }
 
 -- the machine that was started by that reply, if one was
-pub started_last : (before : Seat) (waiters : List (Waiter Reply Wake)) (asks : List Post) (request : Request) (setter : Setter Reply Wake)
-    (waiter : Waiter Reply Wake) (reply : Reply) (prefix : Option (List ℕ)) (polls : ℕ) (started : Option Seat)
+pub started_last : (before : SuspendedMachine) (waiters : List (Waiter Reply Wake)) (asks : List Post) (request : Request) (setter : Setter Reply Wake)
+    (waiter : Waiter Reply Wake) (reply : Reply) (prefix : Option (List ℕ)) (polls : ℕ) (started : Option SuspendedMachine)
     → HasAsked before waiters asks → shown waiter ≡ Some reply → prefix ≡ start_prefix request
-    → map progress_of (option_to_list started) ≡ started_by prefix polls reply → IfSome started IsSeated
-    → IfSome started (λ (seat : Seat). IsSeated seat × IsStartedBy (asks ++ Ask before.machine.machine.number request setter ∷ [])
-    (shown_by (waiters ++ waiter ∷ [])) polls (progress_of seat))
-started_last before waiters asks request setter waiter reply prefix polls None had is_shown prefix_is is seated = tt
-started_last before waiters asks request setter waiter reply prefix polls (Some seat) had is_shown prefix_is is seated = (
-  seated,
+    → map progress_of (option_to_list started) ≡ started_by prefix polls reply → IfSome started IsSuspended
+    → IfSome started (λ (suspended : SuspendedMachine). IsSuspended suspended × IsStartedBy (asks ++ Ask before.machine.machine.number request setter ∷ [])
+    (shown_by (waiters ++ waiter ∷ [])) polls (progress_of suspended))
+started_last before waiters asks request setter waiter reply prefix polls None had is_shown prefix_is is is_suspended = tt
+started_last before waiters asks request setter waiter reply prefix polls (Some suspended) had is_shown prefix_is is is_suspended = (
+  is_suspended,
   record {
     earlier = requests_in asks;
     request = request;
@@ -167,7 +167,7 @@ later_post before after post begun is replies line = record {
 
 pub record AskedOnce (before after : ThreadedMachine) (request : Request) (waiter : Waiter Reply Wake) (reply : Reply) : Type 0 where
   pub running : IsRunning before
-  pub asks : before.seat.asks ≡ Some request
+  pub asks : before.suspended.asks ≡ Some request
   pub setter : Setter Reply Wake
   pub cell : setter_cell setter ≡ waiter_cell waiter
   pub posts : history_of after ≡ with_post (history_of before) (Ask (client_machine before.client) request setter)
@@ -175,13 +175,13 @@ pub record AskedOnce (before after : ThreadedMachine) (request : Request) (waite
   pub line : client_line after.client ≡ client_line before.client
   pub is_shown : shown waiter ≡ Some reply
   pub waiters : after.waiters.items ≡ before.waiters.items ++ waiter ∷ []
-  pub rests : progress_of after.seat ≡ at_rest (resumed (machine_in before) reply)
-  pub seated : IsSeated after.seat
+  pub rests : progress_of after.suspended ≡ at_rest (resumed (machine_in before) reply)
+  pub is_suspended : IsSuspended after.suspended
 
 module _ (before after : ThreadedMachine) (request : Request) (waiter : Waiter Reply Wake) (reply : Reply)
     (once : AskedOnce before after request waiter reply) where
   kept : anew (machine_in after) ≡ anew (machine_in before)
-  kept = kept_anew before.seat after.seat reply once.rests
+  kept = kept_anew before.suspended after.suspended reply once.rests
 
   abbrev asked : List Post
   asked = (history_of before).posted ++ Ask (machine_in before).number request once.setter ∷ []
@@ -195,26 +195,26 @@ module _ (before after : ThreadedMachine) (request : Request) (waiter : Waiter R
   pub runs_on : IsRunning after
   runs_on = record {
     machine = once.own ∙ once.running.machine ∙ sym (ap (λ (m : Machine). m.number) kept);
-    asked = subst (λ (posts : List Post). HasAsked after.seat after.waiters.items posts) (sym posted)
-        (subst (λ (waiters : List (Waiter Reply Wake)). HasAsked after.seat waiters asked) (sym once.waiters)
-        (asked_more before.seat after.seat before.waiters.items (history_of before).posted request once.setter waiter reply
-        once.running.asked once.asks once.cell once.is_shown once.rests once.seated));
+    asked = subst (λ (posts : List Post). HasAsked after.suspended after.waiters.items posts) (sym posted)
+        (subst (λ (waiters : List (Waiter Reply Wake)). HasAsked after.suspended waiters asked) (sym once.waiters)
+        (asked_more before.suspended after.suspended before.waiters.items (history_of before).posted request once.setter waiter reply
+        once.running.asked once.asks once.cell once.is_shown once.rests once.is_suspended));
   }
 
   pub later_by_one : IsLater before after
   later_by_one = later_post before after (Ask (machine_in before).number request once.setter) kept posts_own
       (shown waiter ∷ [], sym (ap shown_by once.waiters ∙ map-append shown before.waiters.items (waiter ∷ []))) once.line
 
-  pub started_by_it : (prefix : Option (List ℕ)) (started : Option Seat) → prefix ≡ start_prefix request
-      → map progress_of (option_to_list started) ≡ started_by prefix (machine_in before).polls reply → IfSome started IsSeated
-      → IfSome started (λ (seat : Seat). IsSeated seat
-      × IsStartedBy (history_of after).posted (replies_to after) (machine_in after).polls (progress_of seat))
-  started_by_it prefix started prefix_is is all_seated =
-      subst (λ (posts : List Post). IfSome started (λ (seat : Seat). IsSeated seat
-      × IsStartedBy posts (replies_to after) (machine_in after).polls (progress_of seat))) (sym posted)
-      (subst (λ (waiters : List (Waiter Reply Wake)). IfSome started (λ (seat : Seat). IsSeated seat
-      × IsStartedBy asked (shown_by waiters) (machine_in after).polls (progress_of seat))) (sym once.waiters)
-      (subst (λ polls. IfSome started (λ (seat : Seat). IsSeated seat
-      × IsStartedBy asked (shown_by (before.waiters.items ++ waiter ∷ [])) polls (progress_of seat))) (sym (ap (λ (m : Machine). m.polls) kept))
-      (started_last before.seat before.waiters.items (history_of before).posted request once.setter waiter reply prefix
-      (machine_in before).polls started once.running.asked once.is_shown prefix_is is all_seated)))
+  pub started_by_it : (prefix : Option (List ℕ)) (started : Option SuspendedMachine) → prefix ≡ start_prefix request
+      → map progress_of (option_to_list started) ≡ started_by prefix (machine_in before).polls reply → IfSome started IsSuspended
+      → IfSome started (λ (suspended : SuspendedMachine). IsSuspended suspended
+      × IsStartedBy (history_of after).posted (replies_to after) (machine_in after).polls (progress_of suspended))
+  started_by_it prefix started prefix_is is all_is_suspended =
+      subst (λ (posts : List Post). IfSome started (λ (suspended : SuspendedMachine). IsSuspended suspended
+      × IsStartedBy posts (replies_to after) (machine_in after).polls (progress_of suspended))) (sym posted)
+      (subst (λ (waiters : List (Waiter Reply Wake)). IfSome started (λ (suspended : SuspendedMachine). IsSuspended suspended
+      × IsStartedBy asked (shown_by waiters) (machine_in after).polls (progress_of suspended))) (sym once.waiters)
+      (subst (λ polls. IfSome started (λ (suspended : SuspendedMachine). IsSuspended suspended
+      × IsStartedBy asked (shown_by (before.waiters.items ++ waiter ∷ [])) polls (progress_of suspended))) (sym (ap (λ (m : Machine). m.polls) kept))
+      (started_last before.suspended before.waiters.items (history_of before).posted request once.setter waiter reply prefix
+      (machine_in before).polls started once.running.asked once.is_shown prefix_is is all_is_suspended)))

@@ -20,7 +20,7 @@ use Rattle.stack_directories.proofs.directories.Directories.TheSendSync.{the_sen
 use Rattle.stack_items.specs.contracts.stack.Stack as stack
 use Rattle.stack_machine.specs.contracts.machine.Machine as machine
 use Rattle.stack_machine.specs.contracts.registers.Registers as registers
-use Rattle.machine_seat.specs.contracts.seat.Seat as seat
+use Rattle.suspended_machine.specs.contracts.suspended.SuspendedMachine as suspended
 use Rattle.machine_threads.proofs.crew.Crew.TheLaws.TheKnot.{send-Crew}
 use Rattle.machine_threads.specs.contracts.threaded.ThreadedMachine as threaded
 use Rattle.machine_threads.specs.contracts.crew.Crew as crew
@@ -44,11 +44,11 @@ registers_send = search (sendable, crosses, bytes_send, stack_send, list_send, e
 machine_send : IsSend (machine.the_field).row
 machine_send = search (sendable, crosses, bytes_send, registers_send, state_send) depth 30
 
-seat_send : IsSend (seat.the_field).row
-seat_send = search (sendable, crosses, machine_send, request_send) depth 12
+suspended_send : IsSend (suspended.the_field).row
+suspended_send = search (sendable, crosses, machine_send, request_send) depth 12
 
 pub threaded_send : IsSend (threaded.the_field).row
-threaded_send = search (sendable, crosses, seat_send, client_send, waiter_send, reply_send, wake_send) depth 12
+threaded_send = search (sendable, crosses, suspended_send, client_send, waiter_send, reply_send, wake_send) depth 12
 
 crew_send : IsSend (crew.the_field).row
 crew_send = search (sendable, crosses, send-Crew, threaded_send) depth 20

@@ -13,8 +13,8 @@ use Rattle.machine_rules.specs.Machines.{Machine, Progress, silent}
 use Rattle.machine_rules.specs.Runs.{at_rest, start_prefix, started, started_by}
 use Rattle.thread_laws.specs.Alone.{begun_as}
 use Rattle.thread_laws.proofs.Alone.{at_rest_anew, begun_by}
-use Rattle.machine_seat.specs.declared.seat.Seat.{Seat}
-use Rattle.machine_seat.specs.Seats.{progress_of}
+use Rattle.suspended_machine.specs.declared.suspended.SuspendedMachine.{SuspendedMachine}
+use Rattle.suspended_machine.specs.SuspendedMachines.{progress_of}
 use Rattle.machine_threads.specs.declared.threaded.ThreadedMachine.{ThreadedMachine}
 use Rattle.machine_threads.specs.Threaded.{history_of, machine_in, replies_to, HasEnded, HasStarted, IsLater, IsStartedBy}
 use Rattle.machine_threads.specs.Teams.{HasPollsOf, IsTeamOf}
@@ -84,22 +84,22 @@ pub record StandBeside (machine kept other : ThreadedMachine) (begun : Progress)
   pub polls_are : (machine_in other).polls ≡ (machine_in machine).polls
 
 -- such machines, where the other is seated as it was started
-pub stand_beside : (machine kept other : ThreadedMachine) (seat : Seat) → IsLater machine kept
+pub stand_beside : (machine kept other : ThreadedMachine) (suspended : SuspendedMachine) → IsLater machine kept
     → history_of kept ≡ lower_half (history_of machine) → history_of other ≡ upper_half (history_of machine)
     → AreTogether (history_of kept) (history_of other) (history_of machine) → client_line other.client ≡ client_line machine.client
-    → IsStartedBy (history_of machine).posted (replies_to machine) (machine_in machine).polls (progress_of seat) → other.seat ≡ seat
-    → StandBeside machine kept other (progress_of seat)
-stand_beside machine kept other seat later kept_is other_is together one_line started its_seat = record {
+    → IsStartedBy (history_of machine).posted (replies_to machine) (machine_in machine).polls (progress_of suspended) → other.suspended ≡ suspended
+    → StandBeside machine kept other (progress_of suspended)
+stand_beside machine kept other suspended later kept_is other_is together one_line started its_suspended = record {
   later = later;
   kept_is = kept_is;
   other_is = other_is;
   together = together;
   one_line = one_line;
   started = started;
-  begun_is = ap (λ (s : Seat). begun_as s.machine.machine) its_seat
-      ∙ sym (begun_by (start_prefix started.request) (machine_in machine).polls started.reply (progress_of seat) started.is);
-  polls_are = ap (λ (s : Seat). s.machine.machine.polls) its_seat
-      ∙ begun_polls (start_prefix started.request) (machine_in machine).polls started.reply (progress_of seat) started.is;
+  begun_is = ap (λ (s : SuspendedMachine). begun_as s.machine.machine) its_suspended
+      ∙ sym (begun_by (start_prefix started.request) (machine_in machine).polls started.reply (progress_of suspended) started.is);
+  polls_are = ap (λ (s : SuspendedMachine). s.machine.machine.polls) its_suspended
+      ∙ begun_polls (start_prefix started.request) (machine_in machine).polls started.reply (progress_of suspended) started.is;
 }
 
 abbrev IsStartedIn : List ThreadedMachine → ThreadedMachine → Type 0

@@ -8,7 +8,7 @@ use Rattle.request_line.specs.Taking.{IsOfThese, TakesAfterSplit}
 use Rattle.network.specs.declared.post.Post.{Post}
 use Rattle.network.specs.Serving.{replies_of}
 use Rattle.network.specs.Pairing.{receipts_of, AsksBy, IsTakenWhole}
-use Rattle.machine_seat.specs.declared.seat.Seat.{Seat}
+use Rattle.suspended_machine.specs.declared.suspended.SuspendedMachine.{SuspendedMachine}
 use Rattle.machine_threads.specs.declared.threaded.ThreadedMachine.{ThreadedMachine}
 use Rattle.machine_threads.specs.Threaded.{history_of, machine_in, replies_to}
 
@@ -26,14 +26,14 @@ IsTakenOf taken one =
 abbrev pub IsSettledOf : List ℕ → List (Receipt Reply Wake) → ThreadedMachine → Type 0
 IsSettledOf order receipts one = replies_of (receipts_of (machine_in one).number order receipts) ≡ replies_to one
 
--- All of these machines, by their numbers, were closed over what was taken, which is theirs alone, and settled against receipts in this
--- order; the seats are theirs.
+-- All of these machines, by their numbers, were closed over what was taken, which is theirs alone, and settled against receipts in
+-- this order; the suspended machines are theirs.
 pub record AreSettled (ended : List ThreadedMachine) (taken : List (ℕ × Post)) (order : List ℕ) (receipts : List (Receipt Reply Wake))
-    (seats : List Seat) : Type 0 where
+    (suspended_machines : List SuspendedMachine) : Type 0 where
   pub numbered : List ThreadedMachine
   pub all_of_them : IsPermutation ended numbered
   pub by_number : AreNumbered numbered
-  pub seats_are : map (λ (one : ThreadedMachine). one.seat) numbered ≡ seats
+  pub suspended_machines_are : map (λ (one : ThreadedMachine). one.suspended) numbered ≡ suspended_machines
   pub of_these : IsOfThese taken (map history_of numbered)
   pub are_taken : All (IsTakenOf taken) numbered
   pub are_settled : All (IsSettledOf order receipts) numbered

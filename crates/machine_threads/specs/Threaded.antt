@@ -17,8 +17,8 @@ use Rattle.network.specs.Clients.{client_machine, client_line, client_history}
 use Rattle.machine_rules.specs.Machines.{Machine, Progress}
 use Rattle.machine_rules.specs.Runs.{start_prefix, started_by}
 use Rattle.thread_laws.specs.Alone.{IsAlone, anew, begun_as}
-use Rattle.machine_seat.specs.declared.seat.Seat.{Seat}
-use Rattle.machine_seat.specs.Seats.{progress_of, IsSeated}
+use Rattle.suspended_machine.specs.declared.suspended.SuspendedMachine.{SuspendedMachine}
+use Rattle.suspended_machine.specs.SuspendedMachines.{progress_of, IsSuspended}
 use Rattle.machine_threads.specs.declared.threaded.ThreadedMachine.{ThreadedMachine}
 use Rattle.machine_threads.specs.declared.refusal.Refused.{Refused}
 
@@ -33,7 +33,7 @@ shown_by waiters = map shown waiters
 -- ---- a machine in its thread
 
 abbrev pub machine_in : ThreadedMachine → Machine
-machine_in threaded = threaded.seat.machine.machine
+machine_in threaded = threaded.suspended.machine.machine
 
 abbrev pub history_of : ThreadedMachine → History Post
 history_of threaded = client_history threaded.client
@@ -41,28 +41,28 @@ history_of threaded = client_history threaded.client
 abbrev pub replies_to : ThreadedMachine → List (Option Reply)
 replies_to threaded = shown_by threaded.waiters.items
 
--- These posts are Asks of the machine at this seat. The k-th waiter is of the cell of the k-th Ask, and has shown the reply to
--- it. What the machine asks and comes to by itself over these replies is what they ask, and what it has come to.
-pub record HasAsked (seat : Seat) (waiters : List (Waiter Reply Wake)) (asks : List Post) : Type 0 where
-  pub for_itself : All (AsksFor seat.machine.machine.number) asks
+-- These posts are Asks of the machine at this suspended machine. The k-th waiter is of the cell of the k-th Ask, and has shown the
+-- reply to it. What the machine asks and comes to by itself over these replies is what they ask, and what it has come to.
+pub record HasAsked (suspended : SuspendedMachine) (waiters : List (Waiter Reply Wake)) (asks : List Post) : Type 0 where
+  pub for_itself : All (AsksFor suspended.machine.machine.number) asks
   pub no_over : overs_in asks ≡ 0
   pub own_cells : cells_in asks ≡ map waiter_cell waiters
   pub replies : List Reply
   pub replies_are : shown_by waiters ≡ map Some replies
-  pub alone : IsAlone (begun_as seat.machine.machine) (requests_in asks) replies (progress_of seat)
-  pub seated : IsSeated seat
+  pub alone : IsAlone (begun_as suspended.machine.machine) (requests_in asks) replies (progress_of suspended)
+  pub is_suspended : IsSuspended suspended
 
 -- it has posted nothing else so far
 pub record IsRunning (threaded : ThreadedMachine) : Type 0 where
   pub machine : client_machine threaded.client ≡ (machine_in threaded).number
-  pub asked : HasAsked threaded.seat threaded.waiters.items (history_of threaded).posted
+  pub asked : HasAsked threaded.suspended threaded.waiters.items (history_of threaded).posted
 
 -- or, at last, its one Over: it asks nothing any more
 pub record HasEnded (threaded : ThreadedMachine) : Type 0 where
   pub asks : List Post
   pub posted : (history_of threaded).posted ≡ asks ++ Over (machine_in threaded).number ∷ []
-  pub asked : HasAsked threaded.seat threaded.waiters.items asks
-  pub asks_none : threaded.seat.asks ≡ None
+  pub asked : HasAsked threaded.suspended threaded.waiters.items asks
+  pub asks_none : threaded.suspended.asks ≡ None
 
 -- the same machine later: it has posted and been answered what it had, and perhaps more
 pub record IsLater (before after : ThreadedMachine) : Type 0 where
@@ -88,8 +88,8 @@ starts_to threaded = starts_in (replies_to threaded)
 abbrev pub owed_of : Refused → ℕ
 owed_of refused = length (option_to_list refused.owed)
 
--- one Over, where a machine was started, whether it came back at its seat or not
-abbrev pub owed_by : Result (Option Seat) Refused → ℕ
+-- one Over, where a machine was started, whether it came back at its suspended machine or not
+abbrev pub owed_by : Result (Option SuspendedMachine) Refused → ℕ
 owed_by (Ok started) = length (option_to_list started)
 owed_by (Err refused) = owed_of refused
 

@@ -18,19 +18,19 @@ use crate::threaded::ThreadedMachine;
 use fdb_calls::Reply;
 use future_cell::{Receipt, Waiter, Wake, settle_in_place};
 use input_rules::Order;
-use machine_seat::Seat;
 use network::{Post, Receipts};
 use request_line::Receiver;
 use std::alloc::{AllocError, Global};
+use suspended_machine::SuspendedMachine;
 
 /// What is left of a machine once its sender was closed.
 #[derive(Drop)]
 struct Unsettled {
-    seat: Seat,
+    suspended: SuspendedMachine,
     waiters: Vec<Waiter<Reply, Wake>>,
 }
 
-/// Closes the senders of all machines that ran, and settles each waiter against its receipt: the machines at their seats, by their
+/// Closes the senders of all machines that ran, and settles each waiter against its receipt: the suspended machines, by their
 /// numbers. Where the numbers are not those from 0 on, each once, it answers `StrayNumbers`.
 pub fn settle_machines(
     alloc: Global,
@@ -38,7 +38,7 @@ pub fn settle_machines(
     order: &Order,
     receipts: Receipts,
     ended: Vec<ThreadedMachine>,
-) -> Result<Vec<Seat>, Cause>
+) -> Result<Vec<SuspendedMachine>, Cause>
     requires none_closed { closed receiver ≡ [] }
     requires one_line { All (λ one. client_line one.client ≡ receiver_line receiver) ended.items }
     requires cover { CoverAllNumbers (map history_of ended.items) }
@@ -46,10 +46,10 @@ pub fn settle_machines(
     requires cells { cells_of receipts ≡ cells_in (posts_of (taken receiver)) }
     requires order { order.now ≡ asking_in (posts_of (taken receiver)) }
     requires overs { overs_in (posts_of (taken receiver)) ≡ length ended.items }
-    ensures { IfOk result (λ seats. AreSettled ended.items (taken receiver) order.now receipts seats.items) }
+    ensures { IfOk result (λ suspended_machines. AreSettled ended.items (taken receiver) order.now receipts suspended_machines.items) }
 {
     let mut ended = ended;
-    ended.sort_by_key(|one| one.seat.machine.number())?;
+    ended.sort_by_key(|one| one.suspended.machine.number())?;
     if !are_numbered(&ended) {
         return Err(Cause::StrayNumbers);
     }
@@ -64,7 +64,7 @@ fn are_numbered(ended: &[ThreadedMachine]) -> bool
     ensures { IsTrue result → AreNumbered ended.now }
 {
     for (place, one) in ended.iter().enumerate() {
-        if usize::from(one.seat.machine.number()) != place {
+        if usize::from(one.suspended.machine.number()) != place {
             return false;
         }
     }
@@ -81,18 +81,18 @@ fn close_all(
     ensures closed { OnOk result (closed receiver.new ≡ closed receiver.old ++ map history_of ended.items) }
     ensures agrees { OnOk result (0 < length ended.items → Agrees (taken receiver.new) (closed receiver.new)) }
     ensures taken { OnOk result (taken receiver.new ≡ taken receiver.old) }
-    ensures seats { IfOk result (λ unsettled. map (λ one. one.seat) unsettled.items ≡ map (λ one. one.seat) ended.items) }
+    ensures suspended_machines { IfOk result (λ unsettled. map (λ one. one.suspended) unsettled.items ≡ map (λ one. one.suspended) ended.items) }
     ensures waiters { IfOk result (λ unsettled. map (λ one. one.waiters.items) unsettled.items ≡ map (λ one. one.waiters.items) ended.items) }
 {
     let mut unsettled = Vec::with_capacity(alloc, ended.len())?;
     for one in ended {
         let ThreadedMachine {
-            seat,
+            suspended,
             client,
             waiters,
         } = one;
         receiver.close_with(client.into_sender());
-        unsettled.push(Unsettled { seat, waiters })?;
+        unsettled.push(Unsettled { suspended, waiters })?;
     }
     Ok(unsettled)
 }
@@ -132,27 +132,27 @@ fn none_yet(alloc: Global, machines: usize) -> Result<Vec<Vec<Receipt<Reply, Wak
     Ok(sorted)
 }
 
-// Settles each waiter of each machine against its receipt: the machines at their seats.
+// Settles each waiter of each machine against its receipt: the suspended machines.
 fn settle_each(
     alloc: Global,
     unsettled: Vec<Unsettled>,
     receipts: Vec<Vec<Receipt<Reply, Wake>>>,
-) -> Result<Vec<Seat>, AllocError>
+) -> Result<Vec<SuspendedMachine>, AllocError>
     requires as_many { length receipts.items ≡ length unsettled.items }
     requires cells { (number : ℕ) (one : _) (own : _) → slice_get unsettled.items number ≡ Some one
         → slice_get receipts.items number ≡ Some own → cells_of own.items ≡ map waiter_cell one.waiters.items }
-    ensures seats { IfOk result (λ seats. seats.items ≡ map (λ one. one.seat) unsettled.items) }
+    ensures suspended_machines { IfOk result (λ suspended_machines. suspended_machines.items ≡ map (λ one. one.suspended) unsettled.items) }
     ensures settled { OnOk result ((number : ℕ) (one : _) (own : _) → slice_get unsettled.items number ≡ Some one
         → slice_get receipts.items number ≡ Some own → (replies : List Reply) → shown_by one.waiters.items ≡ map Some replies
         → replies_of own.items ≡ map Some replies) }
 {
-    let mut seats = Vec::with_capacity(alloc, unsettled.len())?;
+    let mut suspended_machines = Vec::with_capacity(alloc, unsettled.len())?;
     for (one, own) in unsettled.into_iter().zip(receipts) {
-        let Unsettled { seat, waiters } = one;
+        let Unsettled { suspended, waiters } = one;
         settle_all(own, waiters);
-        seats.push(seat)?;
+        suspended_machines.push(suspended)?;
     }
-    Ok(seats)
+    Ok(suspended_machines)
 }
 
 // Settles each waiter of a machine against its receipt, in place: the run is about to end. It takes no memory.

@@ -1,9 +1,9 @@
 //! A thread for each machine, over a line to the service that answers.
 //!
-//! A `ThreadedMachine` is a machine at its seat, its client, and the waiters of its requests in the order in which it asked. It
-//! asks, waits for the reply and uses it, until a request was answered that a machine was started, or until it has stopped and
-//! posts its Over. `run_machine` runs a machine to its end, and beside it, by fork and join, each machine that it starts, and
-//! those that these start; all of them come back.
+//! A `ThreadedMachine` is a suspended machine, its client, and the waiters of its requests in the order in which it asked. It asks,
+//! waits for the reply and uses it, until a request was answered that a machine was started, or until it has stopped and posts its
+//! Over. `run_machine` runs a machine to its end, and beside it, by fork and join, each machine that it starts, and those that
+//! these start; all of them come back.
 //!
 //! `specs/Threaded.antt` says what a machine in its thread has asked and come to: by itself, over the replies that its waiters
 //! have shown. `specs/Teams.antt` says what comes back: who started whom, that all senders are of one line, and that their

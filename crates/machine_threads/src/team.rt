@@ -3,7 +3,7 @@
 ghost use Rattle.std.specs.Prelude.{◌≡◌, ◌≤◌, ◌<◌, ◌+◌, ◌++◌, Some, None};
 ghost use Rattle.std.specs.Thread.{IsSync};
 ghost use Rattle.machine_rules.specs.declared.TheConstants.{MACHINES};
-ghost use Rattle.machine_seat.specs.Seats.{progress_of, IsSeated};
+ghost use Rattle.suspended_machine.specs.SuspendedMachines.{progress_of, IsSuspended};
 ghost use Rattle.machine_threads.specs.Threaded.{history_of, machine_in, replies_to, overs_of, owed_of, starts_to, IsRunning, IsStartedBy};
 ghost use Rattle.machine_threads.specs.Crews.{machines_in, overs_of_all, starts_to_all, AreOver};
 ghost use Rattle.machine_threads.specs.Teams.{IsTeamOf};
@@ -12,11 +12,11 @@ use crate::crew::{Crew, Places};
 use crate::refusal::{Cause, Refused};
 use crate::threaded::ThreadedMachine;
 use machine_rules::MACHINES;
-use machine_seat::Seat;
 use outside::Gate;
 use std::alloc::Global;
 use std::sync::Wait;
 use std::thread::{Threads, join};
+use suspended_machine::SuspendedMachine;
 
 /// What a machine and those that were run beside it have come to.
 #[derive(Drop)]
@@ -45,7 +45,7 @@ pub fn run_machine<R: Threads + Wait + Sync, G: Gate>(
 {
     let mut machine = machine;
     match machine.run_until_started(rt, alloc, gate) {
-        Ok(Some(seat)) => run_beside(rt, alloc, gate, machine, seat, newest),
+        Ok(Some(suspended)) => run_beside(rt, alloc, gate, machine, suspended, newest),
         Ok(None) => {
             machine.end(rt);
             Ran {
@@ -64,27 +64,27 @@ fn run_beside<R: Threads + Wait + Sync, G: Gate>(
     alloc: Global,
     gate: &G,
     machine: ThreadedMachine,
-    seat: Seat,
+    suspended: SuspendedMachine,
     newest: u16,
 ) -> Ran
     requires running { IsRunning machine }
     requires newest { newest < MACHINES }
     requires room { MACHINES ≤ (history_of machine).room + newest + 1 }
-    requires seated { IsSeated seat }
+    requires is_suspended { IsSuspended suspended }
     requires unposted { overs_of machine ≡ 0 }
-    requires started { IsStartedBy (history_of machine).posted (replies_to machine) (machine_in machine).polls (progress_of seat) }
+    requires started { IsStartedBy (history_of machine).posted (replies_to machine) (machine_in machine).polls (progress_of suspended) }
     ensures team { result.cut ≡ None → IsTeamOf machine (machines_in result.crew) }
     ensures over { AreOver 2 machine (machines_in result.crew) }
 {
     let mut machine = machine;
-    let number = seat.machine.number();
+    let number = suspended.machine.number();
     if number <= newest || usize::from(number) >= MACHINES {
         return given_up(rt, machine, Refused::new(Cause::StrayStart, Some(number)));
     }
     let Ok(places) = Places::new(alloc) else {
         return given_up(rt, machine, Refused::new(Cause::NoMemory, Some(number)));
     };
-    let other = match machine.fork(alloc, seat) {
+    let other = match machine.fork(alloc, suspended) {
         Ok(other) => other,
         Err(_) => return given_up(rt, machine, Refused::new(Cause::NoMemory, Some(number))),
     };

@@ -11,83 +11,83 @@ ghost use Rattle.network.specs.Clients.{client_history, client_line, client_mach
 ghost use Rattle.machine_rules.specs.Machines.{resumed};
 ghost use Rattle.machine_rules.specs.Runs.{at_rest, start_prefix, started_by};
 ghost use Rattle.thread_laws.specs.Alone.{begun_as};
-ghost use Rattle.machine_seat.specs.Seats.{progress_of, Awaits, IsSeated};
+ghost use Rattle.suspended_machine.specs.SuspendedMachines.{progress_of, Awaits, IsSuspended};
 ghost use Rattle.machine_threads.specs.Threaded.{history_of, machine_in, replies_to, overs_of, starts_to, owed_by, owed_of, HasEnded, IsLater, IsRunning, IsStartedBy};
 
 use crate::refusal::{Cause, Refused};
 use fdb_calls::Reply;
 use future_cell::{Waiter, Wake};
 use key_bytes::Bytes;
-use machine_seat::{Seat, is_no_memory, prefix_of, seat_started_by};
 use network::{Client, Post};
 use outside::Gate;
 use request_line::Sender;
 use std::alloc::{AllocError, Global};
 use std::sync::Wait;
+use suspended_machine::{SuspendedMachine, is_no_memory, prefix_of, suspended_started_by};
 
-/// A machine in its thread: the machine at its seat, its client, and the waiters of its requests, in the order in which it asked.
+/// A machine in its thread: the suspended machine, its client, and the waiters of its requests, in the order in which it asked.
 #[derive(Drop)]
 pub struct ThreadedMachine {
-    pub seat: Seat,
+    pub suspended: SuspendedMachine,
     pub client: Client,
     pub waiters: Vec<Waiter<Reply, Wake>>,
 }
 
 impl ThreadedMachine {
     /// Makes a machine that was started, which posts by this sender.
-    pub fn new(alloc: Global, seat: Seat, sender: Sender<Post>) -> ThreadedMachine
-        requires seated { IsSeated seat }
-        requires begun { progress_of seat ≡ begun_as seat.machine.machine }
+    pub fn new(alloc: Global, suspended: SuspendedMachine, sender: Sender<Post>) -> ThreadedMachine
+        requires is_suspended { IsSuspended suspended }
+        requires begun { progress_of suspended ≡ begun_as suspended.machine.machine }
         requires fresh { (history sender).posted ≡ [] }
         ensures running { IsRunning result }
-        ensures seat { result.seat ≡ seat }
+        ensures suspended { result.suspended ≡ suspended }
         ensures history { history_of result ≡ history sender }
         ensures line { client_line result.client ≡ sender_line sender }
     {
-        let client = Client::new(seat.machine.number(), sender);
-        ThreadedMachine::with(alloc, seat, client)
+        let client = Client::new(suspended.machine.number(), sender);
+        ThreadedMachine::with(alloc, suspended, client)
     }
 
     // A machine that was started, with its client.
-    fn with(alloc: Global, seat: Seat, client: Client) -> ThreadedMachine
-        requires seated { IsSeated seat }
-        requires begun { progress_of seat ≡ begun_as seat.machine.machine }
-        requires machine { client_machine client ≡ seat.machine.machine.number }
+    fn with(alloc: Global, suspended: SuspendedMachine, client: Client) -> ThreadedMachine
+        requires is_suspended { IsSuspended suspended }
+        requires begun { progress_of suspended ≡ begun_as suspended.machine.machine }
+        requires machine { client_machine client ≡ suspended.machine.machine.number }
         requires fresh { (client_history client).posted ≡ [] }
         ensures running { IsRunning result }
-        ensures seat { result.seat ≡ seat }
+        ensures suspended { result.suspended ≡ suspended }
         ensures client { result.client ≡ client }
         ensures waiters { result.waiters.items ≡ [] }
     {
         let waiters = Vec::new(alloc);
         ThreadedMachine {
-            seat,
+            suspended,
             client,
             waiters,
         }
     }
 
-    /// Asks until a machine was started, which comes back at its seat, or this one has stopped. A refusal names the machine that a
-    /// reply said was started and that doesn't come back.
+    /// Asks until a machine was started, which comes back at its suspended machine, or this one has stopped. A refusal names the
+    /// machine that a reply said was started and that doesn't come back.
     pub(crate) fn run_until_started<R: Wait, G: Gate>(
         &mut self,
         rt: &R,
         alloc: Global,
         gate: &G,
-    ) -> Result<Option<Seat>, Refused>
+    ) -> Result<Option<SuspendedMachine>, Refused>
         requires { IsRunning self.old }
         ensures running { OnOk result (IsRunning self.new) }
         ensures later { OnOk result (IsLater self.old self.new) }
         ensures room { OnOk result ((history_of self.new).room ≡ (history_of self.old).room) }
-        ensures started { IfOk result (λ started. IfSome started (λ seat. IsSeated seat
-            × IsStartedBy (history_of self.new).posted (replies_to self.new) (machine_in self.new).polls (progress_of seat))) }
-        ensures ended { result ≡ Ok None → self.new.seat.asks ≡ None }
+        ensures started { IfOk result (λ started. IfSome started (λ suspended. IsSuspended suspended
+            × IsStartedBy (history_of self.new).posted (replies_to self.new) (machine_in self.new).polls (progress_of suspended))) }
+        ensures ended { result ≡ Ok None → self.new.suspended.asks ≡ None }
         ensures overs { overs_of self.new ≡ overs_of self.old }
         ensures owes { starts_to self.new ≡ starts_to self.old + owed_by result }
     {
         let mut polled = 0;
         for _ in rt.forever() {
-            if self.seat.asks.is_none() {
+            if self.suspended.asks.is_none() {
                 return Ok(None);
             }
             if let Some(started) = self.ask(rt, alloc, gate, &mut polled)? {
@@ -105,25 +105,25 @@ impl ThreadedMachine {
         alloc: Global,
         gate: &G,
         polled: &mut u32,
-    ) -> Result<Option<Seat>, Refused>
+    ) -> Result<Option<SuspendedMachine>, Refused>
         requires running { IsRunning self.old }
-        requires asks { IsSome self.old.seat.asks }
+        requires asks { IsSome self.old.suspended.asks }
         ensures running { OnOk result (IsRunning self.new) }
         ensures later { OnOk result (IsLater self.old self.new) }
         ensures room { OnOk result ((history_of self.new).room ≡ (history_of self.old).room) }
-        ensures started { IfOk result (λ started. IfSome started (λ seat. IsSeated seat
-            × IsStartedBy (history_of self.new).posted (replies_to self.new) (machine_in self.new).polls (progress_of seat))) }
+        ensures started { IfOk result (λ started. IfSome started (λ suspended. IsSuspended suspended
+            × IsStartedBy (history_of self.new).posted (replies_to self.new) (machine_in self.new).polls (progress_of suspended))) }
         ensures overs { overs_of self.new ≡ overs_of self.old }
         ensures owes { starts_to self.new ≡ starts_to self.old + owed_by result }
     {
         self.waiters.reserve(1)?;
-        let request = self.seat.hand_over();
+        let request = self.suspended.hand_over();
         let prefix = prefix_of(request.request())?;
         gate.rest(*polled);
-        gate.pass(self.seat.machine.number(), self.waiters.len() as u64);
+        gate.pass(self.suspended.machine.number(), self.waiters.len() as u64);
         let asked = self.client.ask(rt, alloc, request)?;
         self.client.prepare(alloc);
-        let (waiter, started) = hear(rt, alloc, &mut self.seat, prefix, asked, polled);
+        let (waiter, started) = hear(rt, alloc, &mut self.suspended, prefix, asked, polled);
         self.waiters.push_reserved(waiter);
         started
     }
@@ -131,14 +131,14 @@ impl ThreadedMachine {
     /// Posts that the machine is over, which has stopped. It takes no memory.
     pub(crate) fn end<R: Wait>(&mut self, rt: &R)
         requires running { IsRunning self.old }
-        requires stopped { self.old.seat.asks ≡ None }
+        requires stopped { self.old.suspended.asks ≡ None }
         ensures ended { HasEnded self.new }
         ensures later { IsLater self.old self.new }
         ensures room { (history_of self.new).room ≡ (history_of self.old).room }
         ensures overs { overs_of self.new ≡ overs_of self.old + 1 }
         ensures starts { starts_to self.new ≡ starts_to self.old }
     {
-        let number = self.seat.machine.number();
+        let number = self.suspended.machine.number();
         self.client.over(rt, number);
     }
 
@@ -150,23 +150,27 @@ impl ThreadedMachine {
         if let Some(started) = refused.owed {
             self.client.over(rt, started);
         }
-        let machine = self.seat.machine.number();
+        let machine = self.suspended.machine.number();
         self.client.over(rt, machine);
     }
 
     /// Makes the machine that this one started, to run beside it. Where memory is wanting, this machine stays as it was.
-    pub(crate) fn fork(&mut self, alloc: Global, seat: Seat) -> Result<ThreadedMachine, AllocError>
+    pub(crate) fn fork(
+        &mut self,
+        alloc: Global,
+        suspended: SuspendedMachine,
+    ) -> Result<ThreadedMachine, AllocError>
         requires running { IsRunning self.old }
         requires room { 1 ≤ (history_of self.old).room }
-        requires seated { IsSeated seat }
-        requires begun { progress_of seat ≡ begun_as seat.machine.machine }
+        requires is_suspended { IsSuspended suspended }
+        requires begun { progress_of suspended ≡ begun_as suspended.machine.machine }
         ensures running { OnOk result (IsRunning self.new) }
         ensures later { OnOk result (IsLater self.old self.new) }
-        ensures seat { OnOk result (self.new.seat ≡ self.old.seat) }
+        ensures suspended { OnOk result (self.new.suspended ≡ self.old.suspended) }
         ensures kept { OnOk result (history_of self.new ≡ lower_half (history_of self.old)) }
         ensures waiters { OnOk result (self.new.waiters ≡ self.old.waiters) }
         ensures made_running { IfOk result IsRunning }
-        ensures made_seat { IfOk result (λ made. made.seat ≡ seat) }
+        ensures made_suspended { IfOk result (λ made. made.suspended ≡ suspended) }
         ensures made { IfOk result (λ made. history_of made ≡ upper_half (history_of self.old)) }
         ensures made_line { IfOk result (λ made. client_line made.client ≡ client_line self.old.client) }
         ensures together { IfOk result (λ made. AreTogether (history_of self.new) (history_of made) (history_of self.old)) }
@@ -174,8 +178,8 @@ impl ThreadedMachine {
         ensures starts { starts_to self.new ≡ starts_to self.old }
         ensures made_starts { IfOk result (λ made. starts_to made ≡ 0) }
     {
-        let client = self.client.fork(seat.machine.number())?;
-        Ok(ThreadedMachine::with(alloc, seat, client))
+        let client = self.client.fork(suspended.machine.number())?;
+        Ok(ThreadedMachine::with(alloc, suspended, client))
     }
 }
 
@@ -184,44 +188,47 @@ impl ThreadedMachine {
 fn hear<R: Wait>(
     rt: &R,
     alloc: Global,
-    seat: &mut Seat,
+    suspended: &mut SuspendedMachine,
     prefix: Option<Bytes>,
     asked: Waiter<Reply, Wake>,
     polled: &mut u32,
-) -> (Waiter<Reply, Wake>, Result<Option<Seat>, Refused>)
-    requires awaits { Awaits seat.old.machine }
+) -> (
+    Waiter<Reply, Wake>,
+    Result<Option<SuspendedMachine>, Refused>,
+)
+    requires awaits { Awaits suspended.old.machine }
     requires unregistered { registration asked ≡ No }
     ensures cell { waiter_cell result.0 ≡ waiter_cell asked }
     ensures heard { (reply : ReplySaid) × (shown result.0 ≡ Some reply) × (owed_by result.1 ≡ starts_in (Some reply ∷ []))
-        × OnOk result.1 (progress_of seat.new ≡ at_rest (resumed seat.old.machine.machine reply))
-        × IfOk result.1 (λ started. map progress_of (option_to_list started) ≡ started_by prefix seat.old.machine.machine.polls reply) }
-    ensures seated { OnOk result.1 (IsSeated seat.new) }
-    ensures started { IfOk result.1 (λ started. IfSome started IsSeated) }
+        × OnOk result.1 (progress_of suspended.new ≡ at_rest (resumed suspended.old.machine.machine reply))
+        × IfOk result.1 (λ started. map progress_of (option_to_list started) ≡ started_by prefix suspended.old.machine.machine.polls reply) }
+    ensures is_suspended { OnOk result.1 (IsSuspended suspended.new) }
+    ensures started { IfOk result.1 (λ started. IfSome started IsSuspended) }
 {
     let mut waiter = asked;
     let reply = waiter.wait_in(rt, alloc);
     *polled = polled_on(*polled, reply);
-    let started = use_reply(alloc, seat, prefix, reply);
+    let started = use_reply(alloc, suspended, prefix, reply);
     (waiter, started)
 }
 
 // Lets a machine use a reply: the machine that was started by it, if one was. Where that one doesn't come back, its Over is owed.
 fn use_reply(
     alloc: Global,
-    seat: &mut Seat,
+    suspended: &mut SuspendedMachine,
     prefix: Option<Bytes>,
     reply: &Reply,
-) -> Result<Option<Seat>, Refused>
-    requires { Awaits seat.old.machine }
-    ensures rests { OnOk result (progress_of seat.new ≡ at_rest (resumed seat.old.machine.machine reply.now)) }
-    ensures seated { OnOk result (IsSeated seat.new) }
+) -> Result<Option<SuspendedMachine>, Refused>
+    requires { Awaits suspended.old.machine }
+    ensures rests { OnOk result (progress_of suspended.new ≡ at_rest (resumed suspended.old.machine.machine reply.now)) }
+    ensures is_suspended { OnOk result (IsSuspended suspended.new) }
     ensures started { IfOk result (λ started. map progress_of (option_to_list started)
-        ≡ started_by prefix seat.old.machine.machine.polls reply.now) }
-    ensures started_seated { IfOk result (λ started. IfSome started IsSeated) }
+        ≡ started_by prefix suspended.old.machine.machine.polls reply.now) }
+    ensures started_is_suspended { IfOk result (λ started. IfSome started IsSuspended) }
     ensures owes { owed_by result ≡ starts_in (Some reply.now ∷ []) }
 {
     let owed = number_started(reply);
-    match seat_both(alloc, seat, prefix, reply) {
+    match suspended_both(alloc, suspended, prefix, reply) {
         Ok(Some(started)) => Ok(Some(started)),
         Ok(None) if owed.is_none() => Ok(None),
         Ok(None) => Err(Refused::new(Cause::StrayStart, owed)),
@@ -230,25 +237,25 @@ fn use_reply(
 }
 
 // The machine that was started by a reply, if one was, once its starter has used the reply.
-fn seat_both(
+fn suspended_both(
     alloc: Global,
-    seat: &mut Seat,
+    suspended: &mut SuspendedMachine,
     prefix: Option<Bytes>,
     reply: &Reply,
-) -> Result<Option<Seat>, AllocError>
-    requires { Awaits seat.old.machine }
-    ensures rests { OnOk result (progress_of seat.new ≡ at_rest (resumed seat.old.machine.machine reply.now)) }
-    ensures seated { OnOk result (IsSeated seat.new) }
+) -> Result<Option<SuspendedMachine>, AllocError>
+    requires { Awaits suspended.old.machine }
+    ensures rests { OnOk result (progress_of suspended.new ≡ at_rest (resumed suspended.old.machine.machine reply.now)) }
+    ensures is_suspended { OnOk result (IsSuspended suspended.new) }
     ensures started { IfOk result (λ started. map progress_of (option_to_list started)
-        ≡ started_by prefix seat.old.machine.machine.polls reply.now) }
-    ensures started_seated { IfOk result (λ started. IfSome started IsSeated) }
+        ≡ started_by prefix suspended.old.machine.machine.polls reply.now) }
+    ensures started_is_suspended { IfOk result (λ started. IfSome started IsSuspended) }
 {
     if is_no_memory(reply) {
         return Err(AllocError);
     }
-    let polls = seat.machine.polls();
-    seat.use_awaited(reply)?;
-    seat_started_by(alloc, prefix, polls, reply)
+    let polls = suspended.machine.polls();
+    suspended.use_awaited(reply)?;
+    suspended_started_by(alloc, prefix, polls, reply)
 }
 
 // The number of the machine that was started by a reply, if one was.

@@ -1,4 +1,4 @@
-//! Trials of ordered maps and what is built of them: edge maps, sets of keys, the index of writes, pending mutations and reads
+//! Trials of ordered maps and what is built of them: boundary maps, sets of keys, the index of writes, pending mutations and reads
 //! of ranges.
 //!
 //! They call public functions alone: each call once with memory, and a large index.

@@ -1,7 +1,7 @@
 use key_bytes::{Bytes, Key, KeyRange};
 use std::alloc::{AllocError, Global};
 
-mod edges;
+mod boundaries;
 mod edits;
 mod index;
 mod ordered;

@@ -16,7 +16,7 @@ use Rattle.network.specs.declared.post.Post.{Post}
 use Rattle.network.specs.declared.post.Post.TheVariants.{Ask, Over}
 use Rattle.network.specs.Posts.{asked_by, asked_in, cell_by, cells_in}
 use Rattle.network.specs.Serving.{AreNoted, IsRun, Replies, Serves, cells_of, replies_of}
-use Rattle.network.specs.Desks.{AddsReplyTo}
+use Rattle.network.specs.ServerStates.{AddsReplyTo}
 use Rattle.network.proofs.Runs.{IsRun-more}
 
 push_is_some : {X : Type 0} (xs : List X) (x : X) → xs ++ x ∷ [] ≢ []

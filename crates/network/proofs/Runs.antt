@@ -17,7 +17,7 @@ use Rattle.network.specs.declared.post.Post.{Post}
 use Rattle.network.specs.declared.post.Post.TheVariants.{Ask}
 use Rattle.network.specs.Posts.{posts_of, asked_by, asked_in, cell_by, is_over, overs_in}
 use Rattle.network.specs.Serving.{IsRun, Serves, replies_of}
-use Rattle.network.specs.Desks.{AddsAnswer}
+use Rattle.network.specs.ServerStates.{AddsAnswer}
 
 module _ {S : Type 0} (answers : S → ℕ → Request → Reply → S → Type 0) where
   -- a run goes on by one more answer

@@ -1,5 +1,5 @@
 pub mod Posts
 pub mod Serving
-pub mod Desks
+pub mod ServerStates
 pub mod Clients
 pub mod Pairing

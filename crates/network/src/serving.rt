@@ -13,9 +13,9 @@ use request_line::Receiver;
 use std::alloc::Global;
 use std::sync::Wait;
 
-mod desk;
+mod server;
 
-use desk::Desk;
+use server::ServerState;
 
 /// What was served.
 #[derive(Drop)]
@@ -52,13 +52,13 @@ pub fn serve<S: Service, R: Wait>(
     ensures closed { closed receiver.new ≡ closed receiver.old }
     ensures line { receiver_line receiver.new ≡ receiver_line receiver.old }
 {
-    let mut desk = Desk::new(alloc);
+    let mut server = ServerState::new(alloc);
     for _ in rt.forever() {
-        if desk.over == desk.machines {
-            return desk.close();
+        if server.over == server.machines {
+            return server.close();
         }
         let (_, post) = receiver.take(rt);
-        desk.take(service, post);
+        server.take(service, post);
     }
     unreachable!()
 }

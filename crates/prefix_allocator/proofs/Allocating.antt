@@ -338,7 +338,7 @@ full_allocated setting opened stands words left space first start t has done use
     (ap (λ (plan : Plan). plan.ending) (plan_is setting t space first start opened words has) ∙ ap (granting start) (sym all.0))
     all.1 (λ u after. after) (words_left setting t space first start opened words left has used)
 
--- the number was declared
+-- the number got a write conflict range
 pub granted_allocated : (number : ℕ) (done : Unit {0}) (setting : Setting) (opened tried stands : Transaction → Type 0) (words left : ℕ
     → ℕ) (space : List ℕ) (first start : ℕ) (t : Transaction)
     → HasOpened setting t space first start opened
@@ -356,7 +356,7 @@ granted_allocated number done setting opened tried stands words left space first
     (ap (λ (plan : Plan). plan.ending) (plan_is setting t space first start opened words has) ∙ ap (granting start) (sym all.0))
     all.1 (λ u after. granted u (length t.script) after) (words_left setting t space first start opened words left has used)
 
--- the number was not declared
+-- the number got no write conflict range
 pub fault_claiming : (number : ℕ) (f : TrFault) (setting : Setting) (opened tried stands : Transaction → Type 0) (words left : ℕ → ℕ)
     (space : List ℕ) (first start : ℕ) (t : Transaction)
     → HasOpened setting t space first start opened

@@ -12,7 +12,7 @@ use Rattle.fdb_calls.specs.declared.Reply.TheVariants as reply
 use Rattle.fdb_calls.specs.declared.fault.TrFault.{TrFault}
 use Rattle.fdb_calls.specs.Answers.{Answered}
 use Rattle.fdb_calls.specs.Calling.{read_called}
-use Rattle.allocator_rules.specs.Acts.{Act, Reads, Writes, Silences, act_called, refusal}
+use Rattle.allocator_rules.specs.Acts.{Act, Reads, Writes, DisablesWriteConflict, act_called, refusal}
 use Rattle.allocator_rules.specs.Counters.{counter_key, recent_key, counters_begin, counters_end, greatest_counter, one_more, counts_half, is_recent}
 use Rattle.allocator_rules.specs.Granting.{asks_greatest, counts, tries}
 use Rattle.allocator_rules.proofs.Reading.{value_read, pairs_read}
@@ -64,11 +64,11 @@ pub tried : (setting : Setting) (t : Transaction) (space : List ℕ) (number : �
     (first stands : Transaction → Type 0)
     → Read (Ok value) first setting (recent_key space number) false t
     → ((u : Transaction) → first u
-    → Done (Present setting t space number) result setting stands (Silences ∷ Writes (Set (recent_key space number) []) ∷ []) u)
+    → Done (Present setting t space number) result setting stands (DisablesWriteConflict ∷ Writes (Set (recent_key space number) []) ∷ []) u)
     → Done (Present setting t space number) result setting stands (tries space (record { number = number; is_drawn = false })) t
 tried setting t space number value result first stands answered others =
     then_done (Present setting t space number) reply.Value value result setting first stands (Reads (Get (recent_key space number)) false)
-    (Silences ∷ Writes (Set (recent_key space number) []) ∷ []) t (λ value. refl) answered others
+    (DisablesWriteConflict ∷ Writes (Set (recent_key space number) []) ∷ []) t (λ value. refl) answered others
 
 not_not : (one other : Bool) → not one ≡ other → one ≡ not other
 not_not true other is = ap not is

@@ -11,7 +11,7 @@ use Rattle.database_rules.specs.Transactions.{Transaction, view}
 use Rattle.fdb_calls.specs.declared.fault.TrFault.{TrFault}
 use Rattle.fdb_calls.specs.declared.fault.TrFault.TheVariants as fault
 use Rattle.allocator_rules.specs.declared.TheConstants.{RANDOM_TRIES}
-use Rattle.allocator_rules.specs.Acts.{Act, Acted, Reads, Writes, Silences, all_acted}
+use Rattle.allocator_rules.specs.Acts.{Act, Acted, Reads, Writes, DisablesWriteConflict, all_acted}
 use Rattle.allocator_rules.specs.Acts as act
 use Rattle.allocator_rules.specs.Counters.{window, recent_key, is_recent}
 use Rattle.allocator_rules.specs.Granting.{Candidate, counting, drawn, tried, tries}
@@ -168,7 +168,7 @@ quiet_tries : (space : List ℕ) (candidate : Candidate) → is_scanned candidat
 quiet_tries space candidate is = by candidate.is_drawn is
   where
     by : (is_drawn : Bool) → not is_drawn ≡ true
-        → list_all draws_none ((cond is_drawn (act.Draws ∷ []) []) ++ Reads (Get (recent_key space candidate.number)) false ∷ Silences
+        → list_all draws_none ((cond is_drawn (act.Draws ∷ []) []) ++ Reads (Get (recent_key space candidate.number)) false ∷ DisablesWriteConflict
         ∷ Writes (Set (recent_key space candidate.number) []) ∷ []) ≡ true
     by true is = absurd cc
     by false is = refl

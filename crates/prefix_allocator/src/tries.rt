@@ -130,7 +130,7 @@ fn scan_window<T: Tr>(
     Ok(None)
 }
 
-// Whether a number is absent. It is present from now on, without being declared.
+// Whether a number is absent. It is present from now on, without a write conflict range.
 fn try_number<T: Tr>(tr: &mut T, keys: &AllocatorKeys, number: u64) -> Result<bool, TrFault>
     ensures tried { (setting : Setting) (t : Transaction) → T.Tr.stands tr.old setting t
         → Done (λ absent. absent ≡ not (is_recent keys.now.space (view setting t) number)) result setting (T.Tr.stands tr.new setting)
@@ -144,7 +144,7 @@ fn try_number<T: Tr>(tr: &mut T, keys: &AllocatorKeys, number: u64) -> Result<bo
     Ok(value.is_none())
 }
 
-/// Declares a number that is granted, so that no transaction beside this one gets it too.
+/// Adds a write conflict range for a number that is granted, so that no transaction beside this one gets it too.
 pub(crate) fn claim_number<T: Tr>(
     tr: &mut T,
     keys: &AllocatorKeys,

@@ -109,7 +109,7 @@ fn is_half(start: u64, count: &[u8]) -> bool
     count < LEAST_NEGATIVE && window(start) <= 2 * count
 }
 
-// Clears the counters below a start, and the numbers below it that were tried, those without being declared.
+// Clears the counters below a start, and the numbers below it that were tried, those without a write conflict range.
 fn clear_below<T: Tr>(tr: &mut T, keys: &AllocatorKeys, start: u64) -> Result<(), TrFault>
     ensures cleared { (setting : Setting) (t : Transaction) → T.Tr.stands tr.old setting t
         → Done (λ _. ⊤) result setting (T.Tr.stands tr.new setting) (clears_below keys.now.space start) t }

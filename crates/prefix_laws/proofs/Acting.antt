@@ -11,18 +11,19 @@ use Rattle.database_rules.specs.Databases.{Mutation, Set, Clear, ClearRange, Ato
 use Rattle.database_rules.specs.Histories.{Setting, last, written}
 use Rattle.database_rules.specs.Intervals.{added, one}
 use Rattle.database_rules.specs.Reads.{Answer, Read, answer}
-use Rattle.database_rules.specs.Transactions.{Transaction, clear_code, first_failing, is_ahead, is_hidden, map_below, op_code, phase_code, range_code, read_code, set_code, silenced, version_in, view, with_read, with_version, with_write_range, writes_of}
-use Rattle.database_rules.proofs.Declaring.{written-append, written_read, written_wrote}
+use Rattle.database_rules.specs.Transactions.{Transaction, clear_code, first_failing, is_ahead, is_hidden, map_below, op_code, phase_code, range_code, read_code, set_code, with_write_conflict_disabled, version_in, view, with_read, with_version, with_write_range, writes_of}
+use Rattle.database_rules.proofs.AddingConflicts.{written-append, written_read, written_wrote}
 use Rattle.fdb_calls.specs.declared.Reply.{Reply}
 use Rattle.fdb_calls.specs.declared.Reply.TheVariants as reply
 use Rattle.fdb_calls.specs.Calling.{does_by, read_at_version, read_by, read_called, write_by, write_conflict_called}
-use Rattle.allocator_rules.specs.Acts.{Act, Draws, Reads, Writes, Silences, Declares, act_called, acted_by, all_acted, refusal, words_of, writing, written_by, write_called}
+use Rattle.allocator_rules.specs.Acts.{Act, Draws, Reads, Writes, DisablesWriteConflict, AddsWriteConflict, act_called, acted_by, all_acted, refusal, words_of, writing, written_by, write_called}
 use Rattle.prefix_laws.specs.Held.{HasGrown}
 use Rattle.prefix_laws.proofs.Recording.{act_grown, grown_twice, same_grown}
 
 -- ---- one call
 
--- a read that was made: its version is not above the last, no key that it rests on is unreadable, and so it leaves the transaction
+-- a read that was made: its version is not above the last, no key of its read conflict range is unreadable, and so it leaves the
+-- transaction
 pub record IsReadMade (setting : Setting) (transaction : Transaction) (snapshot : Bool) (read : Read) (after : Transaction) : Type 0 where
   pub reached : version_in setting transaction ≤ last setting.history
   pub seen : is_hidden setting transaction read ≡ false
@@ -30,7 +31,7 @@ pub record IsReadMade (setting : Setting) (transaction : Transaction) (snapshot 
       ≡ with_read snapshot read (answer read (view setting transaction))
       (added read (map_below setting transaction) (writes_of transaction)) (with_version setting transaction)
 
--- by whether its version is above the last, and whether it rests on an unreadable key
+-- by whether its version is above the last, and whether its read conflict range has an unreadable key
 abbrev late_code : (ahead hidden : Bool) → Option ℕ
 late_code ahead hidden = first_failing ((ahead, FUTURE_VERSION) ∷ (hidden, ACCESSED_UNREADABLE) ∷ [])
 
@@ -74,7 +75,7 @@ write_made : (code : Option ℕ) (transaction : Transaction) (mutation : Mutatio
     → refusal (write_by code transaction mutation).reply ≡ None
     → writes_of (write_by code transaction mutation).transaction ≡ writes_of transaction ++ mutation ∷ []
 write_made (Some code) transaction mutation passed = absurd cc
-write_made None transaction mutation passed = written_wrote transaction.script mutation (not transaction.is_silenced)
+write_made None transaction mutation passed = written_wrote transaction.script mutation (not transaction.skips_write_conflict)
 
 -- whatever mutation it is
 write_called_made : (transaction : Transaction) (mutation : Mutation) → refusal (write_called transaction mutation).reply ≡ None
@@ -92,11 +93,11 @@ does_made : (code : Option ℕ) (transaction after : Transaction) (answered : Re
 does_made (Some code) transaction after answered passed = absurd cc
 does_made None transaction after answered passed = refl
 
--- a key that is declared, where that was let through
-pub declared_made : (transaction : Transaction) (key : List ℕ)
+-- a key that gets a write conflict range, where that was let through
+pub write_conflicts_made : (transaction : Transaction) (key : List ℕ)
     → refusal (write_conflict_called transaction (one key)).reply ≡ None
     → (write_conflict_called transaction (one key)).transaction ≡ with_write_range transaction (one key)
-declared_made transaction key passed =
+write_conflicts_made transaction key passed =
     does_made (range_code transaction.phase (one key).begin (one key).end) transaction (with_write_range transaction (one key)) _ passed
 
 -- an act that was let through writes its mutation
@@ -109,11 +110,11 @@ act_wrote setting transaction (Reads read snapshot) passed =
     (added read (map_below setting transaction) (writes_of transaction)) (with_version setting transaction)
     ∙ sym (append-nil (writes_of transaction))
 act_wrote setting transaction (Writes mutation) passed = write_called_made transaction mutation passed
-act_wrote setting transaction Silences passed =
-    ap writes_of (does_made (phase_code transaction.phase) transaction (silenced transaction) reply.Done passed)
+act_wrote setting transaction DisablesWriteConflict passed =
+    ap writes_of (does_made (phase_code transaction.phase) transaction (with_write_conflict_disabled transaction) reply.Done passed)
     ∙ sym (append-nil (writes_of transaction))
-act_wrote setting transaction (Declares key) passed =
-    ap writes_of (declared_made transaction key passed) ∙ sym (append-nil (writes_of transaction))
+act_wrote setting transaction (AddsWriteConflict key) passed =
+    ap writes_of (write_conflicts_made transaction key passed) ∙ sym (append-nil (writes_of transaction))
 
 -- ---- acts in their order
 

@@ -18,7 +18,7 @@ use Rattle.database_rules.specs.States.{covers}
 use Rattle.database_rules.proofs.Deciding.{covers-decided-append}
 use Rattle.database_rules.proofs.Ranges.{covers_one}
 use Rattle.allocator_rules.specs.declared.TheConstants.{RANDOM_TRIES}
-use Rattle.allocator_rules.specs.Acts.{Act, Draws, Reads, Writes, Silences, Declares, written_by}
+use Rattle.allocator_rules.specs.Acts.{Act, Draws, Reads, Writes, DisablesWriteConflict, AddsWriteConflict, written_by}
 use Rattle.allocator_rules.specs.Counters.{counter_in, counts_half, counted, greatest_counter, is_recent, recent_key, window}
 use Rattle.allocator_rules.specs.Granting.{Candidate, Grants, above, asks_greatest, candidates, claims, clears_below, counting, counts, drawn, first_absent, granting, opens, plan, plan_at, plan_by, plan_counter, plan_from, plan_under, tried, tries}
 use Rattle.allocator_rules.proofs.Keys.{recent_cleared, recent_kept}
@@ -158,13 +158,13 @@ tries_undecided space database number (candidate ∷ front) absent present =
 
 -- ---- what a call is to do
 
--- a number is read, found absent, set without being declared, and then declared
+-- a number is read, found absent, set without a write conflict range, and then gets one
 abbrev pub finds : (space : List ℕ) → (number : ℕ) → List Act
 finds space number =
     Reads (Get (recent_key space number)) false
-    ∷ Silences
+    ∷ DisablesWriteConflict
     ∷ Writes (Set (recent_key space number) [])
-    ∷ Declares (recent_key space number)
+    ∷ AddsWriteConflict (recent_key space number)
     ∷ []
 
 -- this is the greatest counter, or there is none
@@ -198,7 +198,7 @@ parted : (before : List Act) (space : List ℕ) (front : List Candidate) (last :
 parted before space front last =
     ap (λ list. before ++ list ++ claims space (Some last.number)) (flat_map-append (tries space) front (last ∷ []))
     ∙ regrouped before (flat_map (tries space) front) (if last.is_drawn then Draws ∷ [] else [])
-    (Reads (Get (recent_key space last.number)) false ∷ Silences ∷ Writes (Set (recent_key space last.number) []) ∷ [])
+    (Reads (Get (recent_key space last.number)) false ∷ DisablesWriteConflict ∷ Writes (Set (recent_key space last.number) []) ∷ [])
     (claims space (Some last.number))
 
 -- drawing a word leaves each key

@@ -68,13 +68,13 @@ spent_from space number (suc version) (first ∷ before) commit later database s
 
 -- ---- a commit that is judged by another one
 
--- reads at a version conflict with a commit after it that declares one of their keys
+-- reads at a version conflict with a commit after it that has one of their keys among its write conflict ranges
 conflicts_with : (version : ℕ) (before : List Commit) (commit : Commit) (later : List Commit) (reads : List KeyRange)
-    → version ≤ length before → any_meet commit.declared reads ≡ true → conflicts (before ++ commit ∷ later) version reads ≡ true
+    → version ≤ length before → any_meet commit.write_conflicts reads ≡ true → conflicts (before ++ commit ∷ later) version reads ≡ true
 conflicts_with zero [] commit later reads at_most meet =
-    or_left (any_meet commit.declared reads) (list_any (λ other. any_meet other.declared reads) later) meet
+    or_left (any_meet commit.write_conflicts reads) (list_any (λ other. any_meet other.write_conflicts reads) later) meet
 conflicts_with zero (first ∷ before) commit later reads at_most meet =
-    or_right (any_meet first.declared reads) (list_any (λ other. any_meet other.declared reads) (before ++ commit ∷ later))
+    or_right (any_meet first.write_conflicts reads) (list_any (λ other. any_meet other.write_conflicts reads) (before ++ commit ∷ later))
     (conflicts_with zero before commit later reads (omega arith) meet)
 conflicts_with (suc version) [] commit later reads at_most meet = absurd (omega (arith, at_most))
 conflicts_with (suc version) (first ∷ before) commit later reads at_most meet =
@@ -94,7 +94,7 @@ not_again space number before commit between other grant keeping again judged = 
     by (inr unseen) =
         both_ways (conflicts (before ++ commit ∷ between) other.version other.read_ranges) judged
         (conflicts_with other.version before commit between other.read_ranges unseen
-        (any_meet_at commit.declared other.read_ranges (recent_key space number) grant.declares again.rests))
+        (any_meet_at commit.write_conflicts other.read_ranges (recent_key space number) grant.adds_conflict again.read_conflict))
 
 -- nor by any of those after it
 none_again : (space : List ℕ) (number : ℕ) (before : History) (commit : Commit) (between commits : List Commit)

@@ -46,7 +46,7 @@ none_behind : (entries : Entries) (entry : List ℕ × List ℕ) (others : Entri
 none_behind [] entry others is = absurd cc
 none_behind (first ∷ entries) entry others is = cc
 
--- no key of counters that a reverse read of one pair rests on is unreadable
+-- no key of counters in the read conflict range of a reverse read of one pair is unreadable
 abbrev pub CanReadCounters : (space : List ℕ) → List Mutation → Database → Type 0
 CanReadCounters space writes database =
     any_meet (interval (GetKeyRange (counters_begin space) (counters_end space) 1 true) (seen writes database)) (unreadable writes) ≡ false

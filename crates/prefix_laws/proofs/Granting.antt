@@ -15,27 +15,27 @@ use Rattle.database_rules.proofs.Deciding.{covers-decided-append}
 use Rattle.database_rules.proofs.Ranges.{covers_one, covers_with_range, covers_without, has_one}
 use Rattle.database_rules.proofs.States.{covers-append, covers-unreadable-append}
 use Rattle.fdb_calls.specs.Calling.{read_called, write_conflict_called}
-use Rattle.allocator_rules.specs.Acts.{Act, Acted, Reads, Writes, Silences, Declares, all_acted, written_by}
+use Rattle.allocator_rules.specs.Acts.{Act, Acted, Reads, Writes, DisablesWriteConflict, AddsWriteConflict, all_acted, written_by}
 use Rattle.allocator_rules.specs.Counters.{counters_begin, counters_end, recent_key}
 use Rattle.allocator_rules.specs.Granting.{Ending, Grants, IsFull, IsNoCounter, IsRefused, allocated, asks_greatest, ended, plan}
 use Rattle.prefix_laws.specs.Held.{AreFit, AreSpending, HasGranted, HasGrown}
-use Rattle.prefix_laws.proofs.Acting.{AreLetThrough, all_grown, all_wrote, declared_made, entries_wrote, first_act, in_parts, left_by, left_first, none_left, read_made, version_left}
+use Rattle.prefix_laws.proofs.Acting.{AreLetThrough, all_grown, all_wrote, write_conflicts_made, entries_wrote, first_act, in_parts, left_by, left_first, none_left, read_made, version_left}
 use Rattle.prefix_laws.proofs.Finding.{AreGrantActs, finds, grant_acts}
 use Rattle.prefix_laws.proofs.Freeing.{is_free, unmet}
 use Rattle.prefix_laws.proofs.Planned.{plan_fit, plan_plain, plan_small, plan_spends}
 
--- ---- a key that is found, and then declared
+-- ---- a key that is found, and then gets a write conflict range
 
 -- the range of a key has the key
 pub has_itself : (key : List ℕ) → covers (one key ∷ []) key ≡ true
 has_itself key = covers_one key key ∙ (bytes_eq-Decides key key).1 refl
 
--- A number's key that was read, set and declared: it could be read; what is left rests on it, unless the mutations before decide it, and
--- declares it.
+-- A number's key that was read and set, and has a write conflict range: it could be read; what is left has it among its read
+-- conflict ranges, unless the mutations before decide it, and among its write conflict ranges.
 record IsFound (writes : List Mutation) (key : List ℕ) (after : Transaction) : Type 0 where
   readable : covers (unreadable writes) key ≡ false
-  rests : covers (decided writes) key ≡ false → covers after.read_ranges key ≡ true
-  declares : covers after.write_ranges key ≡ true
+  read_conflict : covers (decided writes) key ≡ false → covers after.read_ranges key ≡ true
+  adds_conflict : covers after.write_ranges key ≡ true
 
 -- so it is where that was let through
 is_found : (setting : Setting) (transaction : Transaction) (space : List ℕ) (number : ℕ)
@@ -45,27 +45,27 @@ unfolding added
 is_found setting transaction space number passed =
     let key = recent_key space number in
     let read = Get key in
-    let writing : List Act = Silences ∷ Writes (Set key []) ∷ [] in
-    let behind : List Act = writing ++ Declares key ∷ [] in
+    let writing : List Act = DisablesWriteConflict ∷ Writes (Set key []) ∷ [] in
+    let behind : List Act = writing ++ AddsWriteConflict key ∷ [] in
     let next = (read_called setting transaction false false read).transaction in
     let adds = added read (map_below setting transaction) (writes_of transaction) in
     let made = read_made setting transaction false false read (first_act setting (Reads read false) behind transaction passed) in
-    let parts = in_parts setting (Reads read false ∷ writing) (Declares key ∷ []) transaction passed in
+    let parts = in_parts setting (Reads read false ∷ writing) (AddsWriteConflict key ∷ []) transaction passed in
     let last = left_by setting (Reads read false ∷ writing) transaction in
     let end : left_by setting (finds space number) transaction ≡ with_write_range last (one key) =
-    parts.left ∙ left_first setting (Declares key) [] last parts.behind
+    parts.left ∙ left_first setting (AddsWriteConflict key) [] last parts.behind
     ∙ none_left setting (write_conflict_called last (one key)).transaction
-    ∙ declared_made last key (first_act setting (Declares key) [] last parts.behind) in record {
+    ∙ write_conflicts_made last key (first_act setting (AddsWriteConflict key) [] last parts.behind) in record {
       readable = unmet (one key ∷ []) (unreadable (writes_of transaction)) key made.seen (has_itself key);
-      rests = λ undecided.
+      read_conflict = λ undecided.
           ap (λ (t : Transaction). covers t.read_ranges key) (left_first setting (Reads read false) behind transaction passed)
-          ∙ (all_grown setting behind next).rests_still key
+          ∙ (all_grown setting behind next).read_conflict_still key
           (ap (λ (t : Transaction). covers t.read_ranges key) made.is
           ∙ covers-append transaction.read_ranges adds key
           ∙ or_right (covers transaction.read_ranges key) (covers adds key)
           (covers_without (decided (writes_of transaction)) (one key ∷ []) key
           ∙ and_from (covers (one key ∷ []) key) (not (covers (decided (writes_of transaction)) key)) (has_itself key) (ap not undecided)));
-      declares = ap (λ (t : Transaction). covers t.write_ranges key) end
+      adds_conflict = ap (λ (t : Transaction). covers t.write_ranges key) end
           ∙ covers_with_range last.write_ranges (one key) key
           ∙ or_right (covers last.write_ranges key) (has (one key) key) (has_one key key ∙ (bytes_eq-Decides key key).1 refl);
     }
@@ -115,14 +115,14 @@ acted_has setting transaction space number listed granting planned passed =
           (sym (covers-unreadable-append (writes_of transaction) (written_by before) key)
           ∙ ap (λ list. covers (unreadable list) key) (sym wrote) ∙ found.readable)).0
           granting.greatest granting.from_first made.seen;
-      rests = λ undecided. ap (λ (t : Transaction). covers t.read_ranges key) parts.left
-          ∙ found.rests (ap (λ list. covers (decided list) key) wrote
+      read_conflict = λ undecided. ap (λ (t : Transaction). covers t.read_ranges key) parts.left
+          ∙ found.read_conflict (ap (λ list. covers (decided list) key) wrote
           ∙ covers-decided-append (writes_of transaction) (written_by before) key
           ∙ or_from (covers (decided (writes_of transaction)) key) (covers (decided (written_by before)) key) undecided
           (granting.undecided planned.small));
-      rests_still = grown.rests_still;
-      declares = ap (λ (t : Transaction). covers t.write_ranges key) parts.left ∙ found.declares;
-      declares_still = grown.declares_still;
+      read_conflict_still = grown.read_conflict_still;
+      adds_conflict = ap (λ (t : Transaction). covers t.write_ranges key) parts.left ∙ found.adds_conflict;
+      adds_conflict_still = grown.adds_conflict_still;
     }
 
 -- ---- how a call ends

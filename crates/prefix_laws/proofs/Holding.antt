@@ -8,11 +8,11 @@ use Rattle.std.proofs.lemmas.Option.{none-some}
 use Rattle.std.proofs.lemmas.Slice.Eq.{bytes_eq-Decides}
 use Rattle.database_rules.specs.declared.Phase.{Phase}
 use Rattle.database_rules.specs.declared.Phase.TheVariants as phase
-use Rattle.database_rules.specs.Histories.{History, Script, Setting, Granted, after_commits, at, declared_by, last, written}
+use Rattle.database_rules.specs.Histories.{History, Script, Setting, Granted, after_commits, at, write_conflicts_by, last, written}
 use Rattle.database_rules.specs.Intervals.{decided}
 use Rattle.database_rules.specs.States.{all_filled, covers}
-use Rattle.database_rules.specs.Transactions.{Transaction, cancelled, declared_of, fresh, is_tried, version_in, with_phase, with_version, writes_of}
-use Rattle.database_rules.proofs.Declaring.{declared-append, written-append, written_granted}
+use Rattle.database_rules.specs.Transactions.{Transaction, cancelled, write_conflicts_of, fresh, is_tried, version_in, with_phase, with_version, writes_of}
+use Rattle.database_rules.proofs.AddingConflicts.{write_conflicts-append, written-append, written_granted}
 use Rattle.database_rules.proofs.States.{covers-append, filled-append}
 use Rattle.allocator_rules.specs.Counters.{recent_key}
 use Rattle.prefix_laws.specs.Prefixes.{IsGranting, granted_by, grants_in}
@@ -26,14 +26,14 @@ use Rattle.prefix_laws.proofs.Spending.{fit_append, fit_nothing, spending_first,
 -- ---- what some entries more leave of a transaction
 
 -- A transaction has these entries more, of which the mutations are fit for the allocator of a subspace, also with this versionstamp
--- filled in; and it keeps its version, what it rests on and what it was told to declare.
+-- filled in; and it keeps its version, its read conflict ranges and the write conflict ranges that were added to it.
 record HasMore (stamp space : List ℕ) (before after : Transaction) (entries : Script) : Type 0 where
   pub more : after.script ≡ before.script ++ entries
   pub fit : AreFit space (written entries)
   pub filled_fit : AreFit space (all_filled stamp (written entries))
   pub taken : (version : ℕ) → before.version ≡ Some version → after.version ≡ Some version
-  pub rests_still : (key : List ℕ) → covers before.read_ranges key ≡ true → covers after.read_ranges key ≡ true
-  pub declares_still : (key : List ℕ) → covers before.write_ranges key ≡ true → covers after.write_ranges key ≡ true
+  pub read_conflict_still : (key : List ℕ) → covers before.read_ranges key ≡ true → covers after.read_ranges key ≡ true
+  pub adds_conflict_still : (key : List ℕ) → covers before.write_ranges key ≡ true → covers after.write_ranges key ≡ true
 
 -- its mutations are those before and those of the entries
 writes_more : (before after : Transaction) (entries : Script) → after.script ≡ before.script ++ entries
@@ -46,22 +46,22 @@ filled_more : (stamp : List ℕ) (before after : Transaction) (entries : Script)
 filled_more stamp before after entries more =
     ap (all_filled stamp) (writes_more before after entries more) ∙ filled-append stamp (writes_of before) (written entries)
 
--- what was declared is declared still
-declared_more : (stamp : List ℕ) (before after : Transaction) (entries : Script) (key : List ℕ) → after.script ≡ before.script ++ entries
+-- a write conflict range stays one
+write_conflicts_more : (stamp : List ℕ) (before after : Transaction) (entries : Script) (key : List ℕ) → after.script ≡ before.script ++ entries
     → (covers before.write_ranges key ≡ true → covers after.write_ranges key ≡ true)
-    → covers (declared_of stamp before) key ≡ true → covers (declared_of stamp after) key ≡ true
-declared_more stamp before after entries key more still declares =
-    covers-append (declared_by stamp after.script) after.write_ranges key
-    ∙ by (or_cases (covers (declared_by stamp before.script) key) (covers before.write_ranges key)
-    (sym (covers-append (declared_by stamp before.script) before.write_ranges key) ∙ declares))
+    → covers (write_conflicts_of stamp before) key ≡ true → covers (write_conflicts_of stamp after) key ≡ true
+write_conflicts_more stamp before after entries key more still adds_conflict =
+    covers-append (write_conflicts_by stamp after.script) after.write_ranges key
+    ∙ by (or_cases (covers (write_conflicts_by stamp before.script) key) (covers before.write_ranges key)
+    (sym (covers-append (write_conflicts_by stamp before.script) before.write_ranges key) ∙ adds_conflict))
   where
-    by : (covers (declared_by stamp before.script) key ≡ true) ⊎ (covers before.write_ranges key ≡ true)
-        → (covers (declared_by stamp after.script) key || covers after.write_ranges key) ≡ true
-    by (inl own) = or_left (covers (declared_by stamp after.script) key) (covers after.write_ranges key)
-        (ap (λ ranges. covers ranges key) (ap (declared_by stamp) more ∙ declared-append stamp before.script entries)
-        ∙ covers-append (declared_by stamp before.script) (declared_by stamp entries) key
-        ∙ or_left (covers (declared_by stamp before.script) key) (covers (declared_by stamp entries) key) own)
-    by (inr told) = or_right (covers (declared_by stamp after.script) key) (covers after.write_ranges key) (still told)
+    by : (covers (write_conflicts_by stamp before.script) key ≡ true) ⊎ (covers before.write_ranges key ≡ true)
+        → (covers (write_conflicts_by stamp after.script) key || covers after.write_ranges key) ≡ true
+    by (inl own) = or_left (covers (write_conflicts_by stamp after.script) key) (covers after.write_ranges key)
+        (ap (λ ranges. covers ranges key) (ap (write_conflicts_by stamp) more ∙ write_conflicts-append stamp before.script entries)
+        ∙ covers-append (write_conflicts_by stamp before.script) (write_conflicts_by stamp entries) key
+        ∙ or_left (covers (write_conflicts_by stamp before.script) key) (covers (write_conflicts_by stamp entries) key) own)
+    by (inr told) = or_right (covers (write_conflicts_by stamp after.script) key) (covers after.write_ranges key) (still told)
 
 -- what holds of a number that was granted before, holds still
 grant_more : (history : History) (stamp space : List ℕ) (before after : Transaction) (entries : Script) (number : ℕ)
@@ -77,9 +77,9 @@ grant_more history stamp space before after entries number has grant = record {
   filled_spent = subst (AreSpending space number) (sym (filled_more stamp before after entries has.more))
       (spending_first space number (all_filled stamp (writes_of before)) (all_filled stamp (written entries)) grant.small
       grant.filled_spent has.filled_fit);
-  rests = has.rests_still (recent_key space number) grant.rests;
-  declares = declared_more stamp before after entries (recent_key space number) has.more (has.declares_still (recent_key space number))
-      grant.declares;
+  read_conflict = has.read_conflict_still (recent_key space number) grant.read_conflict;
+  adds_conflict = write_conflicts_more stamp before after entries (recent_key space number) has.more (has.adds_conflict_still (recent_key space number))
+      grant.adds_conflict;
 }
 
 -- its mutations are fit, as those before
@@ -105,7 +105,7 @@ grown_fit : (history : History) (stamp space : List ℕ) (before after : Transac
     → ((key : List ℕ) → covers before.read_ranges key ≡ true → covers after.read_ranges key ≡ true)
     → ((key : List ℕ) → covers before.write_ranges key ≡ true → covers after.write_ranges key ≡ true)
     → IsHeld history before → IsGranting stamp space after.script → IsFit history stamp space after
-grown_fit history stamp space before after entries more none taken rests_still declares_still held granting =
+grown_fit history stamp space before after entries more none taken read_conflict_still adds_conflict_still held granting =
     let together : IsGranting stamp space (before.script ++ entries) = subst (IsGranting stamp space) more granting in
     let fit = held stamp space (granting_front stamp space before.script entries none together) in
     let has : HasMore stamp space before after entries = record {
@@ -114,8 +114,8 @@ grown_fit history stamp space before after entries more none taken rests_still d
       filled_fit = leaving_fit space (all_filled stamp (written entries))
           (others_filled_leaving stamp space before.script entries none together);
       taken = taken;
-      rests_still = rests_still;
-      declares_still = declares_still;
+      read_conflict_still = read_conflict_still;
+      adds_conflict_still = adds_conflict_still;
     } in
     let same : grants_in space after.script ≡ grants_in space before.script =
     ap (grants_in space) more ∙ grants-append space before.script entries
@@ -130,8 +130,8 @@ grown_fit history stamp space before after entries more none taken rests_still d
 -- a call that granted no number keeps what is held
 pub grown_held : (history : History) (before after : Transaction) → HasGrown before after → IsHeld history before → IsHeld history after
 grown_held history before after grown held stamp space granting =
-    grown_fit history stamp space before after grown.entries grown.more (grown.none_noted space) grown.taken grown.rests_still
-    grown.declares_still held granting
+    grown_fit history stamp space before after grown.entries grown.more (grown.none_noted space) grown.taken grown.read_conflict_still
+    grown.adds_conflict_still held granting
 
 -- ---- a call that granted a number
 
@@ -157,8 +157,8 @@ own_fit setting stamp space number before after granted held granting =
       fit = subst (AreFit space) (sym none) granted.fit;
       filled_fit = subst (AreFit space) (sym filled_none) granted.fit;
       taken = λ taken is. granted.taken ∙ ap Some (version_stays setting before taken is);
-      rests_still = granted.rests_still;
-      declares_still = granted.declares_still;
+      read_conflict_still = granted.read_conflict_still;
+      adds_conflict_still = granted.adds_conflict_still;
     } in
     let unspent : AreSpending space number (writes_of before) → ⊥ = λ spending. granted.free (spending (at setting.history version)) in
     let numbers : grants_in space after.script ≡ grants_in space before.script ++ number ∷ [] =
@@ -180,11 +180,11 @@ own_fit setting stamp space number before after granted held granting =
       filled_spent = subst (AreSpending space number) (sym (filled_more stamp before after (entries ++ note) has.more))
           (spending_last space number (all_filled stamp (writes_of before)) (all_filled stamp (written (entries ++ note)))
           (subst (AreSpending space number) (sym filled_none) granted.spent));
-      rests = granted.rests (false_from_ne_true (covers (decided (writes_of before)) (recent_key space number))
+      read_conflict = granted.read_conflict (false_from_ne_true (covers (decided (writes_of before)) (recent_key space number))
           (λ decides. unspent (fit.plain.deciding number granted.small decides)));
-      declares = covers-append (declared_by stamp after.script) after.write_ranges (recent_key space number)
-          ∙ or_right (covers (declared_by stamp after.script) (recent_key space number))
-          (covers after.write_ranges (recent_key space number)) granted.declares;
+      adds_conflict = covers-append (write_conflicts_by stamp after.script) after.write_ranges (recent_key space number)
+          ∙ or_right (covers (write_conflicts_by stamp after.script) (recent_key space number))
+          (covers after.write_ranges (recent_key space number)) granted.adds_conflict;
     } in record {
       plain = plain_more stamp space before after (entries ++ note) has fit.plain;
       filled = filled_fit_more stamp space before after (entries ++ note) has fit.filled;
@@ -217,7 +217,7 @@ other_fit setting stamp asked space number before after differ granted held gran
     (grants-append asked granted.entries note ∙ ap (λ numbers. numbers ++ grants_in asked note) (granted.none_noted asked)
     ∙ append-nil (granted_by asked (Granted space number (length before.script)))
     ∙ granted_elsewhere asked space number (length before.script) differ)
-    (λ taken is. granted.taken ∙ ap Some (version_stays setting before taken is)) granted.rests_still granted.declares_still held granting
+    (λ taken is. granted.taken ∙ ap Some (version_stays setting before taken is)) granted.read_conflict_still granted.adds_conflict_still held granting
 
 -- a call of an allocator that granted a number keeps what is held
 pub granted_held : (setting : Setting) (space : List ℕ) (number : ℕ) (before after : Transaction)
@@ -249,8 +249,8 @@ grant_later before more stamp space transaction number grant = record {
   free = λ spent. grant.free (subst (IsSpent space number) (at_before before more grant.version grant.reached) spent);
   spent = grant.spent;
   filled_spent = grant.filled_spent;
-  rests = grant.rests;
-  declares = grant.declares;
+  read_conflict = grant.read_conflict;
+  adds_conflict = grant.adds_conflict;
 }
 
 -- what is held among some commits is held among more
@@ -286,8 +286,8 @@ phase_held history transaction phase held =
       more = sym (append-nil transaction.script);
       none_noted = λ space. refl;
       taken = λ version is. is;
-      rests_still = λ key rests. rests;
-      declares_still = λ key declares. declares;
+      read_conflict_still = λ key read_conflict. read_conflict;
+      adds_conflict_still = λ key adds_conflict. adds_conflict;
     }
 
 -- it is cancelled

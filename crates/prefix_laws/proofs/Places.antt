@@ -38,7 +38,7 @@ none_granted space (entry ∷ entries) (suc end) number from none found =
 -- where a note begins
 abbrev from_of : Entry → ℕ
 from_of (Granted space number from) = from
-from_of (Wrote mutation declares) = 0
+from_of (Wrote mutation adds_conflict) = 0
 from_of (HasRead read answer) = 0
 
 -- ---- what stands before entries
@@ -93,32 +93,32 @@ of_before_note space script entries number place early none of_grant =
 -- what stood before entries without a note is such a script by itself
 pub granting_front : (stamp space : List ℕ) (script entries : Script) → grants_in space entries ≡ []
     → IsGranting stamp space (script ++ entries) → IsGranting stamp space script
-granting_front stamp space script entries none granting place mutation declares found touched =
+granting_front stamp space script entries none granting place mutation adds_conflict found touched =
     of_front space script entries place none
-    (granting place mutation declares (get_front script entries place (Wrote mutation declares) found) touched)
+    (granting place mutation adds_conflict (get_front script entries place (Wrote mutation adds_conflict) found) touched)
 
 -- and so is what stood before a call that granted a number on the subspace
 pub granting_before_note : (stamp space : List ℕ) (script entries : Script) (number : ℕ) → grants_in space entries ≡ []
     → IsGranting stamp space ((script ++ entries) ++ Granted space number (length script) ∷ []) → IsGranting stamp space script
-granting_before_note stamp space script entries number none granting place mutation declares found touched =
-    of_before_note space script entries number place (slice_get_within script place (Wrote mutation declares) found) none
-    (granting place mutation declares
-    (get_front (script ++ entries) (Granted space number (length script) ∷ []) place (Wrote mutation declares)
-    (get_front script entries place (Wrote mutation declares) found)) touched)
+granting_before_note stamp space script entries number none granting place mutation adds_conflict found touched =
+    of_before_note space script entries number place (slice_get_within script place (Wrote mutation adds_conflict) found) none
+    (granting place mutation adds_conflict
+    (get_front (script ++ entries) (Granted space number (length script) ∷ []) place (Wrote mutation adds_conflict)
+    (get_front script entries place (Wrote mutation adds_conflict) found)) touched)
 
 -- ---- what entries without a note wrote
 
 -- no write of these entries touches a key of the subspace, where this is the versionstamp of its commit
 abbrev AreApartFrom : (stamp space : List ℕ) → Script → Type 0
-AreApartFrom stamp space entries = (place : ℕ) (mutation : Mutation) (declares : Bool)
-    → slice_get entries place ≡ Some (Wrote mutation declares)
+AreApartFrom stamp space entries = (place : ℕ) (mutation : Mutation) (adds_conflict : Bool)
+    → slice_get entries place ≡ Some (Wrote mutation adds_conflict)
     → TouchesSpace space (filled stamp mutation) → ⊥
 
 -- it is so of entries without a note behind a script
 others_apart : (stamp space : List ℕ) (script entries : Script) → grants_in space entries ≡ []
     → IsGranting stamp space (script ++ entries) → AreApartFrom stamp space entries
-others_apart stamp space script entries none granting place mutation declares found touched =
-    by (granting (length script + place) mutation declares (get_behind script entries place ∙ found) touched)
+others_apart stamp space script entries none granting place mutation adds_conflict found touched =
+    by (granting (length script + place) mutation adds_conflict (get_behind script entries place ∙ found) touched)
   where
     by : IsOfGrant space (script ++ entries) (length script + place) → ⊥
     by of_grant = in_part
@@ -140,8 +140,8 @@ apart_untouched stamp space mutation apart key inside =
 -- such entries leave the keys of the subspace
 apart_leaving : (stamp space : List ℕ) (entries : Script) → AreApartFrom stamp space entries → AreLeaving space (written entries)
 apart_leaving stamp space [] apart = tt
-apart_leaving stamp space (Wrote mutation declares ∷ entries) apart = (
-  λ key inside. filled_leaves stamp mutation key (apart_untouched stamp space mutation (apart 0 mutation declares refl) key inside),
+apart_leaving stamp space (Wrote mutation adds_conflict ∷ entries) apart = (
+  λ key inside. filled_leaves stamp mutation key (apart_untouched stamp space mutation (apart 0 mutation adds_conflict refl) key inside),
   apart_leaving stamp space entries (λ place. apart (suc place)),
 )
 apart_leaving stamp space (HasRead read answer ∷ entries) apart = apart_leaving stamp space entries (λ place. apart (suc place))
@@ -151,9 +151,9 @@ apart_leaving stamp space (Granted other number from ∷ entries) apart = apart_
 apart_filled_leaving : (stamp space : List ℕ) (entries : Script) → AreApartFrom stamp space entries
     → AreLeaving space (all_filled stamp (written entries))
 apart_filled_leaving stamp space [] apart = tt
-apart_filled_leaving stamp space (Wrote mutation declares ∷ entries) apart = (
+apart_filled_leaving stamp space (Wrote mutation adds_conflict ∷ entries) apart = (
   λ key inside. untouched_leaves (filled stamp mutation) key
-      (apart_untouched stamp space mutation (apart 0 mutation declares refl) key inside),
+      (apart_untouched stamp space mutation (apart 0 mutation adds_conflict refl) key inside),
   apart_filled_leaving stamp space entries (λ place. apart (suc place)),
 )
 apart_filled_leaving stamp space (HasRead read answer ∷ entries) apart =

@@ -11,24 +11,24 @@ use Rattle.prefix_laws.proofs.Listed.{IsBehind, get_behind, get_front, get_parts
 
 -- a life before its first call meets it
 pub fresh_granting : (stamp space : List ℕ) (life : ℕ) → IsGranting stamp space (fresh life).script
-fresh_granting stamp space life place mutation declares found touched = absurd (none-some (Wrote mutation declares) found)
+fresh_granting stamp space life place mutation adds_conflict found touched = absurd (none-some (Wrote mutation adds_conflict) found)
 
 -- a note is no write
-note_unwritten : (space : List ℕ) (number from within : ℕ) (mutation : Mutation) (declares : Bool)
-    → slice_get (Granted space number from ∷ []) within ≡ Some (Wrote mutation declares) → ⊥
-note_unwritten space number from zero mutation declares found = absurd cc
-note_unwritten space number from (suc within) mutation declares found = none-some (Wrote mutation declares) found
+note_unwritten : (space : List ℕ) (number from within : ℕ) (mutation : Mutation) (adds_conflict : Bool)
+    → slice_get (Granted space number from ∷ []) within ≡ Some (Wrote mutation adds_conflict) → ⊥
+note_unwritten space number from zero mutation adds_conflict found = absurd cc
+note_unwritten space number from (suc within) mutation adds_conflict found = none-some (Wrote mutation adds_conflict) found
 
 -- a script that meets it meets it with the entries of a call that granted a number on the subspace, and its note
 noted_granting : (stamp space : List ℕ) (script entries : Script) (number : ℕ) → IsGranting stamp space script
     → IsGranting stamp space ((script ++ entries) ++ Granted space number (length script) ∷ [])
-noted_granting stamp space script entries number granting place mutation declares found touched =
-    in_all (get_parts (script ++ entries) (Granted space number (length script) ∷ []) place (Wrote mutation declares) found)
+noted_granting stamp space script entries number granting place mutation adds_conflict found touched =
+    in_all (get_parts (script ++ entries) (Granted space number (length script) ∷ []) place (Wrote mutation adds_conflict) found)
   where
-    in_front : (slice_get script place ≡ Some (Wrote mutation declares)) ⊎ IsBehind script entries place (Wrote mutation declares)
+    in_front : (slice_get script place ≡ Some (Wrote mutation adds_conflict)) ⊎ IsBehind script entries place (Wrote mutation adds_conflict)
         → IsOfGrant space ((script ++ entries) ++ Granted space number (length script) ∷ []) place
     in_front (inl early) =
-        let of_grant = granting place mutation declares early touched in record {
+        let of_grant = granting place mutation adds_conflict early touched in record {
           number = of_grant.number;
           from = of_grant.from;
           end = of_grant.end;
@@ -47,15 +47,15 @@ noted_granting stamp space script entries number granting place mutation declare
         arith,
         behind.is,
         length-append script entries,
-        slice_get_within entries behind.within (Wrote mutation declares) behind.found,
+        slice_get_within entries behind.within (Wrote mutation adds_conflict) behind.found,
       );
     }
 
-    in_all : (slice_get (script ++ entries) place ≡ Some (Wrote mutation declares))
-        ⊎ IsBehind (script ++ entries) (Granted space number (length script) ∷ []) place (Wrote mutation declares)
+    in_all : (slice_get (script ++ entries) place ≡ Some (Wrote mutation adds_conflict))
+        ⊎ IsBehind (script ++ entries) (Granted space number (length script) ∷ []) place (Wrote mutation adds_conflict)
         → IsOfGrant space ((script ++ entries) ++ Granted space number (length script) ∷ []) place
-    in_all (inl early) = in_front (get_parts script entries place (Wrote mutation declares) early)
-    in_all (inr behind) = absurd (note_unwritten space number (length script) behind.within mutation declares behind.found)
+    in_all (inl early) = in_front (get_parts script entries place (Wrote mutation adds_conflict) early)
+    in_all (inr behind) = absurd (note_unwritten space number (length script) behind.within mutation adds_conflict behind.found)
 
 -- so each call that grants a number keeps the premise
 pub granted_granting : (setting : Setting) (stamp space : List ℕ) (number : ℕ) (before after : Transaction)

@@ -1,5 +1,5 @@
--- What each call leaves of a transaction that is neither committed nor begun anew: it has more entries, none of which notes a number
--- that an allocator granted; its version stays once it is taken; and so do the keys that it rests on and declares.
+-- What each call leaves of a transaction that is neither committed nor begun anew: it has more entries, none of which notes a
+-- number that an allocator granted; its version stays once it is taken; and so do its read and write conflict ranges.
 use Rattle.std.proofs.Common.{◌≡◌, ℕ, Bool, true, false, List, [], ◌∷◌, ◌++◌, Option, Some, None, refl, sym, ap, ◌∙◌, append_assoc}
 use Rattle.std.specs.Prelude.{ℤ, not, unsigned_abs, unwrap_or}
 use Rattle.std.proofs.lemmas.Bool.{or_left}
@@ -15,12 +15,12 @@ use Rattle.database_rules.specs.Histories.{Script, Wrote, HasRead, Setting, last
 use Rattle.database_rules.specs.Intervals.{added, one}
 use Rattle.database_rules.specs.Reads.{Answer, Read, answer}
 use Rattle.database_rules.specs.States.{covers}
-use Rattle.database_rules.specs.Transactions.{Transaction, clear_code, first_failing, late_checks, map_below, op_code, phase_code, range_code, read_code, set_code, set_version_code, silenced, view, with_mutation, with_range, with_read, with_read_range, with_version, with_write_range, writes_of}
+use Rattle.database_rules.specs.Transactions.{Transaction, clear_code, first_failing, late_checks, map_below, op_code, phase_code, range_code, read_code, set_code, set_version_code, with_write_conflict_disabled, view, with_mutation, with_range, with_read, with_read_range, with_version, with_write_range, writes_of}
 use Rattle.database_rules.proofs.Ranges.{covers_with_range}
 use Rattle.database_rules.proofs.States.{covers-append}
 use Rattle.fdb_calls.specs.declared.Reply.{Reply}
 use Rattle.fdb_calls.specs.Calling.{atomic_called, clear_called, clear_range_called, does_by, no_write_conflict_called, read_at_version, read_by, read_called, read_conflict_called, read_version_called, set_called, set_read_version_called, write_by, write_conflict_called}
-use Rattle.allocator_rules.specs.Acts.{Act, Draws, Reads, Writes, Silences, Declares, act_called, write_called}
+use Rattle.allocator_rules.specs.Acts.{Act, Draws, Reads, Writes, DisablesWriteConflict, AddsWriteConflict, act_called, write_called}
 use Rattle.prefix_laws.specs.Prefixes.{grants_in, granted_by}
 use Rattle.prefix_laws.specs.Held.{HasGrown}
 
@@ -56,8 +56,8 @@ same_grown transaction = record {
   more = sym (append-nil transaction.script);
   none_noted = λ space. refl;
   taken = λ version is. is;
-  rests_still = λ key rests. rests;
-  declares_still = λ key declares. declares;
+  read_conflict_still = λ key read_conflict. read_conflict;
+  adds_conflict_still = λ key adds_conflict. adds_conflict;
 }
 
 -- one was done after the other
@@ -67,8 +67,8 @@ grown_twice before between after first second = record {
   more = second.more ∙ ap (λ list. list ++ second.entries) first.more ∙ append_assoc before.script first.entries second.entries;
   none_noted = none_noted_twice first.entries second.entries first.none_noted second.none_noted;
   taken = λ version is. second.taken version (first.taken version is);
-  rests_still = λ key rests. second.rests_still key (first.rests_still key rests);
-  declares_still = λ key declares. second.declares_still key (first.declares_still key declares);
+  read_conflict_still = λ key read_conflict. second.read_conflict_still key (first.read_conflict_still key read_conflict);
+  adds_conflict_still = λ key adds_conflict. second.adds_conflict_still key (first.adds_conflict_still key adds_conflict);
 }
 
 -- a version is taken
@@ -78,8 +78,8 @@ version_grown setting transaction = record {
   more = sym (append-nil transaction.script);
   none_noted = λ space. refl;
   taken = λ version is. ap (λ taken. Some (unwrap_or taken (last setting.history))) is;
-  rests_still = λ key rests. rests;
-  declares_still = λ key declares. declares;
+  read_conflict_still = λ key read_conflict. read_conflict;
+  adds_conflict_still = λ key adds_conflict. adds_conflict;
 }
 
 -- a read is answered
@@ -91,30 +91,30 @@ answered_grown false read answer ranges transaction = record {
   more = refl;
   none_noted = λ space. refl;
   taken = λ version is. is;
-  rests_still = covers_more transaction.read_ranges ranges;
-  declares_still = λ key declares. declares;
+  read_conflict_still = covers_more transaction.read_ranges ranges;
+  adds_conflict_still = λ key adds_conflict. adds_conflict;
 }
 
 -- a mutation is written
 pub mutation_grown : (transaction : Transaction) (mutation : Mutation) → HasGrown transaction (with_mutation transaction mutation)
 mutation_grown transaction mutation = record {
-  entries = Wrote mutation (not transaction.is_silenced) ∷ [];
+  entries = Wrote mutation (not transaction.skips_write_conflict) ∷ [];
   more = refl;
   none_noted = λ space. refl;
   taken = λ version is. is;
-  rests_still = λ key rests. rests;
-  declares_still = λ key declares. declares;
+  read_conflict_still = λ key read_conflict. read_conflict;
+  adds_conflict_still = λ key adds_conflict. adds_conflict;
 }
 
--- it is told to rest on a range, or to declare one, or that its next write declares nothing
+-- a read or write conflict range is added to it, or its next write is to add none
 pub read_range_grown : (transaction : Transaction) (range : KeyRange) → HasGrown transaction (with_read_range transaction range)
 read_range_grown transaction range = record {
   entries = [];
   more = sym (append-nil transaction.script);
   none_noted = λ space. refl;
   taken = λ version is. is;
-  rests_still = covers_one_more transaction.read_ranges range;
-  declares_still = λ key declares. declares;
+  read_conflict_still = covers_one_more transaction.read_ranges range;
+  adds_conflict_still = λ key adds_conflict. adds_conflict;
 }
 
 pub write_range_grown : (transaction : Transaction) (range : KeyRange) → HasGrown transaction (with_write_range transaction range)
@@ -123,18 +123,18 @@ write_range_grown transaction range = record {
   more = sym (append-nil transaction.script);
   none_noted = λ space. refl;
   taken = λ version is. is;
-  rests_still = λ key rests. rests;
-  declares_still = covers_one_more transaction.write_ranges range;
+  read_conflict_still = λ key read_conflict. read_conflict;
+  adds_conflict_still = covers_one_more transaction.write_ranges range;
 }
 
-pub silenced_grown : (transaction : Transaction) → HasGrown transaction (silenced transaction)
-silenced_grown transaction = record {
+pub write_conflict_disabled_grown : (transaction : Transaction) → HasGrown transaction (with_write_conflict_disabled transaction)
+write_conflict_disabled_grown transaction = record {
   entries = [];
   more = sym (append-nil transaction.script);
   none_noted = λ space. refl;
   taken = λ version is. is;
-  rests_still = λ key rests. rests;
-  declares_still = λ key declares. declares;
+  read_conflict_still = λ key read_conflict. read_conflict;
+  adds_conflict_still = λ key adds_conflict. adds_conflict;
 }
 
 -- a version is set where none was taken
@@ -145,8 +145,8 @@ set_version_grown transaction version none = record {
   more = sym (append-nil transaction.script);
   none_noted = λ space. refl;
   taken = λ other is. absurd cc;
-  rests_still = λ key rests. rests;
-  declares_still = λ key declares. declares;
+  read_conflict_still = λ key read_conflict. read_conflict;
+  adds_conflict_still = λ key adds_conflict. adds_conflict;
 }
 
 -- ---- calls
@@ -204,7 +204,7 @@ atomic_called_grown transaction op key operand = write_grown (op_code transactio
 
 pub no_write_conflict_called_grown : (transaction : Transaction) → HasGrown transaction (no_write_conflict_called transaction).transaction
 no_write_conflict_called_grown transaction =
-    does_grown (phase_code transaction.phase) transaction (silenced transaction) _ (λ none. silenced_grown transaction)
+    does_grown (phase_code transaction.phase) transaction (with_write_conflict_disabled transaction) _ (λ none. write_conflict_disabled_grown transaction)
 
 pub write_conflict_called_grown : (transaction : Transaction) (range : KeyRange)
     → HasGrown transaction (write_conflict_called transaction range).transaction
@@ -253,5 +253,5 @@ pub act_grown : (setting : Setting) (t : Transaction) (act : Act) → HasGrown t
 act_grown setting t Draws = same_grown t
 act_grown setting t (Reads read snapshot) = read_called_grown setting t false snapshot read
 act_grown setting t (Writes mutation) = write_called_grown t mutation
-act_grown setting t Silences = no_write_conflict_called_grown t
-act_grown setting t (Declares key) = write_conflict_called_grown t (one key)
+act_grown setting t DisablesWriteConflict = no_write_conflict_called_grown t
+act_grown setting t (AddsWriteConflict key) = write_conflict_called_grown t (one key)

@@ -21,7 +21,7 @@ use Rattle.fdb_calls.specs.declared.TxnCall.{TxnCall}
 use Rattle.fdb_calls.specs.declared.TxnCall.TheVariants as call
 use Rattle.fdb_calls.specs.Calling.{Called, answers, atomic_by, called, code_of, commit_allowed, commit_at_version, commit_by, commit_of, commit_refused, does_by, error_handled, in_turn, is_fault, logs, next_version, on_error_by, read_at_version, read_by, read_called, reset, set_called, write_by}
 use Rattle.database_rules.specs.Intervals.{one}
-use Rattle.allocator_rules.specs.Acts.{Act, Draws, Reads, Writes, Silences, Declares, act_called}
+use Rattle.allocator_rules.specs.Acts.{Act, Draws, Reads, Writes, DisablesWriteConflict, AddsWriteConflict, act_called}
 use Rattle.prefix_laws.specs.Prefixes.{IsGranting}
 use Rattle.prefix_laws.specs.Held.{AreSound, HasGrown, IsFitCommit, IsGrantIn, IsGrantOf, IsHeld, IsSpent}
 use Rattle.prefix_laws.proofs.Holding.{cancelled_held, fresh_held, grown_held, phase_held, version_held}
@@ -137,8 +137,8 @@ grant_in setting stamp space transaction number grant =
       reached = subst (λ n. n ≤ last setting.history) same grant.reached;
       free = subst (λ n. IsSpent space number (at setting.history n) → ⊥) same grant.free;
       spent = grant.filled_spent;
-      rests = grant.rests;
-      declares = grant.declares;
+      read_conflict = grant.read_conflict;
+      adds_conflict = grant.adds_conflict;
     }
 
 -- where no later check fails, the commit is fit for each subspace on which its allocator alone wrote
@@ -254,10 +254,10 @@ act_good setting transaction (Writes (ClearRange begin end)) held =
     write_good setting.history (range_code transaction.phase begin end) transaction (ClearRange begin end) held
 act_good setting transaction (Writes (Atomic op key operand)) held =
     write_good setting.history (op_code transaction.phase op key operand) transaction (Atomic op key operand) held
-act_good setting transaction Silences held =
+act_good setting transaction DisablesWriteConflict held =
     grown_good setting.history transaction _ (no_commit_does (phase_code transaction.phase) transaction _ _)
     (no_write_conflict_called_grown transaction) held
-act_good setting transaction (Declares key) held =
+act_good setting transaction (AddsWriteConflict key) held =
     grown_good setting.history transaction _ (no_commit_does (range_code transaction.phase (one key).begin (one key).end) transaction _ _)
     (write_conflict_called_grown transaction (one key)) held
 

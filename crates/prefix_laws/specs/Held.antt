@@ -5,7 +5,7 @@ use Rattle.database_rules.specs.Databases.{Database, Mutation, do_all}
 use Rattle.database_rules.specs.Histories.{Script, Commit, History, Setting, Granted, at, conflicts, stamp_of, written}
 use Rattle.database_rules.specs.Intervals.{decided}
 use Rattle.database_rules.specs.States.{all_filled, covers}
-use Rattle.database_rules.specs.Transactions.{Transaction, declared_of, version_in, writes_of}
+use Rattle.database_rules.specs.Transactions.{Transaction, write_conflicts_of, version_in, writes_of}
 use Rattle.machine_rules.specs.Worlds.{World, Transactions}
 use Rattle.allocator_rules.specs.Counters.{counter_key, recent_key, is_recent}
 use Rattle.prefix_laws.specs.Prefixes.{IsGranting, grants_in}
@@ -36,7 +36,7 @@ pub record AreFit (space : List ℕ) (mutations : List Mutation) : Type 0 where
 -- ---- transactions
 
 -- A number that an open transaction granted: at its version it was not spent; its mutations leave it spent, also with this
--- versionstamp filled in; and the transaction rests on the number's key and declares it.
+-- versionstamp filled in; and the transaction has the number's key among its read and its write conflict ranges.
 pub record IsGrantOf (history : History) (stamp space : List ℕ) (transaction : Transaction) (number : ℕ) : Type 0 where
   pub small : number < 2 ^ 63
   pub version : ℕ
@@ -45,8 +45,8 @@ pub record IsGrantOf (history : History) (stamp space : List ℕ) (transaction :
   pub free : IsSpent space number (at history version) → ⊥
   pub spent : AreSpending space number (writes_of transaction)
   pub filled_spent : AreSpending space number (all_filled stamp (writes_of transaction))
-  pub rests : covers transaction.read_ranges (recent_key space number) ≡ true
-  pub declares : covers (declared_of stamp transaction) (recent_key space number) ≡ true
+  pub read_conflict : covers transaction.read_ranges (recent_key space number) ≡ true
+  pub adds_conflict : covers (write_conflicts_of stamp transaction) (recent_key space number) ≡ true
 
 -- the numbers of a list that stand at different places are not the same
 abbrev pub AreDistinct : List ℕ → Type 0
@@ -73,8 +73,8 @@ pub record IsGrantIn (before : History) (space : List ℕ) (commit : Commit) (nu
   pub reached : commit.version ≤ length before
   pub free : IsSpent space number (at before commit.version) → ⊥
   pub spent : AreSpending space number commit.mutations
-  pub rests : covers commit.read_ranges (recent_key space number) ≡ true
-  pub declares : covers commit.declared (recent_key space number) ≡ true
+  pub read_conflict : covers commit.read_ranges (recent_key space number) ≡ true
+  pub adds_conflict : covers commit.write_conflicts (recent_key space number) ≡ true
 
 pub record IsFitCommit (before : History) (space : List ℕ) (commit : Commit) : Type 0 where
   pub fit : AreFit space commit.mutations
@@ -110,15 +110,15 @@ pub record IsReached (world : World) : Type 0 where
 
 -- ---- calls
 
--- What a call did to a transaction that granted no number, and was neither a new life nor a commit: it has more entries, none of which
--- notes a number; a version that it has taken stays; and so does what it rests on and declares.
+-- What a call did to a transaction that granted no number, and was neither a new life nor a commit: it has more entries, none of
+-- which notes a number; a version that it has taken stays; and so do its read and write conflict ranges.
 pub record HasGrown (before after : Transaction) : Type 0 where
   pub entries : Script
   pub more : after.script ≡ before.script ++ entries
   pub none_noted : (space : List ℕ) → grants_in space entries ≡ []
   pub taken : (version : ℕ) → before.version ≡ Some version → after.version ≡ Some version
-  pub rests_still : (key : List ℕ) → covers before.read_ranges key ≡ true → covers after.read_ranges key ≡ true
-  pub declares_still : (key : List ℕ) → covers before.write_ranges key ≡ true → covers after.write_ranges key ≡ true
+  pub read_conflict_still : (key : List ℕ) → covers before.read_ranges key ≡ true → covers after.read_ranges key ≡ true
+  pub adds_conflict_still : (key : List ℕ) → covers before.write_ranges key ≡ true → covers after.write_ranges key ≡ true
 
 -- What a call of the allocator on a subspace that granted a number did to a transaction: nothing above looks inside the call.
 pub record HasGranted (setting : Setting) (space : List ℕ) (number : ℕ) (before after : Transaction) : Type 0 where
@@ -136,8 +136,9 @@ pub record HasGranted (setting : Setting) (space : List ℕ) (number : ℕ) (bef
   pub spent : AreSpending space number (written entries)
   -- the number was not spent under the mutations before
   pub free : IsSpent space number (do_all (writes_of before) (at setting.history (version_in setting before))) → ⊥
-  -- it rests on the number's key, unless the mutations before decide it, and declares it; and on all that it rested on and declared
-  pub rests : covers (decided (writes_of before)) (recent_key space number) ≡ false → covers after.read_ranges (recent_key space number) ≡ true
-  pub rests_still : (key : List ℕ) → covers before.read_ranges key ≡ true → covers after.read_ranges key ≡ true
-  pub declares : covers after.write_ranges (recent_key space number) ≡ true
-  pub declares_still : (key : List ℕ) → covers before.write_ranges key ≡ true → covers after.write_ranges key ≡ true
+  -- the number's key is among its read conflict ranges, unless the mutations before decide it, and among its write conflict ranges;
+  -- and so is all that was there
+  pub read_conflict : covers (decided (writes_of before)) (recent_key space number) ≡ false → covers after.read_ranges (recent_key space number) ≡ true
+  pub read_conflict_still : (key : List ℕ) → covers before.read_ranges key ≡ true → covers after.read_ranges key ≡ true
+  pub adds_conflict : covers after.write_ranges (recent_key space number) ≡ true
+  pub adds_conflict_still : (key : List ℕ) → covers before.write_ranges key ≡ true → covers after.write_ranges key ≡ true

@@ -29,7 +29,7 @@ pub record TouchesSpace (space : List ℕ) (mutation : Mutation) : Type 0 where
 
 -- each write of a script that touches such a key, where this is the versionstamp of its commit, was made by such a call
 abbrev pub IsGranting : (stamp space : List ℕ) → Script → Type 0
-IsGranting stamp space script = (place : ℕ) (mutation : Mutation) (declares : Bool) → slice_get script place ≡ Some (Wrote mutation declares)
+IsGranting stamp space script = (place : ℕ) (mutation : Mutation) (adds_conflict : Bool) → slice_get script place ≡ Some (Wrote mutation adds_conflict)
     → TouchesSpace space (filled stamp mutation) → IsOfGrant space script place
 
 -- so it is with each of these commits, the first of which made the version behind this one
@@ -42,7 +42,7 @@ AreGranting space before (commit ∷ commits) = IsGranting (stamp_of (before + 1
 -- the number that was granted on a subspace where an entry ends the call
 abbrev pub granted_by : (space : List ℕ) → Entry → List ℕ
 granted_by space (Granted other number from) = if bytes_eq other space then number ∷ [] else []
-granted_by space (Wrote mutation declares) = []
+granted_by space (Wrote mutation adds_conflict) = []
 granted_by space (HasRead read answer) = []
 
 -- the numbers that were granted on a subspace in a script, and in commits, in their order

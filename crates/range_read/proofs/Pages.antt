@@ -133,18 +133,18 @@ more_is limit size ps (r ∷ rs) all is whole page = by_limit (nat_eq limit size
 -- ---- what is left behind a page
 
 -- behind a pair of a range stand those of what is left of the range behind its key
-pub span_left : (database : Database) (b e : List ℕ) (down : Bool) (qs : Entries) (x : Entry) (ys : Entries)
-    → span database b e down ≡ qs ++ x ∷ ys → ys ≡ span database (begin_behind b x.0 down) (end_behind e x.0 down) down
-span_left database b e down [] x ys is = sym (span_behind database b e down x ys is)
-span_left database b e down (z ∷ qs) x ys is =
-    span_left database (begin_behind b z.0 down) (end_behind e z.0 down) down qs x ys (span_behind database b e down z (qs ++ x ∷ ys) is)
-    ∙ (λ i. span database (begins down i) (ends down i) down)
+pub span_left : (database : Database) (b e : List ℕ) (backward : Bool) (qs : Entries) (x : Entry) (ys : Entries)
+    → span database b e backward ≡ qs ++ x ∷ ys → ys ≡ span database (begin_behind b x.0 backward) (end_behind e x.0 backward) backward
+span_left database b e backward [] x ys is = sym (span_behind database b e backward x ys is)
+span_left database b e backward (z ∷ qs) x ys is =
+    span_left database (begin_behind b z.0 backward) (end_behind e z.0 backward) backward qs x ys (span_behind database b e backward z (qs ++ x ∷ ys) is)
+    ∙ (λ i. span database (begins backward i) (ends backward i) backward)
   where
-    begins : (down : Bool) → begin_behind (begin_behind b z.0 down) x.0 down ≡ begin_behind b x.0 down
+    begins : (backward : Bool) → begin_behind (begin_behind b z.0 backward) x.0 backward ≡ begin_behind b x.0 backward
     begins true = refl
     begins false = refl
 
-    ends : (down : Bool) → end_behind (end_behind e z.0 down) x.0 down ≡ end_behind e x.0 down
+    ends : (backward : Bool) → end_behind (end_behind e z.0 backward) x.0 backward ≡ end_behind e x.0 backward
     ends true = refl
     ends false = refl
 
@@ -163,38 +163,38 @@ last_at (x ∷ y ∷ ps) e some is =
     let m : suc (suc (length ps)) - 1 ≡ suc (length ps) = omega arith in
     last_at (y ∷ ps) e (omega arith) (ap (slice_get (y ∷ ps)) n ∙ ap (slice_get (x ∷ y ∷ ps)) (sym m) ∙ is)
 
-pub behind_is : (database : Database) (b e : List ℕ) (limit : ℕ) (down : Bool) (key : List ℕ)
-    → cut limit (span database (begin_behind b key down) (end_behind e key down) down) ≡ slice_behind database b e limit down key
+pub behind_is : (database : Database) (b e : List ℕ) (limit : ℕ) (backward : Bool) (key : List ℕ)
+    → cut limit (span database (begin_behind b key backward) (end_behind e key backward) backward) ≡ slice_behind database b e limit backward key
 behind_is database b e limit true key = refl
 behind_is database b e limit false key = refl
 
 -- a slice is its front, followed by the slice of what is left of the range and the limit
-pub rest_is : (database : Database) (b e : List ℕ) (limit : ℕ) (down : Bool) (ps rest : Entries) → ps ++ rest ≡ span database b e down
+pub rest_is : (database : Database) (b e : List ℕ) (limit : ℕ) (backward : Bool) (ps rest : Entries) → ps ++ rest ≡ span database b e backward
     → 0 < length ps → (0 < limit → length ps < limit)
-    → slice database b e limit down ≡ ps ++ slice_behind database b e (limit - length ps) down (last_key ps)
-rest_is database b e limit down ps rest whole some short =
+    → slice database b e limit backward ≡ ps ++ slice_behind database b e (limit - length ps) backward (last_key ps)
+rest_is database b e limit backward ps rest whole some short =
     let parts = with_last ps some in
     let key : last_key ps ≡ parts.1.0 = ap last_key parts.2 ∙ ap (λ o. option_map_or (λ e. e.0) o []) (last-append parts.0 parts.1) in
-    let left = span_left database b e down parts.0 parts.1 rest (sym whole ∙ ap (λ qs. qs ++ rest) parts.2 ∙ append_assoc parts.0 (parts.1 ∷ []) rest) in
+    let left = span_left database b e backward parts.0 parts.1 rest (sym whole ∙ ap (λ qs. qs ++ rest) parts.2 ∙ append_assoc parts.0 (parts.1 ∷ []) rest) in
     ap (cut limit) (sym whole) ∙ cut_append limit ps rest short
     ∙ ap (λ ys. ps ++ cut (limit - length ps) ys) left
-    ∙ ap (λ ys. ps ++ ys) (behind_is database b e (limit - length ps) down parts.1.0)
-    ∙ ap (λ k. ps ++ slice_behind database b e (limit - length ps) down k) (sym key)
+    ∙ ap (λ ys. ps ++ ys) (behind_is database b e (limit - length ps) backward parts.1.0)
+    ∙ ap (λ k. ps ++ slice_behind database b e (limit - length ps) backward k) (sym key)
 
 -- the same for a page behind which pairs follow
-pub page_rest : (database : Database) (b e : List ℕ) (limit size : ℕ) (down : Bool) (ps rest : Entries) → IsSize limit size
-    → ps ++ rest ≡ span database b e down → ps ≡ cut size (span database b e down)
-    → nat_lt size (length (slice database b e limit down)) ≡ true → slice database b e limit down ≡ ps ++ slice_behind database b e
-    (limit - length ps) down (last_key ps)
-page_rest database b e limit size down ps rest is whole page more =
-    rest_is database b e limit down ps rest whole (some limit (ltb-true _ _ more)) (λ limited. short limited (ltb-true _ _ more))
+pub page_rest : (database : Database) (b e : List ℕ) (limit size : ℕ) (backward : Bool) (ps rest : Entries) → IsSize limit size
+    → ps ++ rest ≡ span database b e backward → ps ≡ cut size (span database b e backward)
+    → nat_lt size (length (slice database b e limit backward)) ≡ true → slice database b e limit backward ≡ ps ++ slice_behind database b e
+    (limit - length ps) backward (last_key ps)
+page_rest database b e limit size backward ps rest is whole page more =
+    rest_is database b e limit backward ps rest whole (some limit (ltb-true _ _ more)) (λ limited. short limited (ltb-true _ _ more))
   where
-    c : length ps ≡ min size (length (span database b e down))
-    c = ap length page ∙ length-cut size (span database b e down) is.some
+    c : length ps ≡ min size (length (span database b e backward))
+    c = ap length page ∙ length-cut size (span database b e backward) is.some
 
-    some : (limit : ℕ) → size < length (cut limit (span database b e down)) → 0 < length ps
+    some : (limit : ℕ) → size < length (cut limit (span database b e backward)) → 0 < length ps
     some zero long = omega (arith, c, is.some)
-    some (suc n) long = let d = length-take (suc n) (span database b e down) in omega (arith, c, d, is.some)
+    some (suc n) long = let d = length-take (suc n) (span database b e backward) in omega (arith, c, d, is.some)
 
-    short : 0 < limit → size < length (cut limit (span database b e down)) → length ps < limit
-    short limited long = let d = length-cut limit (span database b e down) limited in omega (arith, c, d, long)
+    short : 0 < limit → size < length (cut limit (span database b e backward)) → length ps < limit
+    short limited long = let d = length-cut limit (span database b e backward) limited in omega (arith, c, d, long)

@@ -107,9 +107,9 @@ module _ (database : Database) (s : Selector) where
       ∙ omega (arith, ints) in
       sym (selected ∙ ap (λ z. key_at z (lows ++ highs)) place ∙ get_or-append-add lows highs n top)
 
-  pub law_down : (i : ℕ) → s.offset ≡ neg_ℤ (pos i) → get_or (keys_of (onward database (start_of s) true)) i [] ≡ select database s
+  pub law_backward : (i : ℕ) → s.offset ≡ neg_ℤ (pos i) → get_or (keys_of (onward database (start_of s) true)) i [] ≡ select database s
   unfolding lows
-  law_down i is =
+  law_backward i is =
       ap (λ ks. get_or ks i [])
       (ap keys_of (filter-reverse (λ e. key_lt e.0 (start_of s)) (finite.entries database)) ∙ keys_reverse
       (filter (λ e. key_lt e.0 (start_of s)) (finite.entries database)))

@@ -11,24 +11,24 @@ use Rattle.range_read.proofs.Walks.{Entry, onward_behind, span_behind}
 
 -- ---- one step through a range
 
-pub span_first : (database : Database) (b e : List ℕ) (down : Bool) (x : Entry) → first (span database b e down) ≡ Some x
-    → span database b e down ≡ x ∷ span database (begin_behind b x.0 down) (end_behind e x.0 down) down
-span_first database b e down x is =
-    let parts = first_is (span database b e down) x is in
-    parts.1 ∙ ap (λ ys. x ∷ ys) (sym (span_behind database b e down x parts.0 parts.1))
+pub span_first : (database : Database) (b e : List ℕ) (backward : Bool) (x : Entry) → first (span database b e backward) ≡ Some x
+    → span database b e backward ≡ x ∷ span database (begin_behind b x.0 backward) (end_behind e x.0 backward) backward
+span_first database b e backward x is =
+    let parts = first_is (span database b e backward) x is in
+    parts.1 ∙ ap (λ ys. x ∷ ys) (sym (span_behind database b e backward x parts.0 parts.1))
 
-module _ (database : Database) (b e : List ℕ) (down : Bool) (x : Entry) (is : first (span database b e down) ≡ Some x) (c d : List ℕ)
-    (begin : c ≡ begin_behind b x.0 down) (end : d ≡ end_behind e x.0 down) where
-  rest_is : span database b e down ≡ x ∷ span database c d down
-  rest_is = span_first database b e down x is ∙ (λ i. x ∷ span database (sym begin i) (sym end i) down)
+module _ (database : Database) (b e : List ℕ) (backward : Bool) (x : Entry) (is : first (span database b e backward) ≡ Some x) (c d : List ℕ)
+    (begin : c ≡ begin_behind b x.0 backward) (end : d ≡ end_behind e x.0 backward) where
+  rest_is : span database b e backward ≡ x ∷ span database c d backward
+  rest_is = span_first database b e backward x is ∙ (λ i. x ∷ span database (sym begin i) (sym end i) backward)
 
-  pub step_smaller : length (span database c d down) < length (span database b e down)
+  pub step_smaller : length (span database c d backward) < length (span database b e backward)
   step_smaller = let e = ap length rest_is in omega (arith, e)
 
-  pub step_whole : (ps qs all : Entries) → ps ++ span database b e down ≡ all → qs ≡ ps ++ x ∷ [] → qs ++ span database c d down ≡ all
+  pub step_whole : (ps qs all : Entries) → ps ++ span database b e backward ≡ all → qs ≡ ps ++ x ∷ [] → qs ++ span database c d backward ≡ all
   step_whole ps qs all whole pushed =
-      ap (λ qs. qs ++ span database c d down) pushed
-      ∙ append_assoc ps (x ∷ []) (span database c d down)
+      ap (λ qs. qs ++ span database c d backward) pushed
+      ∙ append_assoc ps (x ∷ []) (span database c d backward)
       ∙ ap (λ ys. ps ++ ys) (sym rest_is) ∙ whole
 
 pub pushed_length : (ps qs : Entries) (x : Entry) → qs ≡ ps ++ x ∷ [] → length qs ≡ suc (length ps)
@@ -57,13 +57,13 @@ module _ {X : Type 0} where
 
 -- ---- one step of a walk from a key
 
-pub nth_step : (database : Database) (from : List ℕ) (down : Bool) (x : Entry) (next : List ℕ) (left : ℕ)
-    → Some x ≡ first (onward database from down) → next ≡ behind x.0 down → 0 < left
-    → slice_get (keys_of (onward database next down)) (left - 1) ≡ slice_get (keys_of (onward database from down)) left
-nth_step database from down x next zero is on some = absurd (omega arith)
-nth_step database from down x next (suc n) is on some =
-    let parts = first_is (onward database from down) x (sym is) in
+pub nth_step : (database : Database) (from : List ℕ) (backward : Bool) (x : Entry) (next : List ℕ) (left : ℕ)
+    → Some x ≡ first (onward database from backward) → next ≡ behind x.0 backward → 0 < left
+    → slice_get (keys_of (onward database next backward)) (left - 1) ≡ slice_get (keys_of (onward database from backward)) left
+nth_step database from backward x next zero is on some = absurd (omega arith)
+nth_step database from backward x next (suc n) is on some =
+    let parts = first_is (onward database from backward) x (sym is) in
     let e : suc n - 1 ≡ n = omega arith in
-    ap (slice_get (keys_of (onward database next down))) e
-    ∙ ap (λ ys. slice_get (keys_of ys) n) (ap (λ k. onward database k down) on ∙ onward_behind database from down x parts.0 parts.1)
+    ap (slice_get (keys_of (onward database next backward))) e
+    ∙ ap (λ ys. slice_get (keys_of ys) n) (ap (λ k. onward database k backward) on ∙ onward_behind database from backward x parts.0 parts.1)
     ∙ ap (λ ys. slice_get (keys_of ys) (suc n)) (sym parts.1)

@@ -47,23 +47,23 @@ rises_up (e ∷ es) sorted =
     (before_all e es (left_of _ (is_sorted key_cmp es) sorted), rises_up es (right_of (below_all key_cmp e.0 es) _ sorted))
 
 -- the pairs rise in the order of the walk
-pub turned_rises : (database : Database) (down : Bool) → Rises (meets_first down) (turned down (finite.entries database))
+pub turned_rises : (database : Database) (backward : Bool) → Rises (meets_first backward) (turned backward (finite.entries database))
 turned_rises database false = rises_up (finite.entries database) (finite.entries_sorted database)
 turned_rises database true =
     rises_reverse (meets_first true) (finite.entries database) (rises_up (finite.entries database) (finite.entries_sorted database))
 
-not_before_itself : (down : Bool) (e : Entry) → meets_first down e e ≡ false
+not_before_itself : (backward : Bool) (e : Entry) → meets_first backward e e ≡ false
 not_before_itself true e = irreflexive e.0
 not_before_itself false e = irreflexive e.0
 
 -- the pairs of a range are what a test takes in the order of the walk
-pub span_is : (database : Database) (b e : List ℕ) (down : Bool)
-    → span database b e down ≡ filter (λ x. within b e x.0) (turned down (finite.entries database))
+pub span_is : (database : Database) (b e : List ℕ) (backward : Bool)
+    → span database b e backward ≡ filter (λ x. within b e x.0) (turned backward (finite.entries database))
 span_is database b e true = sym (filter-reverse (λ x. within b e x.0) (finite.entries database))
 span_is database b e false = refl
 
 -- a range without a key has no pair
-pub empty_span : (database : Database) (b e : List ℕ) (down : Bool) → key_lt b e ≡ false → span database b e down ≡ []
+pub empty_span : (database : Database) (b e : List ℕ) (backward : Bool) → key_lt b e ≡ false → span database b e backward ≡ []
 empty_span database b e true none = ap reverse (filter-within-backward b e (finite.entries database) none)
 empty_span database b e false none = filter-within-backward b e (finite.entries database) none
 
@@ -117,8 +117,8 @@ still_from b k x low above = ap not (above_not_below b x (le_lt b k x (not_false
 -- ---- one key after the other
 
 -- behind the first that a walk meets, it meets what a walk from behind that key meets
-pub onward_behind : (database : Database) (from : List ℕ) (down : Bool) (x : Entry) (ys : Entries) → onward database from down ≡ x ∷ ys
-    → onward database (behind x.0 down) down ≡ ys
+pub onward_behind : (database : Database) (from : List ℕ) (backward : Bool) (x : Entry) (ys : Entries) → onward database from backward ≡ x ∷ ys
+    → onward database (behind x.0 backward) backward ≡ ys
 onward_behind database from true x ys is =
     behind_first (meets_first true) (not_before_itself true) (λ e. key_lt e.0 from) (λ e. key_lt e.0 x.0)
     (turned true (finite.entries database)) (turned_rises database true) x ys is
@@ -141,8 +141,8 @@ onward_behind database from false x ys is =
     test e = and_below true (key_le from e.0) (key_lt x.0 e.0) (still_from from x.0 e.0 passes)
 
 -- behind the first pair of a range stand those of what is left of the range behind its key
-pub span_behind : (database : Database) (b e : List ℕ) (down : Bool) (x : Entry) (ys : Entries) → span database b e down ≡ x ∷ ys
-    → span database (begin_behind b x.0 down) (end_behind e x.0 down) down ≡ ys
+pub span_behind : (database : Database) (b e : List ℕ) (backward : Bool) (x : Entry) (ys : Entries) → span database b e backward ≡ x ∷ ys
+    → span database (begin_behind b x.0 backward) (end_behind e x.0 backward) backward ≡ ys
 span_behind database b e true x ys is =
     span_is database b x.0 true
     ∙ behind_first (meets_first true) (not_before_itself true) (λ y. within b e y.0) (λ y. within b x.0 y.0)
@@ -165,13 +165,13 @@ span_behind database b e false x ys is =
 -- ---- the first pair of a range, by the first that a walk from its near end meets
 
 -- what a walk does not meet is not in the range
-outside_range : (b e : List ℕ) (down : Bool) (k : List ℕ) → is_onward (near b e down) down k ≡ false → within b e k ≡ false
+outside_range : (b e : List ℕ) (backward : Bool) (k : List ℕ) → is_onward (near b e backward) backward k ≡ false → within b e k ≡ false
 outside_range b e true k is = and_false_right (key_le b k) (key_lt k e) is
 outside_range b e false k is = and_false_left (key_le b k) (key_lt k e) is
 
 -- where the first that a walk meets is past the range, so are those behind it
-past_range : (b e : List ℕ) (down : Bool) (k q : Entry) → is_onward (near b e down) down k.0 ≡ true → within b e k.0 ≡ false
-    → meets_first down k q ≡ true → within b e q.0 ≡ false
+past_range : (b e : List ℕ) (backward : Bool) (k q : Entry) → is_onward (near b e backward) backward k.0 ≡ true → within b e k.0 ≡ false
+    → meets_first backward k q ≡ true → within b e q.0 ≡ false
 past_range b e true k q met past behind = and_false_left (key_le b q.0) (key_lt q.0 e) (ap not (lt_trans q.0 k.0 b behind low))
   where
     low : key_lt k.0 b ≡ true
@@ -186,25 +186,25 @@ past_range b e false k q met past behind =
     high : key_lt k.0 e ≡ false
     high = sym (ap (λ a. a && key_lt k.0 e) met) ∙ past
 
-module _ (database : Database) (b e : List ℕ) (down : Bool) where
-  pub inside_none : first (onward database (near b e down) down) ≡ None → first (span database b e down) ≡ None
+module _ (database : Database) (b e : List ℕ) (backward : Bool) where
+  pub inside_none : first (onward database (near b e backward) backward) ≡ None → first (span database b e backward) ≡ None
   inside_none is =
-      ap first (span_is database b e down)
-      ∙ none_stricter (λ x. is_onward (near b e down) down x.0) (λ x. within b e x.0) (λ x. outside_range b e down x.0)
-      (turned down (finite.entries database)) is
+      ap first (span_is database b e backward)
+      ∙ none_stricter (λ x. is_onward (near b e backward) backward x.0) (λ x. within b e x.0) (λ x. outside_range b e backward x.0)
+      (turned backward (finite.entries database)) is
 
-  pub inside_some : (x : Entry) → first (onward database (near b e down) down) ≡ Some x → within b e x.0 ≡ true
-      → first (span database b e down) ≡ Some x
+  pub inside_some : (x : Entry) → first (onward database (near b e backward) backward) ≡ Some x → within b e x.0 ≡ true
+      → first (span database b e backward) ≡ Some x
   inside_some x is inside =
-      ap first (span_is database b e down)
-      ∙ first_stricter (λ x. is_onward (near b e down) down x.0) (λ x. within b e x.0) (λ x. outside_range b e down x.0)
-      (turned down (finite.entries database)) x is inside
+      ap first (span_is database b e backward)
+      ∙ first_stricter (λ x. is_onward (near b e backward) backward x.0) (λ x. within b e x.0) (λ x. outside_range b e backward x.0)
+      (turned backward (finite.entries database)) x is inside
 
-  pub inside_past : (x : Entry) → first (onward database (near b e down) down) ≡ Some x → within b e x.0 ≡ false
-      → first (span database b e down) ≡ None
+  pub inside_past : (x : Entry) → first (onward database (near b e backward) backward) ≡ Some x → within b e x.0 ≡ false
+      → first (span database b e backward) ≡ None
   inside_past x is past =
-      ap first (span_is database b e down)
-      ∙ none_above (λ x. is_onward (near b e down) down x.0) (λ x. within b e x.0) (λ x. outside_range b e down x.0) (meets_first down)
-      (turned down (finite.entries database)) (turned_rises database down) x is past
-      (λ q behind. past_range b e down x q
-      (first_passes (λ x. is_onward (near b e down) down x.0) (turned down (finite.entries database)) x is) past behind)
+      ap first (span_is database b e backward)
+      ∙ none_above (λ x. is_onward (near b e backward) backward x.0) (λ x. within b e x.0) (λ x. outside_range b e backward x.0) (meets_first backward)
+      (turned backward (finite.entries database)) (turned_rises database backward) x is past
+      (λ q behind. past_range b e backward x q
+      (first_passes (λ x. is_onward (near b e backward) backward x.0) (turned backward (finite.entries database)) x is) past behind)

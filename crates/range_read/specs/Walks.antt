@@ -14,7 +14,7 @@ is_onward from false key = key_le from key
 
 -- the pairs that a walk from a key meets, in the order in which it does
 abbrev pub onward : Database → List ℕ → Bool → Entries
-onward database from down = filter (λ e. is_onward from down e.0) (turned down (finite.entries database))
+onward database from backward = filter (λ e. is_onward from backward e.0) (turned backward (finite.entries database))
 
 -- where a walk goes on behind a key
 abbrev pub behind : List ℕ → Bool → List ℕ

@@ -17,18 +17,18 @@ fn nth_key<V: OrderedView>(
     view: &V,
     start: &Key,
     place: u32,
-    down: bool,
+    reverse: bool,
 ) -> Result<Option<Key>, AllocError>
     ensures { IfOk result (λ key. key
-        ≡ slice_get (keys_of (onward (V.map view.now) start.now down)) place) }
+        ≡ slice_get (keys_of (onward (V.map view.now) start.now reverse)) place) }
 {
     let mut from = start.copy()?;
     let mut left = place;
-    while let Some(pair) = step(view, &from, down)? {
+    while let Some(pair) = step(view, &from, reverse)? {
         if left == 0 {
             return Ok(Some(pair.key));
         }
-        from = go_on(pair.key, down)?;
+        from = go_on(pair.key, reverse)?;
         left -= 1;
     }
     Ok(None)
@@ -40,13 +40,13 @@ fn key_or<V: OrderedView>(
     view: &V,
     start: &Key,
     place: u32,
-    down: bool,
+    reverse: bool,
     otherwise: &[u8],
 ) -> Result<Key, AllocError>
     ensures { IfOk result (λ key. key
-        ≡ slice_index_or (keys_of (onward (V.map view.now) start.now down)) place otherwise.now) }
+        ≡ slice_index_or (keys_of (onward (V.map view.now) start.now reverse)) place otherwise.now) }
 {
-    match nth_key(view, start, place, down)? {
+    match nth_key(view, start, place, reverse)? {
         Some(key) => Ok(key),
         None => Bytes::from_slice(alloc, otherwise),
     }

@@ -33,8 +33,8 @@ pub trait OrderedView {
     /// Returns first pairs of a range, copied, in the order of a walk through it, up to a limit, and what is
     /// left of the range behind them; a limit of 0 is none. Returns only pairs that the view reaches without a
     /// search of its own for each; it may return none.
-    fn run(&self, range: &KeyRange, limit: u32, down: bool) -> Result<Taken, AllocError>
-        ensures whole { IfOk result (λ taken. taken.pairs ++ span (map self.now) taken.left.begin taken.left.end down
-            ≡ span (map self.now) range.now.begin range.now.end down) }
+    fn run(&self, range: &KeyRange, limit: u32, reverse: bool) -> Result<Taken, AllocError>
+        ensures whole { IfOk result (λ taken. taken.pairs ++ span (map self.now) taken.left.begin taken.left.end reverse
+            ≡ span (map self.now) range.now.begin range.now.end reverse) }
         ensures short { IfOk result (λ taken. 0 < limit → length taken.pairs ≤ limit) };
 }

@@ -16,12 +16,12 @@ use std::alloc::AllocError;
 pub(crate) fn step<V: OrderedView>(
     view: &V,
     from: &Key,
-    down: bool,
+    reverse: bool,
 ) -> Result<Option<Pair>, AllocError>
     ensures { IfOk result (λ pair. option_map entry_of pair
-        ≡ first (onward (V.map view.now) from.now down)) }
+        ≡ first (onward (V.map view.now) from.now reverse)) }
 {
-    if down {
+    if reverse {
         view.prev(from)
     } else {
         view.next(from)
@@ -29,32 +29,32 @@ pub(crate) fn step<V: OrderedView>(
 }
 
 // Where a walk goes on behind a key that it met.
-pub(crate) fn go_on(key: Key, down: bool) -> Result<Key, AllocError>
-    ensures { IfOk result (λ from. from ≡ behind key down) }
+pub(crate) fn go_on(key: Key, reverse: bool) -> Result<Key, AllocError>
+    ensures { IfOk result (λ from. from ≡ behind key reverse) }
 {
-    if down { Ok(key) } else { key.after() }
+    if reverse { Ok(key) } else { key.after() }
 }
 
 // The end of a range at which a walk through it starts.
-fn near_end(range: &KeyRange, down: bool) -> &Key
-    ensures { result.now ≡ near range.now.begin range.now.end down }
+fn near_end(range: &KeyRange, reverse: bool) -> &Key
+    ensures { result.now ≡ near range.now.begin range.now.end reverse }
 {
-    if down { &range.end } else { &range.begin }
+    if reverse { &range.end } else { &range.begin }
 }
 
 // The first pair that a walk through a range meets.
 pub(crate) fn first_inside<V: OrderedView>(
     view: &V,
     range: &KeyRange,
-    down: bool,
+    reverse: bool,
 ) -> Result<Option<Pair>, AllocError>
     ensures { IfOk result (λ pair. option_map entry_of pair
-        ≡ first (span (V.map view.now) range.now.begin range.now.end down)) }
+        ≡ first (span (V.map view.now) range.now.begin range.now.end reverse)) }
 {
     if range.is_empty() {
         return Ok(None);
     }
-    let Some(pair) = step(view, near_end(range, down), down)? else {
+    let Some(pair) = step(view, near_end(range, reverse), reverse)? else {
         return Ok(None);
     };
     if range.has(pair.key.as_slice()) {
@@ -65,11 +65,11 @@ pub(crate) fn first_inside<V: OrderedView>(
 }
 
 // What is left of a range behind a key that a walk met in it.
-fn left_behind(range: KeyRange, key: &Key, down: bool) -> Result<KeyRange, AllocError>
-    ensures begin { IfOk result (λ left. left.begin ≡ begin_behind range.begin key.now down) }
-    ensures end { IfOk result (λ left. left.end ≡ end_behind range.end key.now down) }
+fn left_behind(range: KeyRange, key: &Key, reverse: bool) -> Result<KeyRange, AllocError>
+    ensures begin { IfOk result (λ left. left.begin ≡ begin_behind range.begin key.now reverse) }
+    ensures end { IfOk result (λ left. left.end ≡ end_behind range.end key.now reverse) }
 {
-    if down {
+    if reverse {
         Ok(KeyRange {
             begin: range.begin,
             end: key.copy()?,
@@ -96,21 +96,21 @@ pub(crate) fn walk<V: OrderedView>(
     view: &V,
     range: &KeyRange,
     limit: u32,
-    down: bool,
+    reverse: bool,
 ) -> Result<Taken, AllocError>
     ensures pairs { IfOk result (λ taken. taken.pairs
-        ≡ slice (V.map view.now) range.now.begin range.now.end limit down) }
-    ensures whole { IfOk result (λ taken. taken.pairs ++ span (V.map view.now) taken.left.begin taken.left.end down
-        ≡ span (V.map view.now) range.now.begin range.now.end down) }
+        ≡ slice (V.map view.now) range.now.begin range.now.end limit reverse) }
+    ensures whole { IfOk result (λ taken. taken.pairs ++ span (V.map view.now) taken.left.begin taken.left.end reverse
+        ≡ span (V.map view.now) range.now.begin range.now.end reverse) }
 {
-    let run = view.run(range, limit, down)?;
+    let run = view.run(range, limit, reverse)?;
     let mut pairs = run.pairs;
     let mut left = run.left;
     while !is_full(limit, pairs.len()) {
-        let Some(pair) = first_inside(view, &left, down)? else {
+        let Some(pair) = first_inside(view, &left, reverse)? else {
             return Ok(Taken { pairs, left });
         };
-        left = left_behind(left, &pair.key, down)?;
+        left = left_behind(left, &pair.key, reverse)?;
         pairs.push(pair)?;
     }
     Ok(Taken { pairs, left })

@@ -16,7 +16,7 @@ use Rattle.database_rules.specs.Databases.{Mutation, Set, Clear, ClearRange, Ato
 use Rattle.database_rules.specs.Intervals.{decided_by, decided}
 use Rattle.database_rules.specs.States.{KeyState, Unmodified, Decided, Depends, after_atomic, state_after, states_after, state_under, covers, unreadable}
 use Rattle.database_rules.proofs.States.{or_assoc, covers-append}
-use Rattle.edge_map.proofs.Edged.{within_one}
+use Rattle.range_map.proofs.Bounded.{within_one}
 use Rattle.write_map.specs.Answers.{IsStateUnder}
 use Rattle.write_map.specs.declared.state.KeyState.{KeyState as Shown}
 use Rattle.write_map.specs.declared.state.KeyState.TheVariants as shown

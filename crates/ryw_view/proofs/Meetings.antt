@@ -7,7 +7,7 @@ use Rattle.key_bytes.specs.Keys.{key_le, key_lt, lesser, greater}
 use Rattle.key_bytes.specs.Ranges.{has, meets}
 use Rattle.key_bytes.proofs.Orders.{above_not_below, irreflexive, le_lt, lt_le, lt_trans}
 use Rattle.database_rules.specs.States.{covers}
-use Rattle.edge_map.proofs.Edged.{within_backward}
+use Rattle.range_map.proofs.Bounded.{within_backward}
 
 -- the greater of two is below neither
 not_below_both : (a b : List ℕ) → (key_lt (greater a b) a ≡ false) × (key_lt (greater a b) b ≡ false)

@@ -18,36 +18,36 @@ use Rattle.ryw_view.proofs.Firsts.{first_met, found, met_first}
 use Rattle.ryw_view.proofs.Lists.{Has}
 use Rattle.ryw_view.proofs.Segments.{bare_met, met_inside, untouched_up}
 
--- the first pair from a key on, up to an edge, is what a walk meets first in that segment
-pub between_met : (database : Database) (from : List ℕ) (edge : Option (List ℕ)) (pair : Option Entry)
-    → first (stored_between database from edge) ≡ pair → IsFirstMet database from false edge pair
+-- the first pair from a key on, up to a boundary, is what a walk meets first in that segment
+pub between_met : (database : Database) (from : List ℕ) (boundary : Option (List ℕ)) (pair : Option Entry)
+    → first (stored_between database from boundary) ≡ pair → IsFirstMet database from false boundary pair
 between_met database from None pair is = first_met database from false pair is
-between_met database from (Some edge) pair is = by_first (first (onward database from false)) refl
+between_met database from (Some boundary) pair is = by_first (first (onward database from false)) refl
   where
-    by_edge : (x : Entry) → first (onward database from false) ≡ Some x → (t : Bool) → key_lt x.0 edge ≡ t
-        → IsFirstMet database from false (Some edge) (cond t (Some x) None) → IsFirstMet database from false (Some edge) pair
-    by_edge x some true below met =
+    by_boundary : (x : Entry) → first (onward database from false) ≡ Some x → (t : Bool) → key_lt x.0 boundary ≡ t
+        → IsFirstMet database from false (Some boundary) (cond t (Some x) None) → IsFirstMet database from false (Some boundary) pair
+    by_boundary x some true below met =
         let low = (first_met database from false (Some x) some).0.onward in
-        subst (IsFirstMet database from false (Some edge)) (sym (inside_some database from edge false x some (λ i. low i && below i)) ∙ is) met
-    by_edge x some false past met =
+        subst (IsFirstMet database from false (Some boundary)) (sym (inside_some database from boundary false x some (λ i. low i && below i)) ∙ is) met
+    by_boundary x some false past met =
         let low = (first_met database from false (Some x) some).0.onward in
-        subst (IsFirstMet database from false (Some edge)) (sym (inside_past database from edge false x some (λ i. low i && past i)) ∙ is) met
+        subst (IsFirstMet database from false (Some boundary)) (sym (inside_past database from boundary false x some (λ i. low i && past i)) ∙ is) met
 
-    by_first : (o : Option Entry) → first (onward database from false) ≡ o → IsFirstMet database from false (Some edge) pair
+    by_first : (o : Option Entry) → first (onward database from false) ≡ o → IsFirstMet database from false (Some boundary) pair
     by_first None none =
-        subst (IsFirstMet database from false (Some edge)) (sym (inside_none database from edge false none) ∙ is)
-        (met_inside database from false (Some edge) None (first_met database from false None none))
+        subst (IsFirstMet database from false (Some boundary)) (sym (inside_none database from boundary false none) ∙ is)
+        (met_inside database from false (Some boundary) None (first_met database from false None none))
     by_first (Some x) some =
-        by_edge x some (key_lt x.0 edge) refl
-        (met_inside database from false (Some edge) (Some x) (first_met database from false (Some x) some))
+        by_boundary x some (key_lt x.0 boundary) refl
+        (met_inside database from false (Some boundary) (Some x) (first_met database from false (Some x) some))
 
 -- ---- one pair
 
--- the first stored pair from a key on is below an end, and up to an edge no mutation touches the keys from that key on
-module _ (mutations : List Mutation) (stored : Database) (from until end : List ℕ) (edge : Option (List ℕ))
-    (bare : AreBare mutations from false edge) (pair : Entry) (rest : Entries)
+-- the first stored pair from a key on is below an end, and up to a boundary no mutation touches the keys from that key on
+module _ (mutations : List Mutation) (stored : Database) (from until end : List ℕ) (boundary : Option (List ℕ))
+    (bare : AreBare mutations from false boundary) (pair : Entry) (rest : Entries)
     (is : stored_between stored from (Some until) ≡ pair ∷ rest)
-    (inside : is_inside edge false pair.0 ≡ true) (below : key_lt pair.0 end ≡ true) where
+    (inside : is_inside boundary false pair.0 ≡ true) (below : key_lt pair.0 end ≡ true) where
   abbrev view : Database
   view = seen mutations stored
 
@@ -57,7 +57,7 @@ module _ (mutations : List Mutation) (stored : Database) (from until end : List 
   first_seen : first (span view from end false) ≡ Some pair
   first_seen =
       inside_some view from end false pair
-      (sym (met_first view from false (Some pair) ((bare_met mutations stored from false edge bare (Some pair) (met.0, inside)).0, refl)))
+      (sym (met_first view from false (Some pair) ((bare_met mutations stored from false boundary bare (Some pair) (met.0, inside)).0, refl)))
       (λ i. met.0.onward i && below i)
 
   -- the others are those from the key after it on
@@ -70,9 +70,9 @@ module _ (mutations : List Mutation) (stored : Database) (from until end : List 
   run_whole = step_whole view from end false pair first_seen (after pair.0) end refl refl
 
   -- no mutation touches the keys behind it
-  pub bare_behind : AreBare mutations (after pair.0) false edge
+  pub bare_behind : AreBare mutations (after pair.0) false boundary
   bare_behind =
-      untouched_up mutations from (after pair.0) edge bare
+      untouched_up mutations from (after pair.0) boundary bare
       (ap not (above_not_below from (after pair.0) (lt_after from pair.0 ∙ met.0.onward)))
 
 -- ---- none is left

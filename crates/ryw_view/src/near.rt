@@ -32,37 +32,43 @@ pub struct NearView<'a> {
     ghost untouched: { ForSome low (λ low. AreBare view.edits.now.mutations low false high) },
 }
 
-// A copy of the edge of a segment.
-fn copied_edge(edge: Option<&Key>) -> Result<Option<Key>, AllocError>
-    ensures { IfOk result (λ copy. copy ≡ option_copied edge.entry) }
+// A copy of the boundary of a segment.
+fn copied_boundary(boundary: Option<&Key>) -> Result<Option<Key>, AllocError>
+    ensures { IfOk result (λ copy. copy ≡ option_copied boundary.entry) }
 {
-    match edge {
+    match boundary {
         None => Ok(None),
-        Some(edge) => Ok(Some(edge.copy()?)),
+        Some(boundary) => Ok(Some(boundary.copy()?)),
     }
 }
 
-// Whether the keys below a key are below the edge of a segment.
-fn is_up_to(key: &Key, edge: Option<&Key>) -> bool
+// Whether the keys below a key are below the boundary of a segment.
+fn is_up_to(key: &Key, boundary: Option<&Key>) -> bool
     ensures { result ≡ true → (q : List ℕ) → key_lt q key.now ≡ true
-        → is_inside (option_copied edge.entry) false q ≡ true }
+        → is_inside (option_copied boundary.entry) false q ≡ true }
 {
-    match edge {
+    match boundary {
         None => true,
-        Some(edge) => !edge.cmp(key).is_lt(),
+        Some(boundary) => !boundary.cmp(key).is_lt(),
     }
 }
 
-// A key up to which keys are below an end and in the segment up to an edge: the nearer one of the two.
-fn nearer<'b>(end: &'b Key, edge: Option<&'b Key>) -> &'b Key
+// A key up to which keys are below an end and in the segment up to a boundary: the nearer one of the two.
+fn nearer<'b>(end: &'b Key, boundary: Option<&'b Key>) -> &'b Key
     ensures below { (q : List ℕ) → key_lt q result.now ≡ true
-        → (key_lt q end.now ≡ true) × (is_inside (option_copied edge.entry) false q ≡ true) }
-    ensures nearest { (q : List ℕ) → key_lt q end.now ≡ true → is_inside (option_copied edge.entry) false q ≡ true
+        → (key_lt q end.now ≡ true) × (is_inside (option_copied boundary.entry) false q ≡ true) }
+    ensures nearest { (q : List ℕ) → key_lt q end.now ≡ true → is_inside (option_copied boundary.entry) false q ≡ true
         → key_lt q result.now ≡ true }
 {
-    match edge {
+    match boundary {
         None => end,
-        Some(edge) => { if edge.cmp(end).is_lt() { edge } else { end } }
+        Some(boundary) => {
+            if boundary.cmp(end).is_lt() {
+                boundary
+            } else {
+                end
+            }
+        }
     }
 }
 
@@ -90,41 +96,40 @@ fn left_of(pairs: Pairs, begin: Key, range: &KeyRange) -> Result<Taken, AllocErr
 }
 
 impl<'a> NearView<'a> {
-    /// Makes a view for a walk up from a key, or down from it. It remembers the keys from there up to the first
-    /// edge above, or down to the last edge below, where no mutation touches them. An error where memory runs
-    /// out.
-    pub fn new(view: View<'a>, key: &Key, down: bool) -> Result<NearView<'a>, AllocError>
+    /// Makes a view for a walk up from a key, or down from it. It remembers the keys from there up to the first boundary above, or
+    /// down to the last boundary below, where no mutation touches them. An error where memory runs out.
+    pub fn new(view: View<'a>, key: &Key, reverse: bool) -> Result<NearView<'a>, AllocError>
         ensures { IfOk result (λ near. seen near.view.edits.now.mutations (at near.view.store.now near.view.version)
             ≡ seen view.entry.edits.now.mutations (at view.entry.store.now view.entry.version)) }
     {
-        if down {
+        if reverse {
             NearView::below(view, key)
         } else {
             NearView::above(view, key)
         }
     }
 
-    // Remembers the keys from one on, up to the first edge above it.
+    // Remembers the keys from one on, up to the first boundary above it.
     fn above(view: View<'a>, key: &Key) -> Result<NearView<'a>, AllocError>
         ensures { IfOk result (λ near. seen_of near.view ≡ seen_of view.entry) }
     {
-        let (state, edge) = view.edits.around(key);
+        let (state, boundary) = view.edits.around(key);
         match state {
-            KeyState::Unmodified => NearView::knowing(view, key, edge),
+            KeyState::Unmodified => NearView::knowing(view, key, boundary),
             _ => Ok(NearView::knowing_none(view)),
         }
     }
 
-    // Remembers the keys below one, down to the last edge below it.
+    // Remembers the keys below one, down to the last boundary below it.
     fn below(view: View<'a>, key: &Key) -> Result<NearView<'a>, AllocError>
         ensures { IfOk result (λ near. seen_of near.view ≡ seen_of view.entry) }
     {
-        let Some(edge) = view.edits.prev_edge(key) else {
+        let Some(boundary) = view.edits.prev_edge(key) else {
             let lowest = Bytes::new(key.allocator());
             return NearView::knowing(view, &lowest, Some(key));
         };
-        match view.edits.at(edge) {
-            KeyState::Unmodified => NearView::knowing(view, edge, Some(key)),
+        match view.edits.at(boundary) {
+            KeyState::Unmodified => NearView::knowing(view, boundary, Some(key)),
             _ => Ok(NearView::knowing_none(view)),
         }
     }
@@ -135,7 +140,7 @@ impl<'a> NearView<'a> {
         ensures { IfOk result (λ near. seen_of near.view ≡ seen_of view.entry) }
     {
         let low = low.copy()?;
-        let high = copied_edge(high)?;
+        let high = copied_boundary(high)?;
         Ok(NearView {
             view,
             low: Some(low),
@@ -239,8 +244,8 @@ impl<'a> OrderedView for NearView<'a> {
         }
     }
 
-    fn run(&self, range: &KeyRange, limit: u32, down: bool) -> Result<Taken, AllocError> {
-        if down || range.is_empty() || !self.remembers(&range.begin) {
+    fn run(&self, range: &KeyRange, limit: u32, reverse: bool) -> Result<Taken, AllocError> {
+        if reverse || range.is_empty() || !self.remembers(&range.begin) {
             return Taken::none(range);
         }
         self.run_up(range, limit)

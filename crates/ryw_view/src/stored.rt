@@ -24,15 +24,15 @@ impl<'a> View<'a> {
         }
     }
 
-    /// Returns an iterator over the pairs that are stored from a key on, up to an edge of the mutations where
-    /// one is given, in the order of their keys. It takes one search of the store.
-    pub fn stored_from(&self, from: &Key, edge: Option<&Key>) -> PairsLeft<'a>
-        ensures { result ≡ stored_between (stored_of self.now) from.now (option_copied edge.entry) }
+    /// Returns an iterator over the pairs that are stored from a key on, up to a boundary of the mutations where one is given, in
+    /// the order of their keys. It takes one search of the store.
+    pub fn stored_from(&self, from: &Key, boundary: Option<&Key>) -> PairsLeft<'a>
+        ensures { result ≡ stored_between (stored_of self.now) from.now (option_copied boundary.entry) }
     {
         let store = self.store;
-        let left = match edge {
+        let left = match boundary {
             None => store.pairs_from(from, self.version),
-            Some(edge) => store.pairs_in(from, edge, self.version),
+            Some(boundary) => store.pairs_in(from, boundary, self.version),
         };
         match left {
             Ok(left) => left,
@@ -40,57 +40,57 @@ impl<'a> View<'a> {
         }
     }
 
-    // The first stored pair from a key on, up to the edge of a segment. It takes no memory.
+    // The first stored pair from a key on, up to the boundary of a segment. It takes no memory.
     pub(crate) fn first_stored(
         &self,
         from: &Key,
-        edge: Option<&Key>,
+        boundary: Option<&Key>,
     ) -> Option<(&'a Key, &'a Bytes)>
-        ensures { IsFirstMet (stored_of self.now) from.now false (option_copied edge.entry)
+        ensures { IsFirstMet (stored_of self.now) from.now false (option_copied boundary.entry)
             (option_map deref_pair result) }
     {
-        self.stored_from(from, edge).next()
+        self.stored_from(from, boundary).next()
     }
 
-    // The last stored pair below a key, down to the edge of a segment. It takes no memory.
+    // The last stored pair below a key, down to the boundary of a segment. It takes no memory.
     pub(crate) fn last_stored(
         &self,
         until: &Key,
-        edge: Option<&Key>,
+        boundary: Option<&Key>,
     ) -> Option<(&'a Key, &'a Bytes)>
-        ensures { IsFirstMet (stored_of self.now) until.now true (option_copied edge.entry)
+        ensures { IsFirstMet (stored_of self.now) until.now true (option_copied boundary.entry)
             (option_map deref_pair result) }
     {
         let store = self.store;
         match store.prev_at(until, self.version) {
-            Ok(pair) => inside(pair, edge, true),
+            Ok(pair) => inside(pair, boundary, true),
             Err(_) => unreachable!(),
         }
     }
 }
 
-// A pair, where a walk that comes to it is still in the segment with this edge.
+// A pair, where a walk that comes to it is still in the segment with this boundary.
 fn inside<'a>(
     pair: Option<(&'a Key, &'a Bytes)>,
-    edge: Option<&Key>,
-    down: bool,
+    boundary: Option<&Key>,
+    reverse: bool,
 ) -> Option<(&'a Key, &'a Bytes)>
-    ensures { option_map deref_pair result ≡ inside_of (option_copied edge.entry) down (option_map deref_pair pair.entry) }
+    ensures { option_map deref_pair result ≡ inside_of (option_copied boundary.entry) reverse (option_map deref_pair pair.entry) }
 {
     let (key, value) = pair?;
-    if is_inside(key, edge, down) {
+    if is_inside(key, boundary, reverse) {
         Some((key, value))
     } else {
         None
     }
 }
 
-// Whether a walk that comes to a key is still in the segment with this edge.
-pub(crate) fn is_inside(key: &Key, edge: Option<&Key>, down: bool) -> bool
-    ensures { result ≡ is_inside (option_copied edge.entry) down key.now }
+// Whether a walk that comes to a key is still in the segment with this boundary.
+pub(crate) fn is_inside(key: &Key, boundary: Option<&Key>, reverse: bool) -> bool
+    ensures { result ≡ is_inside (option_copied boundary.entry) reverse key.now }
 {
-    match edge {
+    match boundary {
         None => true,
-        Some(edge) => key.cmp(edge).is_lt() != down,
+        Some(boundary) => key.cmp(boundary).is_lt() != reverse,
     }
 }

@@ -1,4 +1,4 @@
-//! The keys of a range whose values rest on what is stored, and whether a range can be read.
+//! The keys of a range whose values depend on what is stored, and whether a range can be read.
 
 ghost use Rattle.std.specs.Prelude.{◌≡◌, ℕ, List, true, not, ◌&&◌, ◌||◌, Ok, MatchOption, IfOk};
 ghost use Rattle.std.specs.List.{list_any};
@@ -7,27 +7,27 @@ ghost use Rattle.key_bytes.specs.Ranges.{has, meets};
 ghost use Rattle.database_rules.specs.Intervals.{decided};
 ghost use Rattle.database_rules.specs.States.{covers, unreadable};
 ghost use Rattle.write_map.specs.Answers.{IsStateUnder};
-ghost use Rattle.ryw_view.specs.Segments.{is_hidden, is_open, AreAlikeUpTo, IsEdgeBelow};
+ghost use Rattle.ryw_view.specs.Segments.{is_hidden, is_open, AreAlikeUpTo, IsBoundaryBelow};
 
 use key_bytes::{Key, KeyRange};
 use std::alloc::AllocError;
 use write_map::{KeyState, WriteMap};
 
-/// Returns what the mutations make of a key, and how far all keys from it on are alike: up to an edge below the
-/// end of a range, or, where no edge is given, up to that end. It takes no memory, and one search.
+/// Returns what the mutations make of a key, and how far all keys from it on are alike: up to a boundary below the end of a range,
+/// or, where no boundary is given, up to that end. It takes no memory, and one search.
 pub fn around_below<'a>(
     edits: &'a WriteMap,
     from: &Key,
     end: &Key,
 ) -> (KeyState<'a>, Option<&'a Key>)
     ensures state { IsStateUnder edits.now.mutations from.now result.0 }
-    ensures edge { MatchOption result.1
+    ensures boundary { MatchOption result.1
         (AreAlikeUpTo edits.now.mutations from.now end.now)
-        (λ edge. IsEdgeBelow edits.now from.now end.now edge.now) }
+        (λ boundary. IsBoundaryBelow edits.now from.now end.now boundary.now) }
 {
-    let (state, edge) = edits.around(from);
-    match edge {
-        Some(edge) if edge.cmp(end).is_lt() => (state, Some(edge)),
+    let (state, boundary) = edits.around(from);
+    match boundary {
+        Some(boundary) if boundary.cmp(end).is_lt() => (state, Some(boundary)),
         _ => (state, None),
     }
 }
@@ -61,12 +61,12 @@ fn add_segment(
     }
 }
 
-/// Adds the keys of a range whose values rest on what is stored: those that no mutation sets or clears. An atomic operation
-/// alone leaves its key among them (API reference of release 6.3, "Transaction": conflict ranges; "fdb_transaction_atomic_op").
+/// Adds the keys of a range whose values depend on what is stored: those that no mutation sets or clears. An atomic operation alone
+/// leaves its key among them (API reference of release 6.3, "Transaction": conflict ranges; "fdb_transaction_atomic_op").
 ///
-/// False where a mutation with a versionstamp makes a key of the range unreadable, so that the range can't be read. It is one
-/// walk along the edges of the mutations that lie in the range, with one search for each. After false, or after a refusal,
-/// some of the pieces may have been added.
+/// False where a mutation with a versionstamp makes a key of the range unreadable, so that the range can't be read. It is one walk
+/// along the boundaries of the mutations that lie in the range, with one search for each. After false, or after a refusal, some of
+/// the pieces may have been added.
 pub fn add_undecided(
     edits: &WriteMap,
     range: &KeyRange,
@@ -83,21 +83,20 @@ pub fn add_undecided(
     }
     let mut from = &range.begin;
     loop {
-        let (state, edge) = around_below(edits, from, &range.end);
-        if !add_segment(state, from, edge.unwrap_or(&range.end), pieces)? {
+        let (state, boundary) = around_below(edits, from, &range.end);
+        if !add_segment(state, from, boundary.unwrap_or(&range.end), pieces)? {
             return Ok(false);
         }
-        let Some(edge) = edge else {
+        let Some(boundary) = boundary else {
             return Ok(true);
         };
-        from = edge;
+        from = boundary;
     }
 }
 
-/// Tells whether a mutation with a versionstamp makes a key of a range unreadable, so that the range can't be
-/// read (API reference of release 6.3, "fdb_transaction_atomic_op"). Where no mutation has a versionstamp it
-/// searches nothing; else it is one walk along the edges of the mutations that lie in the range, with one
-/// search for each.
+/// Tells whether a mutation with a versionstamp makes a key of a range unreadable, so that the range can't be read (API reference
+/// of release 6.3, "fdb_transaction_atomic_op"). Where no mutation has a versionstamp it searches nothing; else it is one walk
+/// along the boundaries of the mutations that lie in the range, with one search for each.
 pub fn hides(edits: &WriteMap, range: &KeyRange) -> bool
     ensures { result ≡ list_any (meets range.now) (unreadable edits.now.mutations) }
 {
@@ -106,13 +105,13 @@ pub fn hides(edits: &WriteMap, range: &KeyRange) -> bool
     }
     let mut from = &range.begin;
     loop {
-        let (state, edge) = around_below(edits, from, &range.end);
+        let (state, boundary) = around_below(edits, from, &range.end);
         if is_hidden(state) {
             return true;
         }
-        let Some(edge) = edge else {
+        let Some(boundary) = boundary else {
             return false;
         };
-        from = edge;
+        from = boundary;
     }
 }

@@ -1,4 +1,4 @@
-//! Walks along the keys of a view, from edge to edge of the mutations.
+//! Walks along the keys of a view, from boundary to boundary of the mutations.
 
 ghost use Rattle.std.specs.Prelude.{◌≡◌, true, false, Some, IfOk, option_copied, option_map};
 ghost use Rattle.std.specs.FinMap as finite;
@@ -53,33 +53,33 @@ impl<'a> View<'a> {
         }
     }
 
-    // The first pair from a key in this state on, in the segment up to the edge above it.
+    // The first pair from a key in this state on, in the segment up to the boundary above it.
     fn first_in(
         &self,
         from: &Key,
         state: KeyState<'_>,
-        edge: Option<&Key>,
+        boundary: Option<&Key>,
     ) -> Result<Option<Pair>, AllocError>
         requires state { IsStateUnder self.now.edits.now.mutations from.now state }
-        requires segment { IsSegment self.now.edits.now.mutations from.now from.now false (option_copied edge) }
-        ensures { IfOk result (λ pair. IsFirstMet (seen_of self.now) from.now false (option_copied edge.entry)
+        requires segment { IsSegment self.now.edits.now.mutations from.now from.now false (option_copied boundary) }
+        ensures { IfOk result (λ pair. IsFirstMet (seen_of self.now) from.now false (option_copied boundary.entry)
             (option_map entry_of pair)) }
     {
         match state {
-            KeyState::Unmodified => copied(self.first_stored(from, edge)),
+            KeyState::Unmodified => copied(self.first_stored(from, boundary)),
             state => self.pair_in(from, state),
         }
     }
 
-    // The last pair below a key, in the segment from the edge below it on.
-    fn last_in(&self, until: &Key, edge: &Key) -> Result<Option<Pair>, AllocError>
-        requires { IsSegment self.now.edits.now.mutations edge.now until.now true (Some edge.now) }
-        ensures { IfOk result (λ pair. IsFirstMet (seen_of self.now) until.now true (Some edge.now)
+    // The last pair below a key, in the segment from the boundary below it on.
+    fn last_in(&self, until: &Key, boundary: &Key) -> Result<Option<Pair>, AllocError>
+        requires { IsSegment self.now.edits.now.mutations boundary.now until.now true (Some boundary.now) }
+        ensures { IfOk result (λ pair. IsFirstMet (seen_of self.now) until.now true (Some boundary.now)
             (option_map entry_of pair)) }
     {
-        match self.edits.at(edge) {
-            KeyState::Unmodified => copied(self.last_stored(until, Some(edge))),
-            state => self.pair_in(edge, state),
+        match self.edits.at(boundary) {
+            KeyState::Unmodified => copied(self.last_stored(until, Some(boundary))),
+            state => self.pair_in(boundary, state),
         }
     }
 }
@@ -90,24 +90,24 @@ impl<'a> OrderedView for View<'a> {
     fn next(&self, key: &Key) -> Result<Option<Pair>, AllocError> {
         let mut from = key;
         loop {
-            let (state, edge) = self.edits.around(from);
-            if let Some(pair) = self.first_in(from, state, edge)? {
+            let (state, boundary) = self.edits.around(from);
+            if let Some(pair) = self.first_in(from, state, boundary)? {
                 return Ok(Some(pair));
             }
-            let Some(edge) = edge else {
+            let Some(boundary) = boundary else {
                 return Ok(None);
             };
-            from = edge;
+            from = boundary;
         }
     }
 
     fn prev(&self, key: &Key) -> Result<Option<Pair>, AllocError> {
         let mut until = key;
-        while let Some(edge) = self.edits.prev_edge(until) {
-            if let Some(pair) = self.last_in(until, edge)? {
+        while let Some(boundary) = self.edits.prev_edge(until) {
+            if let Some(pair) = self.last_in(until, boundary)? {
                 return Ok(Some(pair));
             }
-            until = edge;
+            until = boundary;
         }
         copied(self.last_stored(until, None))
     }

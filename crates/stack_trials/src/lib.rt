@@ -1,4 +1,5 @@
-//! Trials of the stack, of a machine's list of directories, of the machine and of its seat: each call on its happy path.
+//! Trials of the stack, of a machine's list of directories, of the machine and of its suspended machine: each call on its happy
+//! path.
 //!
 //! They call public functions alone, so they stand apart from the crates of these calls, whose own functions aren't proved
 //! again with them.

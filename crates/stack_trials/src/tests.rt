@@ -6,7 +6,7 @@ use std::alloc::{AllocError, Global};
 mod directories;
 mod items;
 mod machines;
-mod seats;
+mod suspended_machines;
 
 // An item of a stack, as a test writes it. A stamp is incomplete, and has this user order.
 #[derive(Clone, Copy)]

@@ -18,14 +18,14 @@ use Rattle.network.specs.Posts.{asking_in, cells_in, overs_in, posts_of}
 use Rattle.network.specs.Serving.{Serves, cells_of, posts_since, taken_since}
 use Rattle.client_core.specs.Stands.{StandsFor}
 use Rattle.command_rules.specs.declared.args.RunArgs.{RunArgs}
-use Rattle.machine_seat.specs.declared.seat.Seat.{Seat}
+use Rattle.suspended_machine.specs.declared.suspended.SuspendedMachine.{SuspendedMachine}
 use Rattle.machine_threads.specs.declared.threaded.ThreadedMachine.{ThreadedMachine}
 use Rattle.machine_threads.specs.Threaded.{history_of}
 use Rattle.machine_threads.specs.Teams.{IsTeamOf}
 use Rattle.machine_threads.specs.Closing.{AreSettled}
-use Rattle.thread_gathering.specs.declared.service.CoreService.{CoreService}
-use Rattle.thread_gathering.specs.Gathering.{GatherToARun, HasRun}
-use Rattle.thread_gathering.specs.Serving.{CoreAnswers}
+use Rattle.threaded_run_laws.specs.declared.service.CoreService.{CoreService}
+use Rattle.threaded_run_laws.specs.Gathering.{GatherToARun, HasRun}
+use Rattle.threaded_run_laws.specs.Serving.{CoreAnswers}
 use Rattle.tester_run.specs.declared.running.Ended.{Ended}
 use Rattle.tester_run.specs.declared.threading.Answered.{Answered}
 use Rattle.tester_run.specs.Driving.{Ends, EndsFrom, IsAtStart}
@@ -69,7 +69,7 @@ none_taken (mail ∷ mails) order these = absurd (first (these 0 mail (omega ari
 -- ---- what came back
 
 ended_is : (pairs : List (List ℕ × List ℕ)) (arguments : RunArgs) (after : CoreService) (ended : Ended)
-    → HasRun pairs arguments after ended.order ended.seats.items → ended.core ≡ after.core → Ends pairs arguments ended
+    → HasRun pairs arguments after ended.order ended.suspended_machines.items → ended.core ≡ after.core → Ends pairs arguments ended
 ended_is pairs arguments after ended has is = record {
   words = words_from after.words;
   leads = record {
@@ -78,7 +78,7 @@ ended_is pairs arguments after ended has is = record {
     has_words = has.has_words;
     runs = has.runs.runs;
   };
-  seated = has.seated;
+  is_suspended = has.is_suspended;
   none = has.none_asks;
 }
 
@@ -117,13 +117,13 @@ module _ (receiver : Receiver Post) (sender : Sender Post) (service : CoreServic
       omega (arith, ap overs_in (sym taken_posts ∙ ap posts_of none), served.ended, served.machines)
 
   -- what came back is the end of the run
-  ends_of : (first : ThreadedMachine) (ended : List ThreadedMachine) (seats : List Seat) → answered.served.short ≡ false
+  ends_of : (first : ThreadedMachine) (ended : List ThreadedMachine) (suspended_machines : List SuspendedMachine) → answered.served.short ≡ false
       → answered.served.machines ≡ length ended → IsTeamOf first ended
-      → AreSettled ended (taken answered.receiver) answered.served.order answered.served.receipts seats → GatherToARun
-      → (pairs : List (List ℕ × List ℕ)) (arguments : RunArgs) → IsAtStart pairs arguments service.core (words_from service.words) first.seat
-      → HasRun pairs arguments answered.service answered.served.order seats
-  ends_of first ended seats lasts as_many team settled law pairs arguments at_start =
-      law pairs arguments service answered.service (taken answered.receiver) answered.served.order answered.served.receipts first ended seats
+      → AreSettled ended (taken answered.receiver) answered.served.order answered.served.receipts suspended_machines → GatherToARun
+      → (pairs : List (List ℕ × List ℕ)) (arguments : RunArgs) → IsAtStart pairs arguments service.core (words_from service.words) first.suspended
+      → HasRun pairs arguments answered.service answered.served.order suspended_machines
+  ends_of first ended suspended_machines lasts as_many team settled law pairs arguments at_start =
+      law pairs arguments service answered.service (taken answered.receiver) answered.served.order answered.served.receipts first ended suspended_machines
       (record {
         stands = at_start.stands;
         has_words = at_start.has_words;
@@ -140,10 +140,10 @@ module _ (receiver : Receiver Post) (sender : Sender Post) (service : CoreServic
       → answered.served.machines ≡ length team → IsTeamOf first team → GatherToARun
       → IfOk result (λ ended. ended.core ≡ answered.service.core)
       → IfOk result (λ ended. ended.order ≡ answered.served.order)
-      → IfOk result (λ ended. AreSettled team (taken answered.receiver) answered.served.order answered.served.receipts ended.seats.items)
-      → IfOk result (EndsFrom service.core (words_from service.words) first.seat)
+      → IfOk result (λ ended. AreSettled team (taken answered.receiver) answered.served.order answered.served.receipts ended.suspended_machines.items)
+      → IfOk result (EndsFrom service.core (words_from service.words) first.suspended)
   settled_ends first team (Ok ended) lasts as_many is law core order settled = λ pairs arguments at_start.
       ended_is pairs arguments answered.service ended
-      (subst (λ (o : List ℕ). HasRun pairs arguments answered.service o ended.seats.items) (sym order)
-      (ends_of first team ended.seats.items lasts as_many is settled law pairs arguments at_start)) core
+      (subst (λ (o : List ℕ). HasRun pairs arguments answered.service o ended.suspended_machines.items) (sym order)
+      (ends_of first team ended.suspended_machines.items lasts as_many is settled law pairs arguments at_start)) core
   settled_ends first team (Err short) lasts as_many is law core order settled = tt

@@ -12,11 +12,11 @@ use Rattle.machine_rules.specs.Machines.{Progress, resumed}
 use Rattle.machine_rules.specs.Runs.{AreByTurns, HasTurn, Run, at_rest, replied, run_from, start, start_prefix, started_by, take_place, taken, turn_after}
 use Rattle.machine_rules.specs.declared.TheConstants.{MACHINES}
 use Rattle.machine_rules.specs.Laws.{run_from-append}
-use Rattle.machine_seat.specs.declared.seat.Seat.{Seat}
-use Rattle.machine_seat.specs.Seats.{progress_of, IsSeated}
+use Rattle.suspended_machine.specs.declared.suspended.SuspendedMachine.{SuspendedMachine}
+use Rattle.suspended_machine.specs.SuspendedMachines.{progress_of, IsSuspended}
 use Rattle.tester_run.specs.declared.driving.Moved.{Moved}
 use Rattle.tester_run.specs.Driving.{GoesOn, GoesOnByTurns, HasUsed, IsGoing, IsNextInTurn}
-use Rattle.tester_run.proofs.Seats.{has_turn, seated_more, seated_set}
+use Rattle.tester_run.proofs.SuspendedMachines.{has_turn, is_suspended_more, is_suspended_set}
 use Rattle.tester_run.proofs.Turns.{turns_longer, turn_after-longer}
 
 pub stands_after : (given : Reply) (core : CoreModel) (words : ℕ → ℕ) (stepped : Stepped) → given ≢ reply.NoMemory
@@ -47,52 +47,52 @@ run_from-one number run = by (take_place number run)
     by None = refl
     by (Some next) = refl
 
-abbrev run_of : World → List Seat → Run
-run_of world seats = record { world = world; machines = map progress_of seats }
+abbrev run_of : World → List SuspendedMachine → Run
+run_of world suspended_machines = record { world = world; machines = map progress_of suspended_machines }
 
--- the request of a machine at its seat is taken
-place_taken : (world : World) (seats : List Seat) (number : ℕ) (seat : Seat) (request : Request) → slice_get seats number ≡ Some seat
-    → seat.asks ≡ Some request
-    → take_place number (run_of world seats)
-    ≡ Some (replied (run_of world seats) number seat.machine.machine request (world_step world request))
+-- the request of a suspended machine is taken
+place_taken : (world : World) (suspended_machines : List SuspendedMachine) (number : ℕ) (suspended : SuspendedMachine) (request : Request) → slice_get suspended_machines number ≡ Some suspended
+    → suspended.asks ≡ Some request
+    → take_place number (run_of world suspended_machines)
+    ≡ Some (replied (run_of world suspended_machines) number suspended.machine.machine request (world_step world request))
 unfolding take_place
-place_taken world seats number seat request is asks =
-    ap (option_and_then (λ (progress : Progress). taken (run_of world seats) number progress))
-    (slice_get-map progress_of seats number ∙ ap (option_map progress_of) is)
-    ∙ ap (option_map (λ (given : Request). replied (run_of world seats) number seat.machine.machine given (world_step world given))) asks
+place_taken world suspended_machines number suspended request is asks =
+    ap (option_and_then (λ (progress : Progress). taken (run_of world suspended_machines) number progress))
+    (slice_get-map progress_of suspended_machines number ∙ ap (option_map progress_of) is)
+    ∙ ap (option_map (λ (given : Request). replied (run_of world suspended_machines) number suspended.machine.machine given (world_step world given))) asks
 
 -- what a request comes to that is taken
-pub record Takes (core : CoreModel) (words : ℕ → ℕ) (seats : List Seat) (order : List ℕ) (number : ℕ) (core_after : CoreModel)
-    (words_after : ℕ → ℕ) (seats_after : List Seat) (order_after : List ℕ) : Type 0 where
-  pub seat : Seat
-  pub seat_is : slice_get seats number ≡ Some seat
+pub record Takes (core : CoreModel) (words : ℕ → ℕ) (suspended_machines : List SuspendedMachine) (order : List ℕ) (number : ℕ) (core_after : CoreModel)
+    (words_after : ℕ → ℕ) (suspended_machines_after : List SuspendedMachine) (order_after : List ℕ) : Type 0 where
+  pub suspended : SuspendedMachine
+  pub suspended_is : slice_get suspended_machines number ≡ Some suspended
   pub request : Request
-  pub asks : seat.asks ≡ Some request
+  pub asks : suspended.asks ≡ Some request
   pub given : Reply
   pub is_given : given ≢ reply.NoMemory
   pub answers : (world : World) → StandsFor core world → HasWords world words
       → Answers given core_after words_after (world_step world request)
   pub used : Progress
-  pub used_is : used ≡ at_rest (resumed seat.machine.machine given)
-  pub seats_are : map progress_of seats_after ≡ slice_set (map progress_of seats) number used ++ started_by (start_prefix request) seat.machine.machine.polls given
+  pub used_is : used ≡ at_rest (resumed suspended.machine.machine given)
+  pub suspended_machines_are : map progress_of suspended_machines_after ≡ slice_set (map progress_of suspended_machines) number used ++ started_by (start_prefix request) suspended.machine.machine.polls given
   pub order_is : order_after ≡ order ++ number ∷ []
 
 -- it is one more place of the order
-pub taken_goes_on : (core core_after : CoreModel) (words words_after : ℕ → ℕ) (seats seats_after : List Seat) (order order_after : List ℕ)
-    (number : ℕ) → Takes core words seats order number core_after words_after seats_after order_after
-    → GoesOn core words seats order core_after words_after seats_after order_after
-taken_goes_on core core_after words words_after seats seats_after order order_after number takes pairs arguments leads =
-    let run = run_of leads.world seats in
+pub taken_goes_on : (core core_after : CoreModel) (words words_after : ℕ → ℕ) (suspended_machines suspended_machines_after : List SuspendedMachine) (order order_after : List ℕ)
+    (number : ℕ) → Takes core words suspended_machines order number core_after words_after suspended_machines_after order_after
+    → GoesOn core words suspended_machines order core_after words_after suspended_machines_after order_after
+taken_goes_on core core_after words words_after suspended_machines suspended_machines_after order order_after number takes pairs arguments leads =
+    let run = run_of leads.world suspended_machines in
     let stepped = world_step leads.world takes.request in
-    let polls = takes.seat.machine.machine.polls in
+    let polls = takes.suspended.machine.machine.polls in
     let answered = stands_after takes.given core_after words_after stepped takes.is_given
     (takes.answers leads.world leads.stands leads.has_words) in
-    let machines : slice_set (map progress_of seats) number (at_rest (resumed takes.seat.machine.machine stepped.reply))
-    ++ started_by (start_prefix takes.request) polls stepped.reply ≡ map progress_of seats_after =
-    (λ i. slice_set (map progress_of seats) number (at_rest (resumed takes.seat.machine.machine (answered.0 i)))
+    let machines : slice_set (map progress_of suspended_machines) number (at_rest (resumed takes.suspended.machine.machine stepped.reply))
+    ++ started_by (start_prefix takes.request) polls stepped.reply ≡ map progress_of suspended_machines_after =
+    (λ i. slice_set (map progress_of suspended_machines) number (at_rest (resumed takes.suspended.machine.machine (answered.0 i)))
     ++ started_by (start_prefix takes.request) polls (answered.0 i))
-    ∙ (λ i. slice_set (map progress_of seats) number (sym takes.used_is i) ++ started_by (start_prefix takes.request) polls takes.given)
-    ∙ sym takes.seats_are in
+    ∙ (λ i. slice_set (map progress_of suspended_machines) number (sym takes.used_is i) ++ started_by (start_prefix takes.request) polls takes.given)
+    ∙ sym takes.suspended_machines_are in
     record {
       world = stepped.world;
       stands = answered.1;
@@ -101,110 +101,110 @@ taken_goes_on core core_after words words_after seats seats_after order order_af
           ∙ run_from-append order (number ∷ []) (start pairs arguments)
           ∙ ap (option_and_then (run_from (number ∷ []))) leads.runs
           ∙ run_from-one number run
-          ∙ place_taken leads.world seats number takes.seat takes.request takes.seat_is takes.asks
+          ∙ place_taken leads.world suspended_machines number takes.suspended takes.request takes.suspended_is takes.asks
           ∙ ap (λ (ms : List Progress). Some (record { world = stepped.world; machines = ms })) machines;
     }
 
 -- and by turns, where it was the turn of the machine whose request it is
-pub taken_by_turns : (core core_after : CoreModel) (words words_after : ℕ → ℕ) (seats seats_after : List Seat) (order order_after : List ℕ)
-    (from number : ℕ) → GoesOn core words seats order core_after words_after seats_after order_after → order_after ≡ order ++ number ∷ []
-    → IsNextInTurn seats from (Some number)
-    → GoesOnByTurns core words seats order from core_after words_after seats_after order_after (number + 1)
-taken_by_turns core core_after words words_after seats seats_after order order_after from number goes_on order_is turn pairs arguments led =
-    let run = run_of led.leads.world seats in
+pub taken_by_turns : (core core_after : CoreModel) (words words_after : ℕ → ℕ) (suspended_machines suspended_machines_after : List SuspendedMachine) (order order_after : List ℕ)
+    (from number : ℕ) → GoesOn core words suspended_machines order core_after words_after suspended_machines_after order_after → order_after ≡ order ++ number ∷ []
+    → IsNextInTurn suspended_machines from (Some number)
+    → GoesOnByTurns core words suspended_machines order from core_after words_after suspended_machines_after order_after (number + 1)
+taken_by_turns core core_after words words_after suspended_machines suspended_machines_after order order_after from number goes_on order_is turn pairs arguments led =
+    let run = run_of led.leads.world suspended_machines in
     record {
       leads = goes_on pairs arguments led.leads;
       turns = subst (λ (o : List ℕ). AreByTurns pairs arguments o) (sym order_is)
           (turns_longer pairs arguments order run number led.turns led.leads.runs
-          (subst (λ n. HasTurn n run number) (sym led.from_is) (has_turn led.leads.world seats from number turn)));
+          (subst (λ n. HasTurn n run number) (sym led.from_is) (has_turn led.leads.world suspended_machines from number turn)));
       from_is = ap turn_after order_is ∙ turn_after-longer order number;
     }
 
--- no machine was started where none took a seat
-none_seated : (prefix : Option (List ℕ)) (polls : ℕ) (given : Reply) (old new : List (List ℕ)) → started_by prefix polls given ≡ []
+-- no machine was started where none was added
+none_is_suspended : (prefix : Option (List ℕ)) (polls : ℕ) (given : Reply) (old new : List (List ℕ)) → started_by prefix polls given ≡ []
     → given ≢ reply.NoMemory → HasStarted prefix given old new → length new ≡ length old
-none_seated None polls given old new none is counted = counted
-none_seated (Some prefix) polls (reply.Started machine instructions) old new none is counted = absurd cc
-none_seated (Some prefix) polls reply.NoMemory old new none is counted = absurd (is refl)
-none_seated (Some prefix) polls given old new none is counted = counted
+none_is_suspended None polls given old new none is counted = counted
+none_is_suspended (Some prefix) polls (reply.Started machine instructions) old new none is counted = absurd cc
+none_is_suspended (Some prefix) polls reply.NoMemory old new none is counted = absurd (is refl)
+none_is_suspended (Some prefix) polls given old new none is counted = counted
 
--- one was started where one took a seat
-one_seated : (prefix : Option (List ℕ)) (polls : ℕ) (given : Reply) (old new : List (List ℕ)) (progress : Progress)
+-- one was started where one was added
+one_is_suspended : (prefix : Option (List ℕ)) (polls : ℕ) (given : Reply) (old new : List (List ℕ)) (progress : Progress)
     → progress ∷ [] ≡ started_by prefix polls given → HasStarted prefix given old new
     → (length new ≡ length old + 1) × (length new ≤ MACHINES)
-one_seated None polls given old new progress is counted = absurd cc
-one_seated (Some prefix) polls (reply.Started machine instructions) old new progress is counted = counted
-one_seated (Some prefix) polls given old new progress is counted = absurd cc
+one_is_suspended None polls given old new progress is counted = absurd cc
+one_is_suspended (Some prefix) polls (reply.Started machine instructions) old new progress is counted = counted
+one_is_suspended (Some prefix) polls given old new progress is counted = absurd cc
 
 -- what is so after a request by which no machine was started
-going_on : (core core_after : CoreModel) (seats : List Seat) (order order_after : List ℕ) (number : ℕ) (used : Seat)
+going_on : (core core_after : CoreModel) (suspended_machines : List SuspendedMachine) (order order_after : List ℕ) (number : ℕ) (used : SuspendedMachine)
     (prefix : Option (List ℕ)) (polls : ℕ) (given : Reply)
-    → IsGoing core seats order → IsSeated used → core_after.applied ≡ core.applied + 1 → order_after ≡ order ++ number ∷ []
+    → IsGoing core suspended_machines order → IsSuspended used → core_after.applied ≡ core.applied + 1 → order_after ≡ order ++ number ∷ []
     → started_by prefix polls given ≡ [] → given ≢ reply.NoMemory → HasStarted prefix given core.started core_after.started
-    → IsGoing core_after (slice_set seats number used) order_after
-going_on core core_after seats order order_after number used prefix polls given going own applied order_is none is counted = record {
-  seated = seated_set seats number used going.seated own;
+    → IsGoing core_after (slice_set suspended_machines number used) order_after
+going_on core core_after suspended_machines order order_after number used prefix polls given going own applied order_is none is counted = record {
+  is_suspended = is_suspended_set suspended_machines number used going.is_suspended own;
   counted = applied ∙ ap (λ n. n + 1) going.counted ∙ sym (ap length order_is ∙ length-append order (number ∷ []));
-  started = none_seated prefix polls given core.started core_after.started none is counted ∙ going.started ∙ sym (length-set seats number used);
-  few = subst (λ n. n ≤ MACHINES) (sym (length-set seats number used)) going.few;
+  started = none_is_suspended prefix polls given core.started core_after.started none is counted ∙ going.started ∙ sym (length-set suspended_machines number used);
+  few = subst (λ n. n ≤ MACHINES) (sym (length-set suspended_machines number used)) going.few;
 }
 
--- what is so after a request by which a machine was started, which took its seat
-going_more : (core core_after : CoreModel) (seats : List Seat) (order order_after : List ℕ) (number : ℕ) (used started : Seat)
+-- what is so after a request by which a machine was started, which was added
+going_more : (core core_after : CoreModel) (suspended_machines : List SuspendedMachine) (order order_after : List ℕ) (number : ℕ) (used started : SuspendedMachine)
     (prefix : Option (List ℕ)) (polls : ℕ) (given : Reply)
-    → IsGoing core seats order → IsSeated used → IsSeated started → core_after.applied ≡ core.applied + 1 → order_after ≡ order ++ number ∷ []
+    → IsGoing core suspended_machines order → IsSuspended used → IsSuspended started → core_after.applied ≡ core.applied + 1 → order_after ≡ order ++ number ∷ []
     → progress_of started ∷ [] ≡ started_by prefix polls given → HasStarted prefix given core.started core_after.started
-    → IsGoing core_after (slice_set seats number used ++ started ∷ []) order_after
-going_more core core_after seats order order_after number used started prefix polls given going own other applied order_is is has_started =
-    let seats_before = slice_set seats number used in
-    let counted = one_seated prefix polls given core.started core_after.started (progress_of started) is has_started in
-    let longer : length (seats_before ++ started ∷ []) ≡ length core_after.started =
-    length-append seats_before (started ∷ []) ∙ ap (λ n. n + 1) (length-set seats number used ∙ sym going.started) ∙ sym counted.0 in
+    → IsGoing core_after (slice_set suspended_machines number used ++ started ∷ []) order_after
+going_more core core_after suspended_machines order order_after number used started prefix polls given going own other applied order_is is has_started =
+    let suspended_machines_before = slice_set suspended_machines number used in
+    let counted = one_is_suspended prefix polls given core.started core_after.started (progress_of started) is has_started in
+    let longer : length (suspended_machines_before ++ started ∷ []) ≡ length core_after.started =
+    length-append suspended_machines_before (started ∷ []) ∙ ap (λ n. n + 1) (length-set suspended_machines number used ∙ sym going.started) ∙ sym counted.0 in
     record {
-      seated = seated_more seats_before started (seated_set seats number used going.seated own) other;
+      is_suspended = is_suspended_more suspended_machines_before started (is_suspended_set suspended_machines number used going.is_suspended own) other;
       counted = applied ∙ ap (λ n. n + 1) going.counted ∙ sym (ap length order_is ∙ length-append order (number ∷ []));
       started = sym longer;
       few = subst (λ n. n ≤ MACHINES) (sym longer) counted.1;
     }
 
 -- what is so after a request, whether it started a machine or not
-pub going_used : (core core_after : CoreModel) (seats seats_after : List Seat) (order order_after : List ℕ) (number : ℕ)
+pub going_used : (core core_after : CoreModel) (suspended_machines suspended_machines_after : List SuspendedMachine) (order order_after : List ℕ) (number : ℕ)
     (prefix : Option (List ℕ)) (given : Reply) (came : Moved)
-    → IsGoing core seats order → HasUsed prefix given number seats seats_after came → core_after.applied ≡ core.applied + 1
-    → order_after ≡ order ++ number ∷ [] → HasStarted prefix given core.started core_after.started → IsGoing core_after seats_after order_after
-going_used core core_after seats seats_after order order_after number prefix given came going did applied order_is has_started =
-    subst (λ (all : List Seat). IsGoing core_after all order_after) (sym did.seats) (by did.more did.started did.more_seated)
+    → IsGoing core suspended_machines order → HasUsed prefix given number suspended_machines suspended_machines_after came → core_after.applied ≡ core.applied + 1
+    → order_after ≡ order ++ number ∷ [] → HasStarted prefix given core.started core_after.started → IsGoing core_after suspended_machines_after order_after
+going_used core core_after suspended_machines suspended_machines_after order order_after number prefix given came going did applied order_is has_started =
+    subst (λ (all : List SuspendedMachine). IsGoing core_after all order_after) (sym did.suspended_machines) (by did.more did.started did.more_is_suspended)
   where
-    used : List Seat
-    used = slice_set seats number did.used
+    used : List SuspendedMachine
+    used = slice_set suspended_machines number did.used
 
-    by : (more : Option Seat) → map progress_of (option_to_list more) ≡ started_by prefix did.asked.machine.machine.polls given
-        → IfSome more IsSeated → IsGoing core_after (used ++ option_to_list more) order_after
-    by None is own = subst (λ (all : List Seat). IsGoing core_after all order_after) (sym (append-nil used))
-        (going_on core core_after seats order order_after number did.used prefix did.asked.machine.machine.polls given going did.seated applied
+    by : (more : Option SuspendedMachine) → map progress_of (option_to_list more) ≡ started_by prefix did.asked.machine.machine.polls given
+        → IfSome more IsSuspended → IsGoing core_after (used ++ option_to_list more) order_after
+    by None is own = subst (λ (all : List SuspendedMachine). IsGoing core_after all order_after) (sym (append-nil used))
+        (going_on core core_after suspended_machines order order_after number did.used prefix did.asked.machine.machine.polls given going did.is_suspended applied
         order_is (sym is) did.memory has_started)
-    by (Some one) is own = going_more core core_after seats order order_after number did.used one prefix did.asked.machine.machine.polls given
-        going did.seated own applied order_is is has_started
+    by (Some one) is own = going_more core core_after suspended_machines order order_after number did.used one prefix did.asked.machine.machine.polls given
+        going did.is_suspended own applied order_is is has_started
 
 -- what a request comes to whose reply was used
-pub takes_used : (core core_after : CoreModel) (words words_after : ℕ → ℕ) (seats seats_after : List Seat) (order order_after : List ℕ)
+pub takes_used : (core core_after : CoreModel) (words words_after : ℕ → ℕ) (suspended_machines suspended_machines_after : List SuspendedMachine) (order order_after : List ℕ)
     (number : ℕ) (request : Request) (prefix : Option (List ℕ)) (given : Reply) (came : Moved)
-    → HasUsed prefix given number seats seats_after came → option_and_then (λ (seat : Seat). seat.asks) (slice_get seats number) ≡ Some request
+    → HasUsed prefix given number suspended_machines suspended_machines_after came → option_and_then (λ (suspended : SuspendedMachine). suspended.asks) (slice_get suspended_machines number) ≡ Some request
     → ((world : World) → StandsFor core world → HasWords world words → Answers given core_after words_after (world_step world request))
     → prefix ≡ start_prefix request → order_after ≡ order ++ number ∷ []
-    → Takes core words seats order number core_after words_after seats_after order_after
-takes_used core core_after words words_after seats seats_after order order_after number request prefix given came did asks answers prefix_is order_is = record {
-  seat = did.asked;
-  seat_is = did.here;
+    → Takes core words suspended_machines order number core_after words_after suspended_machines_after order_after
+takes_used core core_after words words_after suspended_machines suspended_machines_after order order_after number request prefix given came did asks answers prefix_is order_is = record {
+  suspended = did.asked;
+  suspended_is = did.here;
   request = request;
-  asks = sym (ap (option_and_then (λ (seat : Seat). seat.asks)) did.here) ∙ asks;
+  asks = sym (ap (option_and_then (λ (suspended : SuspendedMachine). suspended.asks)) did.here) ∙ asks;
   given = given;
   is_given = did.memory;
   answers = answers;
   used = progress_of did.used;
   used_is = did.rests;
-  seats_are = ap (map progress_of) did.seats ∙ map-append progress_of (slice_set seats number did.used) (option_to_list did.more)
-      ∙ (λ i. map-set progress_of seats number did.used i
+  suspended_machines_are = ap (map progress_of) did.suspended_machines ∙ map-append progress_of (slice_set suspended_machines number did.used) (option_to_list did.more)
+      ∙ (λ i. map-set progress_of suspended_machines number did.used i
       ++ (did.started ∙ ap (λ (under : Option (List ℕ)). started_by under did.asked.machine.machine.polls given) prefix_is) i);
   order_is = order_is;
 }

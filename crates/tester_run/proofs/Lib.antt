@@ -1,4 +1,4 @@
-pub mod Seats
+pub mod SuspendedMachines
 pub mod Turns
 pub mod Leading
 pub mod Stacks

@@ -5,44 +5,44 @@ use Rattle.client_core.specs.Stands.{CoreModel}
 use Rattle.command_rules.specs.declared.args.RunArgs.{RunArgs}
 use Rattle.tester_run.specs.declared.fault.OrderFault.{OrderFault}
 use Rattle.tester_run.specs.declared.fault.OrderFault.TheVariants as order
-use Rattle.machine_seat.specs.declared.seat.Seat.{Seat}
-use Rattle.machine_seat.specs.Seats.{progress_of}
+use Rattle.suspended_machine.specs.declared.suspended.SuspendedMachine.{SuspendedMachine}
+use Rattle.suspended_machine.specs.SuspendedMachines.{progress_of}
 use Rattle.tester_run.specs.Driving.{asks_at, IsFirstAsking, Leads}
 use Rattle.tester_run.specs.Faults.{IsMisfit, StopsShort}
 use Rattle.tester_run.specs.Following.{HasFollowed}
-use Rattle.tester_run.proofs.Seats.{has_is_asks}
+use Rattle.tester_run.proofs.SuspendedMachines.{has_is_asks}
 
 -- an order that was followed up to a machine that asks nothing
 pub misfit_stopped : (fault : OrderFault) (pairs : List (List ℕ × List ℕ)) (arguments : RunArgs) (core : CoreModel) (words : ℕ → ℕ)
-    (seats : List Seat) (followed given : List ℕ) → Leads pairs arguments core words seats followed
-    → HasFollowed (Some fault) given followed seats → IsMisfit fault pairs arguments given
-misfit_stopped (order.NoRequest place machine) pairs arguments core words seats followed given leads stops = record {
+    (suspended_machines : List SuspendedMachine) (followed given : List ℕ) → Leads pairs arguments core words suspended_machines followed
+    → HasFollowed (Some fault) given followed suspended_machines → IsMisfit fault pairs arguments given
+misfit_stopped (order.NoRequest place machine) pairs arguments core words suspended_machines followed given leads stops = record {
   front = followed;
   rest = stops.rest;
   order_is = stops.given_is;
   place_is = stops.place_is;
-  run = record { world = leads.world; machines = map progress_of seats };
+  run = record { world = leads.world; machines = map progress_of suspended_machines };
   runs = leads.runs;
-  none = has_is_asks leads.world seats machine ∙ stops.none;
+  none = has_is_asks leads.world suspended_machines machine ∙ stops.none;
 }
-misfit_stopped order.EndsEarly pairs arguments core words seats followed given leads stops = absurd stops
-misfit_stopped order.NoMemory pairs arguments core words seats followed given leads stops = absurd stops
+misfit_stopped order.EndsEarly pairs arguments core words suspended_machines followed given leads stops = absurd stops
+misfit_stopped order.NoMemory pairs arguments core words suspended_machines followed given leads stops = absurd stops
 
 -- an order that was followed to its end, where a machine asks
 pub stops_short : (found : Option ℕ) (pairs : List (List ℕ × List ℕ)) (arguments : RunArgs) (core : CoreModel) (words : ℕ → ℕ)
-    (seats : List Seat) (followed given : List ℕ) → Leads pairs arguments core words seats followed → followed ≡ given
-    → IsFirstAsking seats 0 found → is_some found ≡ true → StopsShort pairs arguments given
-stops_short None pairs arguments core words seats followed given leads is first some = absurd cc
-stops_short (Some machine) pairs arguments core words seats followed given leads is first some =
+    (suspended_machines : List SuspendedMachine) (followed given : List ℕ) → Leads pairs arguments core words suspended_machines followed → followed ≡ given
+    → IsFirstAsking suspended_machines 0 found → is_some found ≡ true → StopsShort pairs arguments given
+stops_short None pairs arguments core words suspended_machines followed given leads is first some = absurd cc
+stops_short (Some machine) pairs arguments core words suspended_machines followed given leads is first some =
     subst (λ (o : List ℕ). StopsShort pairs arguments o) is (record {
-      run = record { world = leads.world; machines = map progress_of seats };
+      run = record { world = leads.world; machines = map progress_of suspended_machines };
       runs = leads.runs;
       machine = machine;
-      asks = has_is_asks leads.world seats machine ∙ first.2;
+      asks = has_is_asks leads.world suspended_machines machine ∙ first.2;
     })
 
 -- where no first machine asks, none does
-pub none_asks : (found : Option ℕ) (seats : List Seat) → IsFirstAsking seats 0 found → is_some found ≡ false
-    → (number : ℕ) → asks_at seats number ≡ false
-none_asks None seats none e number = none number (omega arith)
-none_asks (Some machine) seats first e number = absurd cc
+pub none_asks : (found : Option ℕ) (suspended_machines : List SuspendedMachine) → IsFirstAsking suspended_machines 0 found → is_some found ≡ false
+    → (number : ℕ) → asks_at suspended_machines number ≡ false
+none_asks None suspended_machines none e number = none number (omega arith)
+none_asks (Some machine) suspended_machines first e number = absurd cc

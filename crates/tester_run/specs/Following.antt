@@ -2,19 +2,19 @@
 use Rattle.std.specs.Prelude.{◌≡◌, ℕ, ◌+◌, false, List, ◌∷◌, ◌++◌, length, Option, Some, None}
 use Rattle.tester_run.specs.declared.fault.OrderFault.{OrderFault}
 use Rattle.tester_run.specs.declared.fault.OrderFault.TheVariants as order
-use Rattle.machine_seat.specs.declared.seat.Seat.{Seat}
+use Rattle.suspended_machine.specs.declared.suspended.SuspendedMachine.{SuspendedMachine}
 use Rattle.tester_run.specs.Driving.{asks_at}
 
 -- to a place at which the machine that it names asks nothing
-pub record Stops (given order : List ℕ) (seats : List Seat) (place machine : ℕ) : Type 0 where
+pub record Stops (given order : List ℕ) (suspended_machines : List SuspendedMachine) (place machine : ℕ) : Type 0 where
   pub rest : List ℕ
   pub given_is : given ≡ order ++ machine ∷ rest
   pub place_is : place ≡ length order + 1
-  pub none : asks_at seats machine ≡ false
+  pub none : asks_at suspended_machines machine ≡ false
 
 -- to its end, or up to such a place
-abbrev pub HasFollowed : Option OrderFault → (given order : List ℕ) → List Seat → Type 0
-HasFollowed None given its_order seats = its_order ≡ given
-HasFollowed (Some (order.NoRequest place machine)) given its_order seats = Stops given its_order seats place machine
-HasFollowed (Some order.EndsEarly) given its_order seats = ⊥
-HasFollowed (Some order.NoMemory) given its_order seats = ⊥
+abbrev pub HasFollowed : Option OrderFault → (given order : List ℕ) → List SuspendedMachine → Type 0
+HasFollowed None given its_order suspended_machines = its_order ≡ given
+HasFollowed (Some (order.NoRequest place machine)) given its_order suspended_machines = Stops given its_order suspended_machines place machine
+HasFollowed (Some order.EndsEarly) given its_order suspended_machines = ⊥
+HasFollowed (Some order.NoMemory) given its_order suspended_machines = ⊥

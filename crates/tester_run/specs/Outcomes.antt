@@ -64,8 +64,8 @@ pub record BreaksOff (left : Option (List ℕ)) (asked : Args) (order : List ℕ
   pub has_run : HasRun left asked order run
   pub written : AppendsFront before after (output_of asked order run)
 
--- In each complete run of the order, over pairs that an input may have, each transaction whose commit made a version would get
--- the same ordinary reads run whole at its commit, unless a write that doesn't declare its keys fell between.
+-- In each complete run of the order, over pairs that an input may have, each transaction whose commit made a version would get the
+-- same ordinary reads run whole at its commit, unless a write without a write conflict range fell between.
 abbrev pub IsLegal : (asked : Args) → (order : List ℕ) → Type 0
 IsLegal asked order = (pairs : List (List ℕ × List ℕ)) (run : Run) → AllByRecursion IsSmall pairs
     → RunsTo pairs (arguments_of asked) order run → IsOneLegalHistory run.world.setting.history

@@ -8,7 +8,7 @@ use Rattle.machine_rules.specs.Machines.{Machine, Progress}
 use Rattle.machine_rules.specs.Runs.{Run}
 use Rattle.machine_rules.specs.Worlds.{newest}
 use Rattle.version_store.specs.Versions.{Versions, last_of}
-use Rattle.machine_seat.specs.declared.seat.Seat.{Seat}
+use Rattle.suspended_machine.specs.declared.suspended.SuspendedMachine.{SuspendedMachine}
 use Rattle.tester_run.specs.Dumps.{newest_pairs}
 use Rattle.tester_run.specs.declared.summing.Counted.{Counted}
 use Rattle.tester_run.specs.declared.summing.Counted.TheVariants as counted
@@ -27,12 +27,12 @@ count_of counted.Items machine = length machine.registers.stack
 abbrev pub total_of : Counted → List Progress → ℕ
 total_of which machines = sum_by (λ progress. count_of which progress.machine) machines
 
--- the machines at their seats
-abbrev pub count_at : Counted → Seat → ℕ
-count_at which seat = count_of which seat.machine.machine
+-- the suspended machines
+abbrev pub count_at : Counted → SuspendedMachine → ℕ
+count_at which suspended = count_of which suspended.machine.machine
 
-abbrev pub total_at : Counted → List Seat → ℕ
-total_at which seats = sum_by (count_at which) seats
+abbrev pub total_at : Counted → List SuspendedMachine → ℕ
+total_at which suspended_machines = sum_by (count_at which) suspended_machines
 
 -- how many machines there are, and how many instructions they were started with; the requests, which are the places of the order; the
 -- last version; errors, items and keys, each as many as a dump has lines of them
@@ -46,13 +46,13 @@ summary order run =
     ++ summary_line (codes "items") (total_of counted.Items run.machines)
     ++ summary_line (codes "keys") (length (finite.entries (newest run.world)))
 
--- the same of machines at their seats and of what a store keeps
-unfoldable pub summary_of : List Seat → List ℕ → Versions → List ℕ
-summary_of seats order store =
-    summary_line (codes "machines") (length seats)
-    ++ summary_line (codes "instructions") (total_at counted.Instructions seats)
+-- the same of suspended machines and of what a store keeps
+unfoldable pub summary_of : List SuspendedMachine → List ℕ → Versions → List ℕ
+summary_of suspended_machines order store =
+    summary_line (codes "machines") (length suspended_machines)
+    ++ summary_line (codes "instructions") (total_at counted.Instructions suspended_machines)
     ++ summary_line (codes "requests") (length order)
     ++ summary_line (codes "commits") (last_of store)
-    ++ summary_line (codes "errors") (total_at counted.Errors seats)
-    ++ summary_line (codes "items") (total_at counted.Items seats)
+    ++ summary_line (codes "errors") (total_at counted.Errors suspended_machines)
+    ++ summary_line (codes "items") (total_at counted.Items suspended_machines)
     ++ summary_line (codes "keys") (length (newest_pairs store))

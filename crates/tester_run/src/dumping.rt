@@ -6,7 +6,7 @@ ghost use Rattle.line_rules.specs.Printing.{order_line};
 ghost use Rattle.machine_rules.specs.Calls.{item_bytes};
 ghost use Rattle.machine_rules.specs.Runs.{end_line, stack_lines, error_lines};
 ghost use Rattle.line_rules.specs.Inputs.{pair_lines};
-ghost use Rattle.tester_run.specs.Dumps.{dump_of, newest_pairs, seat_end, seat_errors, seat_stack};
+ghost use Rattle.tester_run.specs.Dumps.{dump_of, newest_pairs, suspended_end, suspended_errors, suspended_stack};
 
 use client_core::Core;
 use dump_text::{
@@ -15,9 +15,9 @@ use dump_text::{
 };
 use fdb_tuple::pack_element_into;
 use machine_rules::ItemValue;
-use machine_seat::Seat;
 use stack_machine::{End, Machine, State};
 use std::alloc::{AllocError, Global};
+use suspended_machine::SuspendedMachine;
 
 /// Renders the dump of machines that have stopped, of the order, and of the pairs of the map at the last
 /// version. Room for so many bytes is asked for at once, so that a long dump is moved seldom; where there is no
@@ -25,17 +25,17 @@ use std::alloc::{AllocError, Global};
 #[tactic(auto, unfolding(crate::specs::Dumps::dump_of))]
 pub fn render(
     alloc: Global,
-    seats: &[Seat],
+    suspended_machines: &[SuspendedMachine],
     order: &Order,
     core: &Core,
     room: usize,
 ) -> Result<Vec<u8>, AllocError>
-    ensures { IfOk result (λ dump. dump.items ≡ dump_of seats.now order.now (newest_pairs core.now.store)) }
+    ensures { IfOk result (λ dump. dump.items ≡ dump_of suspended_machines.now order.now (newest_pairs core.now.store)) }
 {
     let mut dump = with_room(alloc, room);
-    add_end_lines(&mut dump, seats)?;
-    add_stacks(alloc, &mut dump, seats)?;
-    add_errors(&mut dump, seats)?;
+    add_end_lines(&mut dump, suspended_machines)?;
+    add_stacks(alloc, &mut dump, suspended_machines)?;
+    add_errors(&mut dump, suspended_machines)?;
     add_order_lines(&mut dump, order)?;
     add_pair_lines(&mut dump, core)?;
     Ok(dump)
@@ -51,29 +51,36 @@ fn with_room(alloc: Global, room: usize) -> Vec<u8>
     }
 }
 
-fn add_end_lines(to: &mut Vec<u8>, seats: &[Seat]) -> Result<(), AllocError>
-    ensures { OnOk result (to.new.items ≡ to.old.items ++ flat_map seat_end seats.now) }
+fn add_end_lines(
+    to: &mut Vec<u8>,
+    suspended_machines: &[SuspendedMachine],
+) -> Result<(), AllocError>
+    ensures { OnOk result (to.new.items ≡ to.old.items ++ flat_map suspended_end suspended_machines.now) }
 {
-    for seat in seats {
-        add_end_line(to, &seat.machine)?;
+    for suspended in suspended_machines {
+        add_end_line(to, &suspended.machine)?;
     }
     Ok(())
 }
 
-fn add_stacks(alloc: Global, to: &mut Vec<u8>, seats: &[Seat]) -> Result<(), AllocError>
-    ensures { OnOk result (to.new.items ≡ to.old.items ++ flat_map seat_stack seats.now) }
+fn add_stacks(
+    alloc: Global,
+    to: &mut Vec<u8>,
+    suspended_machines: &[SuspendedMachine],
+) -> Result<(), AllocError>
+    ensures { OnOk result (to.new.items ≡ to.old.items ++ flat_map suspended_stack suspended_machines.now) }
 {
-    for seat in seats {
-        add_stack_lines(alloc, to, &seat.machine)?;
+    for suspended in suspended_machines {
+        add_stack_lines(alloc, to, &suspended.machine)?;
     }
     Ok(())
 }
 
-fn add_errors(to: &mut Vec<u8>, seats: &[Seat]) -> Result<(), AllocError>
-    ensures { OnOk result (to.new.items ≡ to.old.items ++ flat_map seat_errors seats.now) }
+fn add_errors(to: &mut Vec<u8>, suspended_machines: &[SuspendedMachine]) -> Result<(), AllocError>
+    ensures { OnOk result (to.new.items ≡ to.old.items ++ flat_map suspended_errors suspended_machines.now) }
 {
-    for seat in seats {
-        add_error_lines(to, &seat.machine)?;
+    for suspended in suspended_machines {
+        add_error_lines(to, &suspended.machine)?;
     }
     Ok(())
 }

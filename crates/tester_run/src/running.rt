@@ -3,7 +3,7 @@
 ghost use Rattle.std.specs.Prelude.{◌≡◌, ◌∷◌, [], length, if◌then◌else◌, IfOk};
 ghost use Rattle.std.specs.List.{list_all};
 ghost use Rattle.machine_rules.specs.Runs.{has_ended, AreByTurns};
-ghost use Rattle.machine_seat.specs.Seats.{IsSeated};
+ghost use Rattle.suspended_machine.specs.SuspendedMachines.{IsSuspended};
 ghost use Rattle.tester_run.specs.Arguments.{gen_arguments};
 ghost use Rattle.outside.specs.Seeds.{words_from};
 ghost use Rattle.tester_run.specs.Driving.{AreFirst, EndsByTurnsFrom, IsFirst, IsStarted};
@@ -18,11 +18,11 @@ use client_core::Core;
 use command_words::RunArgs;
 use dump_text::Order;
 use key_bytes::{Bytes, Pairs};
-use machine_seat::{Seat, start_with};
 use outside::PcgWords;
 use stack_machine::{End, State};
 use std::alloc::{AllocError, Global};
 use std::mem::forget;
+use suspended_machine::{SuspendedMachine, start_with};
 
 /// Every machine ended after its last instruction.
 const ENDED: u8 = 0;
@@ -56,7 +56,7 @@ pub struct Rendered {
 #[derive(Drop)]
 pub struct Ended {
     pub core: Core,
-    pub seats: Vec<Seat>,
+    pub suspended_machines: Vec<SuspendedMachine>,
     pub order: Order,
 }
 
@@ -69,9 +69,9 @@ pub fn generate(alloc: Global, pairs: Pairs) -> Result<Rendered, AllocError>
     let arguments = gen_arguments(alloc)?;
     let core = Core::load(alloc, &arguments, pairs)?;
     let words = PcgWords::new(arguments.seed);
-    let seat = first_seat(alloc, &arguments, &core)?;
-    let ended = run_by_turns(alloc, core, words, seat)?;
-    summary_of(alloc, ended.core, ended.seats, ended.order)
+    let suspended = first_suspended(alloc, &arguments, &core)?;
+    let ended = run_by_turns(alloc, core, words, suspended)?;
+    summary_of(alloc, ended.core, ended.suspended_machines, ended.order)
 }
 
 // The arguments of the run of `gen`.
@@ -86,53 +86,62 @@ fn gen_arguments(alloc: Global) -> Result<RunArgs, AllocError>
     })
 }
 
-/// Runs machine 0 at its seat, over a core that has taken no request, and each machine that is started, by turns, until all have
-/// ended.
+/// Runs machine 0 at its suspended machine, over a core that has taken no request, and each machine that is started, by turns,
+/// until all have ended.
 pub fn run_by_turns(
     alloc: Global,
     core: Core,
     words: PcgWords,
-    seat: Seat,
+    suspended: SuspendedMachine,
 ) -> Result<Ended, AllocError>
-    requires seated { IsSeated seat }
+    requires is_suspended { IsSuspended suspended }
     requires unapplied { core.applied ≡ 0 }
     requires alone { length core.started ≡ 1 }
-    ensures { IfOk result (EndsByTurnsFrom core (words_from words) seat) }
+    ensures { IfOk result (EndsByTurnsFrom core (words_from words) suspended) }
 {
     let mut core = core;
     let mut words = words;
-    let mut seats = alone(alloc, seat)?;
+    let mut suspended_machines = alone(alloc, suspended)?;
     let mut order = Order::new(alloc);
     let mut from = 0;
     drive(
-        alloc, &mut core, &mut words, &mut seats, &mut order, &mut from,
+        alloc,
+        &mut core,
+        &mut words,
+        &mut suspended_machines,
+        &mut order,
+        &mut from,
     )?;
-    Ok(Ended { core, seats, order })
+    Ok(Ended {
+        core,
+        suspended_machines,
+        order,
+    })
 }
 
 // One machine alone.
-fn alone(alloc: Global, seat: Seat) -> Result<Vec<Seat>, AllocError>
-    ensures { IfOk result (λ seats. seats.items ≡ seat ∷ []) }
+fn alone(alloc: Global, suspended: SuspendedMachine) -> Result<Vec<SuspendedMachine>, AllocError>
+    ensures { IfOk result (λ suspended_machines. suspended_machines.items ≡ suspended ∷ []) }
 {
-    let mut seats = Vec::new(alloc);
-    seats.push(seat)?;
-    Ok(seats)
+    let mut suspended_machines = Vec::new(alloc);
+    suspended_machines.push(suspended)?;
+    Ok(suspended_machines)
 }
 
 // The summary of what stands at the end of a run.
 fn summary_of(
     alloc: Global,
     core: Core,
-    seats: Vec<Seat>,
+    suspended_machines: Vec<SuspendedMachine>,
     order: Order,
 ) -> Result<Rendered, AllocError>
     ensures order { IfOk result (λ rendered. rendered.order ≡ order) }
-    ensures summary { IfOk result (λ rendered. rendered.output.items ≡ summary_of seats.items order core.store) }
+    ensures summary { IfOk result (λ rendered. rendered.output.items ≡ summary_of suspended_machines.items order core.store) }
     ensures status { IfOk result (λ rendered. rendered.status ≡ 0) }
 {
-    let output = summarize(alloc, &seats, &order, &core)?;
+    let output = summarize(alloc, &suspended_machines, &order, &core)?;
     forget(core);
-    forget(seats);
+    forget(suspended_machines);
     Ok(Rendered {
         output,
         order,
@@ -145,20 +154,20 @@ fn summary_of(
 pub fn rendered_of(
     alloc: Global,
     core: Core,
-    seats: Vec<Seat>,
+    suspended_machines: Vec<SuspendedMachine>,
     order: Order,
     loaded: usize,
 ) -> Result<Rendered, AllocError>
     ensures order { IfOk result (λ rendered. rendered.order ≡ order) }
-    ensures dump { IfOk result (λ rendered. rendered.output.items ≡ dump_of seats.items order (newest_pairs core.store)) }
+    ensures dump { IfOk result (λ rendered. rendered.output.items ≡ dump_of suspended_machines.items order (newest_pairs core.store)) }
     ensures status { IfOk result (λ rendered. rendered.status
-        ≡ (if list_all (λ seat. has_ended seat.machine.machine.state) seats.items then 0 else 3)) }
+        ≡ (if list_all (λ suspended. has_ended suspended.machine.machine.state) suspended_machines.items then 0 else 3)) }
 {
     let room = loaded.saturating_mul(PAIR_ROOM);
-    let output = render(alloc, &seats, &order, &core, room)?;
-    let status = status_of(&seats);
+    let output = render(alloc, &suspended_machines, &order, &core, room)?;
+    let status = status_of(&suspended_machines);
     forget(core);
-    forget(seats);
+    forget(suspended_machines);
     Ok(Rendered {
         output,
         order,
@@ -166,31 +175,39 @@ pub fn rendered_of(
     })
 }
 
-/// Starts machine 0, at its seat.
-pub fn first_seat(alloc: Global, arguments: &RunArgs, core: &Core) -> Result<Seat, AllocError>
-    ensures started { IfOk result (λ seat. IsStarted seat arguments.now core.now) }
-    ensures first { IfOk result (λ seat. IsFirst seat arguments.now core.now) }
-    ensures seated { IfOk result IsSeated }
+/// Starts machine 0, at its suspended machine.
+pub fn first_suspended(
+    alloc: Global,
+    arguments: &RunArgs,
+    core: &Core,
+) -> Result<SuspendedMachine, AllocError>
+    ensures started { IfOk result (λ suspended. IsStarted suspended arguments.now core.now) }
+    ensures first { IfOk result (λ suspended. IsFirst suspended arguments.now core.now) }
+    ensures is_suspended { IfOk result IsSuspended }
 {
     let instructions = core.instructions(arguments.prefix.as_slice())?;
     let prefix = arguments.prefix.copy()?;
-    let seat = start_with(alloc, 0, prefix, arguments.polls, instructions)?;
-    Ok(seat)
+    let suspended = start_with(alloc, 0, prefix, arguments.polls, instructions)?;
+    Ok(suspended)
 }
 
-/// Starts machine 0, at the only seat.
-pub fn first_seats(alloc: Global, arguments: &RunArgs, core: &Core) -> Result<Vec<Seat>, AllocError>
-    ensures { IfOk result (λ seats. AreFirst seats.items arguments.now core.now) }
+/// Starts machine 0, at the only suspended machine.
+pub fn first_suspended_machines(
+    alloc: Global,
+    arguments: &RunArgs,
+    core: &Core,
+) -> Result<Vec<SuspendedMachine>, AllocError>
+    ensures { IfOk result (λ suspended_machines. AreFirst suspended_machines.items arguments.now core.now) }
 {
-    let seat = first_seat(alloc, arguments, core)?;
-    alone(alloc, seat)
+    let suspended = first_suspended(alloc, arguments, core)?;
+    alone(alloc, suspended)
 }
 
-fn status_of(seats: &[Seat]) -> u8
-    ensures { result ≡ (if list_all (λ seat. has_ended seat.machine.machine.state) seats.now then 0 else 3) }
+fn status_of(suspended_machines: &[SuspendedMachine]) -> u8
+    ensures { result ≡ (if list_all (λ suspended. has_ended suspended.machine.machine.state) suspended_machines.now then 0 else 3) }
 {
-    for seat in seats {
-        if !has_ended(seat) {
+    for suspended in suspended_machines {
+        if !has_ended(suspended) {
             return CUT_SHORT;
         }
     }
@@ -198,8 +215,8 @@ fn status_of(seats: &[Seat]) -> u8
 }
 
 // Whether a machine ended after its last instruction.
-fn has_ended(seat: &Seat) -> bool
-    ensures { result ≡ has_ended seat.now.machine.machine.state }
+fn has_ended(suspended: &SuspendedMachine) -> bool
+    ensures { result ≡ has_ended suspended.now.machine.machine.state }
 {
-    matches!(seat.machine.state(), State::Stopped(End::Ended))
+    matches!(suspended.machine.state(), State::Stopped(End::Ended))
 }

@@ -7,8 +7,8 @@ ghost use Rattle.tester_run.specs.Summaries.{count_at, summary_line, summary_of,
 use client_core::Core;
 use dump_text::Order;
 use itoa::Buffer;
-use machine_seat::Seat;
 use std::alloc::{AllocError, Global};
+use suspended_machine::SuspendedMachine;
 
 /// What is counted of each machine.
 #[derive(Clone, Copy, Debug, PartialEq, Eq)]
@@ -26,23 +26,31 @@ pub enum Counted {
 #[tactic(auto, unfolding(crate::specs::Summaries::summary_of))]
 pub fn summarize(
     alloc: Global,
-    seats: &[Seat],
+    suspended_machines: &[SuspendedMachine],
     order: &Order,
     core: &Core,
 ) -> Result<Vec<u8>, AllocError>
-    ensures { IfOk result (λ summary. summary.items ≡ summary_of seats.now order.now core.now.store) }
+    ensures { IfOk result (λ summary. summary.items ≡ summary_of suspended_machines.now order.now core.now.store) }
 {
     let mut summary = Vec::new(alloc);
-    add_line(&mut summary, b"machines", seats.len() as u64)?;
+    add_line(&mut summary, b"machines", suspended_machines.len() as u64)?;
     add_line(
         &mut summary,
         b"instructions",
-        total(seats, Counted::Instructions)?,
+        total(suspended_machines, Counted::Instructions)?,
     )?;
     add_line(&mut summary, b"requests", order.len() as u64)?;
     add_line(&mut summary, b"commits", core.last())?;
-    add_line(&mut summary, b"errors", total(seats, Counted::Errors)?)?;
-    add_line(&mut summary, b"items", total(seats, Counted::Items)?)?;
+    add_line(
+        &mut summary,
+        b"errors",
+        total(suspended_machines, Counted::Errors)?,
+    )?;
+    add_line(
+        &mut summary,
+        b"items",
+        total(suspended_machines, Counted::Items)?,
+    )?;
     add_line(&mut summary, b"keys", key_count(core)?)?;
     Ok(summary)
 }
@@ -60,24 +68,24 @@ fn add_line(to: &mut Vec<u8>, name: &[u8], count: u64) -> Result<(), AllocError>
 }
 
 // How many of these a machine has.
-fn count_in(seat: &Seat, which: Counted) -> usize
-    ensures { result ≡ count_at which seat.now }
+fn count_in(suspended: &SuspendedMachine, which: Counted) -> usize
+    ensures { result ≡ count_at which suspended.now }
 {
     match which {
-        Counted::Instructions => seat.machine.instruction_count(),
-        Counted::Errors => seat.machine.errors().len(),
-        Counted::Items => seat.machine.stack().as_slice().len(),
+        Counted::Instructions => suspended.machine.instruction_count(),
+        Counted::Errors => suspended.machine.errors().len(),
+        Counted::Items => suspended.machine.stack().as_slice().len(),
     }
 }
 
 // How many all machines have.
-fn total(seats: &[Seat], which: Counted) -> Result<u64, AllocError>
-    ensures { IfOk result (λ total. total ≡ total_at which seats.now) }
+fn total(suspended_machines: &[SuspendedMachine], which: Counted) -> Result<u64, AllocError>
+    ensures { IfOk result (λ total. total ≡ total_at which suspended_machines.now) }
 {
     let mut total: u64 = 0;
-    for seat in seats {
+    for suspended in suspended_machines {
         total = total
-            .checked_add(count_in(seat, which) as u64)
+            .checked_add(count_in(suspended, which) as u64)
             .ok_or(AllocError)?;
     }
     Ok(total)

@@ -3,7 +3,7 @@
 ghost use Rattle.std.specs.Prelude.{◌≡◌, [], length, map, true, None, IfOk};
 ghost use Rattle.std.specs.List.{All};
 ghost use Rattle.outside.specs.Seeds.{words_from};
-ghost use Rattle.machine_seat.specs.Seats.{progress_of, IsSeated};
+ghost use Rattle.suspended_machine.specs.SuspendedMachines.{progress_of, IsSuspended};
 ghost use Rattle.thread_laws.specs.Alone.{begun_as};
 ghost use Rattle.request_line.specs.History.{CoverAllNumbers};
 ghost use Rattle.request_line.specs.Line.{closed, receiver_line, taken};
@@ -16,11 +16,10 @@ ghost use Rattle.tester_run.specs.Driving.{EndsFrom};
 ghost use Rattle.tester_run.specs.Rendered.{Renders};
 ghost use Rattle.tester_run.specs.Serving.{CameBack, IsFresh, IsNetworkOf, IsServed};
 
-use crate::running::{Ended, Rendered, first_seat, rendered_of, run_by_turns};
+use crate::running::{Ended, Rendered, first_suspended, rendered_of, run_by_turns};
 use client_core::Core;
 use command_words::RunArgs;
 use key_bytes::Pairs;
-use machine_seat::Seat;
 use machine_threads::{Cause, Ran, ThreadedMachine, run_machine, settle_machines};
 use network::{Post, Served, serve};
 use outside::{Gate, PcgWords};
@@ -31,7 +30,8 @@ use std::sync::atomic::{AtomicBool, Ordering};
 use std::sync::{Arc, Wait};
 use std::thread;
 use std::thread::{Promise, PromisedHandle, Threads};
-use thread_gathering::{CoreService, threads_gather_to_a_run};
+use suspended_machine::SuspendedMachine;
+use threaded_run_laws::{CoreService, threads_gather_to_a_run};
 
 /// How many posts may wait in the line.
 const LINE: usize = 64;
@@ -114,29 +114,41 @@ pub fn run_threaded<R: Threads + Wait + Sync + Clone + Drop + Send + 'static, G:
     let loaded = pairs.len();
     let core = Core::load(alloc, arguments, pairs)?;
     let words = PcgWords::new(arguments.seed);
-    let seat = first_seat(alloc, arguments, &core)?;
-    let ended = run_all(rt, alloc, gate, CoreService { core, words }, seat)?;
-    Ok(rendered_of(alloc, ended.core, ended.seats, ended.order, loaded)?)
+    let suspended = first_suspended(alloc, arguments, &core)?;
+    let ended = run_all(rt, alloc, gate, CoreService { core, words }, suspended)?;
+    Ok(rendered_of(
+        alloc,
+        ended.core,
+        ended.suspended_machines,
+        ended.order,
+        loaded,
+    )?)
 }
 
-// Runs machine 0 at its seat, over a core that has taken no request, and each machine that is started, until all have ended.
+// Runs machine 0 at its suspended machine, over a core that has taken no request, and each machine that is started, until all have
+// ended.
 fn run_all<R: Threads + Wait + Sync + Clone + Drop + Send + 'static, G: Gate>(
     rt: &R,
     alloc: Global,
     gate: &G,
     service: CoreService,
-    seat: Seat,
+    suspended: SuspendedMachine,
 ) -> Result<Ended, NoDump>
-    requires seated { IsSeated seat }
-    requires begun { progress_of seat ≡ begun_as seat.machine.machine }
+    requires is_suspended { IsSuspended suspended }
+    requires begun { progress_of suspended ≡ begun_as suspended.machine.machine }
     requires unapplied { service.core.applied ≡ 0 }
     requires alone { length service.core.started ≡ 1 }
-    ensures { IfOk result (EndsFrom service.core (words_from service.words) seat) }
+    ensures { IfOk result (EndsFrom service.core (words_from service.words) suspended) }
 {
     let (sender, receiver) = open::<Post>(alloc, LINE)?;
     match start_network(rt, alloc, sender, receiver, service)? {
-        Network::Runs { child, sender } => run_beside(rt, alloc, gate, child, seat, sender),
-        Network::Refused(service) => Ok(run_by_turns(alloc, service.core, service.words, seat)?),
+        Network::Runs { child, sender } => run_beside(rt, alloc, gate, child, suspended, sender),
+        Network::Refused(service) => Ok(run_by_turns(
+            alloc,
+            service.core,
+            service.words,
+            suspended,
+        )?),
     }
 }
 
@@ -146,15 +158,15 @@ fn run_beside<R: Threads + Wait + Sync, G: Gate>(
     alloc: Global,
     gate: &G,
     child: PromisedHandle<Back, Serving>,
-    seat: Seat,
+    suspended: SuspendedMachine,
     sender: Sender<Post>,
 ) -> Result<Ended, NoDump>
     requires fresh { IsFresh child.promise.0.value sender }
-    requires seated { IsSeated seat }
-    requires begun { progress_of seat ≡ begun_as seat.machine.machine }
-    ensures { IfOk result (EndsFrom child.promise.1.value.core (words_from child.promise.1.value.words) seat) }
+    requires is_suspended { IsSuspended suspended }
+    requires begun { progress_of suspended ≡ begun_as suspended.machine.machine }
+    ensures { IfOk result (EndsFrom child.promise.1.value.core (words_from child.promise.1.value.words) suspended) }
 {
-    let machine = ThreadedMachine::new(alloc, seat, sender);
+    let machine = ThreadedMachine::new(alloc, suspended, sender);
     let ran = run_machine(rt, alloc, gate, machine, 0);
     let answered = answered_by(rt, alloc, child.join(rt));
     if !is_whole(&ran) {
@@ -201,14 +213,14 @@ fn settled(alloc: Global, answered: Answered, team: Vec<ThreadedMachine>) -> Res
     ensures core { IfOk result (λ ended. ended.core ≡ answered.service.core) }
     ensures order { IfOk result (λ ended. ended.order ≡ answered.served.order) }
     ensures settled { IfOk result (λ ended. AreSettled team.items (taken answered.receiver) answered.served.order
-        answered.served.receipts ended.seats.items) }
+        answered.served.receipts ended.suspended_machines.items) }
 {
     let order = answered.served.order;
     let receipts = answered.served.receipts;
-    let seats = settle_machines(alloc, answered.receiver, &order, receipts, team)?;
+    let suspended_machines = settle_machines(alloc, answered.receiver, &order, receipts, team)?;
     Ok(Ended {
         core: answered.service.core,
-        seats,
+        suspended_machines,
         order,
     })
 }

@@ -8,8 +8,8 @@ use std::sync::Wait;
 use std::test::Fail;
 use std::thread::Threads;
 use tester_run::{ArgWords, status_over_bytes, tester};
-use thread_gathering::threads_gather_to_a_run;
 use thread_laws::{machines_weave_to_a_run, turns_are_one};
+use threaded_run_laws::threads_gather_to_a_run;
 
 mod gates;
 mod threads;

@@ -74,22 +74,22 @@ module _ (mutations : List Mutation) (database : Database) where
     above = λ q _. refl;
   }
 
-  -- without an edge they lead to the whole map
+  -- without a boundary they lead to the whole map
   pub led_all : (changes : ChangeList) → LeadUpTo mutations database None changes → changed changes database ≡ do_all mutations database
   led_all changes led = finite.same_map nat_list_cmp_total exact_bytes _ _ led.leads
 
   module _ (changes : ChangeList) (from : List ℕ) (led : LeadUpTo mutations database (Some from) changes) where
     -- over keys that the mutations leave as they are
-    pub led_past : (edge : Option (List ℕ)) → ((q : List ℕ) → is_inside edge false q ≡ false → key_lt q from ≡ false)
-        → ((q : List ℕ) → key_le from q ≡ true → is_inside edge false q ≡ true → finite.get database q ≡ made q)
-        → LeadUpTo mutations database edge changes
-    led_past edge beyond same = record {
+    pub led_past : (boundary : Option (List ℕ)) → ((q : List ℕ) → is_inside boundary false q ≡ false → key_lt q from ≡ false)
+        → ((q : List ℕ) → key_le from q ≡ true → is_inside boundary false q ≡ true → finite.get database q ≡ made q)
+        → LeadUpTo mutations database boundary changes
+    led_past boundary beyond same = record {
       only = led.only;
-      leads = λ q. led.leads q ∙ by q (is_inside edge false q) (key_lt q from) refl refl;
+      leads = λ q. led.leads q ∙ by q (is_inside boundary false q) (key_lt q from) refl refl;
       above = λ q outside. led.above q (beyond q outside);
     }
       where
-        by : (q : List ℕ) (inside below : Bool) → is_inside edge false q ≡ inside → key_lt q from ≡ below
+        by : (q : List ℕ) (inside below : Bool) → is_inside boundary false q ≡ inside → key_lt q from ≡ below
             → cond below (made q) (finite.get database q) ≡ cond inside (made q) (finite.get database q)
         by q true true in_it is_below = refl
         by q true false in_it is_not = same q (ap not is_not) in_it
@@ -141,29 +141,29 @@ module _ (mutations : List Mutation) (database : Database) where
 
 -- ---- a segment
 
-module _ (mutations : List Mutation) (database : Database) (begin : List ℕ) (edge : Option (List ℕ))
-    (segment : IsSegment mutations begin begin false edge) where
+module _ (mutations : List Mutation) (database : Database) (begin : List ℕ) (boundary : Option (List ℕ))
+    (segment : IsSegment mutations begin begin false boundary) where
   abbrev made_of : List ℕ → Option (List ℕ)
   made_of q = finite.get (do_all mutations database) q
 
   state_at : (state : KeyState) → state_under mutations begin ≡ state → (q : List ℕ) → key_le begin q ≡ true
-      → is_inside edge false q ≡ true → state_under mutations q ≡ state
+      → is_inside boundary false q ≡ true → state_under mutations q ≡ state
   state_at state is q on inside = sym (segment.alike q on inside).states ∙ is
 
   made_at : (state : KeyState) → state_under mutations begin ≡ state → (q : List ℕ) → key_le begin q ≡ true
-      → is_inside edge false q ≡ true → made_of q ≡ value_in state (finite.get database q)
+      → is_inside boundary false q ≡ true → made_of q ≡ value_in state (finite.get database q)
   made_at state is q on inside =
       get-under mutations database q ∙ ap (λ s. value_in s (finite.get database q)) (state_at state is q on inside)
 
-  outside_behind : (key : List ℕ) → is_inside edge false key ≡ true → (q : List ℕ) → is_inside edge false q ≡ false
+  outside_behind : (key : List ℕ) → is_inside boundary false key ≡ true → (q : List ℕ) → is_inside boundary false q ≡ false
       → key_lt key q ≡ true
-  outside_behind key inside q outside = before_outside edge false key q inside outside
+  outside_behind key inside q outside = before_outside boundary false key q inside outside
 
   module _ (changes : ChangeList) (led : LeadUpTo mutations database (Some begin) changes) where
     -- keys that no mutation changes
-    pub led_unmodified : state_under mutations begin ≡ Unmodified → LeadUpTo mutations database edge changes
+    pub led_unmodified : state_under mutations begin ≡ Unmodified → LeadUpTo mutations database boundary changes
     led_unmodified is =
-        led_past mutations database changes begin led edge
+        led_past mutations database changes begin led boundary
         (λ q outside. above_not_below begin q (outside_behind begin segment.inside q outside))
         (λ q on inside. sym (made_at Unmodified is q on inside))
 
@@ -175,21 +175,21 @@ module _ (mutations : List Mutation) (database : Database) (begin : List ℕ) (e
     -- one key alone
     pub led_single : (state : KeyState) → state_under mutations begin ≡ state → is_single_state state ≡ true
         → (value : Option (List ℕ)) → value ≡ value_in state (finite.get database begin)
-        → LeadUpTo mutations database edge (changes ++ (begin, value) ∷ [])
+        → LeadUpTo mutations database boundary (changes ++ (begin, value) ∷ [])
     led_single state state_is single_state value is =
         led_past mutations database (changes ++ (begin, value) ∷ []) (after begin)
         (led_over mutations database changes begin led begin value (ap not (irreflexive begin))
         (λ q on lower. absurd (true≢false (sym lower ∙ not-true (key_lt q begin) on)))
         (is ∙ sym (made_at state state_is begin (ap not (irreflexive begin)) segment.inside))
         (ap is_unmodified state_is ∙ single_modified state single_state))
-        edge
+        boundary
         (λ q outside. after_above q begin (outside_behind begin segment.inside q outside))
         (λ q on inside. absurd (apart q (not-true (key_lt q (after begin)) on) inside))
       where
         single : is_single_state (state_under mutations begin) ≡ true
         single = ap is_single_state state_is ∙ single_state
 
-        apart : (q : List ℕ) → key_lt q (after begin) ≡ false → is_inside edge false q ≡ true → ⊥
+        apart : (q : List ℕ) → key_lt q (after begin) ≡ false → is_inside boundary false q ≡ true → ⊥
         apart q behind inside =
             let higher : key_lt begin q ≡ true = above_after q begin behind in
             true≢false
@@ -199,85 +199,85 @@ module _ (mutations : List Mutation) (database : Database) (begin : List ℕ) (e
 -- ---- a segment whose keys have no value
 
 -- the keys that are stored from its begin up to a key are removed
-pub record IsCleared (mutations : List Mutation) (database : Database) (begin from : List ℕ) (edge : Option (List ℕ))
+pub record IsCleared (mutations : List Mutation) (database : Database) (begin from : List ℕ) (boundary : Option (List ℕ))
     (changes : ChangeList) : Type 0 where
   pub led : LeadUpTo mutations database (Some from) changes
   pub onward : (q : List ℕ) → key_le from q ≡ true → key_le begin q ≡ true
-  pub beyond : (q : List ℕ) → is_inside edge false q ≡ false → key_lt q from ≡ false
+  pub beyond : (q : List ℕ) → is_inside boundary false q ≡ false → key_lt q from ≡ false
 
-module _ (mutations : List Mutation) (database : Database) (begin : List ℕ) (edge : Option (List ℕ))
-    (segment : IsSegment mutations begin begin false edge) (is : state_under mutations begin ≡ Decided None) where
+module _ (mutations : List Mutation) (database : Database) (begin : List ℕ) (boundary : Option (List ℕ))
+    (segment : IsSegment mutations begin begin false boundary) (is : state_under mutations begin ≡ Decided None) where
   pub cleared_first : (changes : ChangeList) → LeadUpTo mutations database (Some begin) changes
-      → IsCleared mutations database begin begin edge changes
+      → IsCleared mutations database begin begin boundary changes
   cleared_first changes led = record {
     led = led;
     onward = λ q on. on;
-    beyond = λ q outside. above_not_below begin q (outside_behind mutations database begin edge segment begin segment.inside q outside);
+    beyond = λ q outside. above_not_below begin q (outside_behind mutations database begin boundary segment begin segment.inside q outside);
   }
 
-  none_at : (q : List ℕ) → key_le begin q ≡ true → is_inside edge false q ≡ true → finite.get (do_all mutations database) q ≡ None
-  none_at q on inside = made_at mutations database begin edge segment (Decided None) is q on inside
+  none_at : (q : List ℕ) → key_le begin q ≡ true → is_inside boundary false q ≡ true → finite.get (do_all mutations database) q ≡ None
+  none_at q on inside = made_at mutations database begin boundary segment (Decided None) is q on inside
 
-  module _ (changes : ChangeList) (from : List ℕ) (cleared : IsCleared mutations database begin from edge changes) where
-    pub cleared_more : (key value : List ℕ) → IsFirstMet database from false edge (Some (key, value))
-        → IsCleared mutations database begin (after key) edge (changes ++ (key, None) ∷ [])
+  module _ (changes : ChangeList) (from : List ℕ) (cleared : IsCleared mutations database begin from boundary changes) where
+    pub cleared_more : (key value : List ℕ) → IsFirstMet database from false boundary (Some (key, value))
+        → IsCleared mutations database begin (after key) boundary (changes ++ (key, None) ∷ [])
     cleared_more key value (met, inside) = record {
       led = led_over mutations database changes from cleared.led key None met.onward
-          (λ q on lower. met.gap q on lower ∙ sym (none_at q (cleared.onward q on) (inside_before edge false q key lower inside)))
+          (λ q on lower. met.gap q on lower ∙ sym (none_at q (cleared.onward q on) (inside_before boundary false q key lower inside)))
           (sym (none_at key (cleared.onward key met.onward) inside))
-          (ap is_unmodified (state_at mutations database begin edge segment (Decided None) is key (cleared.onward key met.onward) inside));
+          (ap is_unmodified (state_at mutations database begin boundary segment (Decided None) is key (cleared.onward key met.onward) inside));
       onward = λ q on. cleared.onward q
           (ap not (above_not_below from q
           (le_lt from key q (not-true (key_lt key from) met.onward) (above_after q key (not-true (key_lt q (after key)) on)))));
-      beyond = λ q outside. after_above q key (outside_behind mutations database begin edge segment key inside q outside);
+      beyond = λ q outside. after_above q key (outside_behind mutations database begin boundary segment key inside q outside);
     }
 
-    pub cleared_all : IsFirstMet database from false edge None → LeadUpTo mutations database edge changes
-    cleared_all none = led_past mutations database changes from cleared.led edge cleared.beyond
+    pub cleared_all : IsFirstMet database from false boundary None → LeadUpTo mutations database boundary changes
+    cleared_all none = led_past mutations database changes from cleared.led boundary cleared.beyond
         (λ q on inside. none q on inside ∙ sym (none_at q (cleared.onward q on) inside))
 
 -- the keys that are stored up to some of the pairs of the segment are removed, and these pairs are left
-pub record IsClearedBefore (mutations : List Mutation) (database : Database) (begin : List ℕ) (edge : Option (List ℕ))
+pub record IsClearedBefore (mutations : List Mutation) (database : Database) (begin : List ℕ) (boundary : Option (List ℕ))
     (left : Entries) (changes : ChangeList) : Type 0 where
   pub from : List ℕ
-  pub cleared : IsCleared mutations database begin from edge changes
-  pub left_is : left ≡ stored_between database from edge
+  pub cleared : IsCleared mutations database begin from boundary changes
+  pub left_is : left ≡ stored_between database from boundary
 
 -- behind the first of the pairs from a key on stand those from the key after it on
-others_left : (database : Database) (from : List ℕ) (edge : Option (List ℕ)) (pair : List ℕ × List ℕ) (rest : Entries)
-    → stored_between database from edge ≡ pair ∷ rest → rest ≡ stored_between database (after pair.0) edge
+others_left : (database : Database) (from : List ℕ) (boundary : Option (List ℕ)) (pair : List ℕ × List ℕ) (rest : Entries)
+    → stored_between database from boundary ≡ pair ∷ rest → rest ≡ stored_between database (after pair.0) boundary
 others_left database from None pair rest is = sym (onward_behind database from false pair rest is)
 others_left database from (Some until) pair rest is = sym (span_behind database from until false pair rest is)
 
-module _ (mutations : List Mutation) (database : Database) (begin : List ℕ) (edge : Option (List ℕ))
-    (segment : IsSegment mutations begin begin false edge) (is : state_under mutations begin ≡ Decided None) where
+module _ (mutations : List Mutation) (database : Database) (begin : List ℕ) (boundary : Option (List ℕ))
+    (segment : IsSegment mutations begin begin false boundary) (is : state_under mutations begin ≡ Decided None) where
   pub before_first : (changes : ChangeList) → LeadUpTo mutations database (Some begin) changes
-      → (left : Entries) → left ≡ stored_between database begin edge → IsClearedBefore mutations database begin edge left changes
+      → (left : Entries) → left ≡ stored_between database begin boundary → IsClearedBefore mutations database begin boundary left changes
   before_first changes led left left_is = record {
     from = begin;
-    cleared = cleared_first mutations database begin edge segment is changes led;
+    cleared = cleared_first mutations database begin boundary segment is changes led;
     left_is = left_is;
   }
 
-  module _ (changes : ChangeList) (left : Entries) (before : IsClearedBefore mutations database begin edge left changes) where
+  module _ (changes : ChangeList) (left : Entries) (before : IsClearedBefore mutations database begin boundary left changes) where
     -- a change of the first of them may come next
     pub before_above : (pair : List ℕ × List ℕ) (rest : Entries) → left ≡ pair ∷ rest → is_above changes pair.0 ≡ true
     before_above pair rest steps =
-        let met = between_met database before.from edge (Some pair) (ap first (sym before.left_is ∙ steps)) in
+        let met = between_met database before.from boundary (Some pair) (ap first (sym before.left_is ∙ steps)) in
         before.cleared.led.above pair.0 (not-true (key_lt pair.0 before.from) met.0.onward)
 
     pub before_rest : (pair : List ℕ × List ℕ) (rest : Entries) → left ≡ pair ∷ rest
-        → IsClearedBefore mutations database begin edge rest (changes ++ (pair.0, None) ∷ [])
+        → IsClearedBefore mutations database begin boundary rest (changes ++ (pair.0, None) ∷ [])
     before_rest pair rest steps =
-        let between : stored_between database before.from edge ≡ pair ∷ rest = sym before.left_is ∙ steps in
-        let met = between_met database before.from edge (Some pair) (ap first between) in
+        let between : stored_between database before.from boundary ≡ pair ∷ rest = sym before.left_is ∙ steps in
+        let met = between_met database before.from boundary (Some pair) (ap first between) in
         record {
           from = after pair.0;
-          cleared = cleared_more mutations database begin edge segment is changes before.from before.cleared pair.0 pair.1 met;
-          left_is = others_left database before.from edge pair rest between;
+          cleared = cleared_more mutations database begin boundary segment is changes before.from before.cleared pair.0 pair.1 met;
+          left_is = others_left database before.from boundary pair rest between;
         }
 
-    pub before_none : left ≡ [] → LeadUpTo mutations database edge changes
+    pub before_none : left ≡ [] → LeadUpTo mutations database boundary changes
     before_none none =
-        cleared_all mutations database begin edge segment is changes before.from before.cleared
-        (between_met database before.from edge None (ap first (sym before.left_is ∙ none)))
+        cleared_all mutations database begin boundary segment is changes before.from before.cleared
+        (between_met database before.from boundary None (ap first (sym before.left_is ∙ none)))

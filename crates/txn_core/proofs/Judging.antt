@@ -35,7 +35,8 @@ active_of (phase.Tried outcome) read_only size accepted = absurd cc
 
 -- ---- conflicts
 
--- what an index answers of a range is the newest commit that declared a key of it, where the index is that of the history
+-- what an index answers of a range is the newest commit with a key of it among its write conflict ranges, where the index is that
+-- of the history
 pub newest_in : (index : Index) (history : History) (begin end : List ℕ) (newest : ℕ)
     → ((key : List ℕ) → newest_at index key ≡ newest_of history key)
     → ((key : List ℕ) → within begin end key ≡ true → newest_at index key ≤ newest)

@@ -10,12 +10,12 @@ use Rattle.database_rules.specs.declared.Phase.TheVariants as phase
 use Rattle.database_rules.specs.Databases.{Mutation}
 use Rattle.database_rules.specs.Reads.{Read, Answer, answer}
 use Rattle.database_rules.specs.States.{covers, filled, all_filled}
-use Rattle.database_rules.specs.Histories.{Setting, write_range, declared_by}
-use Rattle.database_rules.specs.Transactions.{Transaction, writes_of, declared_of, is_tried, grown, mutation_size, range_size, with_range, version_in, with_version, with_read, with_mutation, with_read_range, with_write_range, silenced, with_phase, cancelled}
+use Rattle.database_rules.specs.Histories.{Setting, write_range, write_conflicts_by}
+use Rattle.database_rules.specs.Transactions.{Transaction, writes_of, write_conflicts_of, is_tried, grown, mutation_size, range_size, with_range, version_in, with_version, with_read, with_mutation, with_read_range, with_write_range, with_write_conflict_disabled, with_phase, cancelled}
 use Rattle.database_rules.proofs.States.{covers-append, filled-append}
 use Rattle.database_rules.proofs.Ranges.{covers_with_range}
-use Rattle.database_rules.proofs.Declaring.{written_wrote, written_read, declared_wrote, declared_read}
-use Rattle.txn_core.specs.Stands.{Kept, SameMutations, StandsFor, declared_among}
+use Rattle.database_rules.proofs.AddingConflicts.{written_wrote, written_read, write_conflicts_wrote, write_conflicts_read}
+use Rattle.txn_core.specs.Stands.{Kept, SameMutations, StandsFor, write_conflicts_among}
 use Rattle.txn_core.specs.Accesses.{StandsWritten}
 use Rattle.txn_core.proofs.States.{same_more}
 
@@ -49,12 +49,12 @@ pub versioned : (setting : Setting) (kept : Kept) (version : ℕ) (t : Transacti
 versioned setting kept version t stands is = record {
   mutations = stands.mutations;
   writes = stands.writes;
-  declared = stands.declared;
+  write_conflicts = stands.write_conflicts;
   life = stands.life;
   version = ap (λ v. Some v) is;
   reads = stands.reads;
   size = stands.size;
-  silenced = stands.silenced;
+  with_write_conflict_disabled = stands.with_write_conflict_disabled;
   phase = stands.phase;
 }
 
@@ -62,12 +62,12 @@ pub phased : (now : Phase) (kept : Kept) (t : Transaction) → StandsFor kept t 
 phased now kept t stands = record {
   mutations = stands.mutations;
   writes = stands.writes;
-  declared = stands.declared;
+  write_conflicts = stands.write_conflicts;
   life = stands.life;
   version = stands.version;
   reads = stands.reads;
   size = stands.size;
-  silenced = stands.silenced;
+  with_write_conflict_disabled = stands.with_write_conflict_disabled;
   phase = refl;
 }
 
@@ -77,28 +77,28 @@ appended_not_empty : (mutations : List Mutation) (mutation : Mutation) → nat_l
 appended_not_empty mutations mutation =
     le-ltb (length (mutations ++ mutation ∷ [])) 1 (omega (arith, length-append mutations (mutation ∷ [])))
 
--- the keys of one mutation, where it declares them
+-- the keys of one mutation, where it has a write conflict range
 abbrev of_one : Bool → Mutation → List KeyRange
-of_one declares mutation = if declares then write_range mutation ∷ [] else []
+of_one adds_conflict mutation = if adds_conflict then write_range mutation ∷ [] else []
 
--- where nothing is left of one of the two, no mutation declares anything
-pub none_declared : (mutations : List Mutation) (declares : List Bool) → (length mutations ≡ 0) ⊎ (length declares ≡ 0)
-    → declared_among mutations declares ≡ []
-none_declared [] declares none = refl
-none_declared (m ∷ mutations) [] none = refl
-none_declared (m ∷ mutations) (b ∷ declares) (inl none) = absurd (omega (arith, none))
-none_declared (m ∷ mutations) (b ∷ declares) (inr none) = absurd (omega (arith, none))
+-- where nothing is left of one of the two, no mutation has a write conflict range
+pub no_write_conflicts : (mutations : List Mutation) (adds_conflict : List Bool) → (length mutations ≡ 0) ⊎ (length adds_conflict ≡ 0)
+    → write_conflicts_among mutations adds_conflict ≡ []
+no_write_conflicts [] adds_conflict none = refl
+no_write_conflicts (m ∷ mutations) [] none = refl
+no_write_conflicts (m ∷ mutations) (b ∷ adds_conflict) (inl none) = absurd (omega (arith, none))
+no_write_conflicts (m ∷ mutations) (b ∷ adds_conflict) (inr none) = absurd (omega (arith, none))
 
-declared_more : (mutations : List Mutation) (declares : List Bool) (mutation : Mutation) (one : Bool)
-    → length declares ≡ length mutations
-    → declared_among (mutations ++ mutation ∷ []) (declares ++ one ∷ []) ≡ declared_among mutations declares ++ of_one one mutation
-declared_more [] [] mutation true same = refl
-declared_more [] [] mutation false same = refl
-declared_more [] (b ∷ declares) mutation one same = absurd (omega (arith, same))
-declared_more (m ∷ mutations) [] mutation one same = absurd (omega (arith, same))
-declared_more (m ∷ mutations) (true ∷ declares) mutation one same =
-    ap (λ list. write_range m ∷ list) (declared_more mutations declares mutation one (omega (arith, same)))
-declared_more (m ∷ mutations) (false ∷ declares) mutation one same = declared_more mutations declares mutation one (omega (arith, same))
+write_conflicts_more : (mutations : List Mutation) (adds_conflict : List Bool) (mutation : Mutation) (one : Bool)
+    → length adds_conflict ≡ length mutations
+    → write_conflicts_among (mutations ++ mutation ∷ []) (adds_conflict ++ one ∷ []) ≡ write_conflicts_among mutations adds_conflict ++ of_one one mutation
+write_conflicts_more [] [] mutation true same = refl
+write_conflicts_more [] [] mutation false same = refl
+write_conflicts_more [] (b ∷ adds_conflict) mutation one same = absurd (omega (arith, same))
+write_conflicts_more (m ∷ mutations) [] mutation one same = absurd (omega (arith, same))
+write_conflicts_more (m ∷ mutations) (true ∷ adds_conflict) mutation one same =
+    ap (λ list. write_range m ∷ list) (write_conflicts_more mutations adds_conflict mutation one (omega (arith, same)))
+write_conflicts_more (m ∷ mutations) (false ∷ adds_conflict) mutation one same = write_conflicts_more mutations adds_conflict mutation one (omega (arith, same))
 
 moved : (x y z : Bool) → ((x || y) || z) ≡ ((x || z) || y)
 moved true y z = refl
@@ -114,44 +114,44 @@ covers_between first more last key =
     covers-append (first ++ more) last key ∙ ap (λ b. b || covers last key) (covers-append first more key)
     ∙ moved (covers first key) (covers more key) (covers last key) ∙ ap (λ b. b || covers more key) (sym (covers-append first last key))
 
--- the keys that are declared, by the code and by the definitions, after a mutation more
-declared_written : (kept : Kept) (t : Transaction) (mutation : Mutation) (stamp key : List ℕ) → length kept.declares ≡ length kept.mutations
+-- the write conflict ranges, by the code and by the definitions, after a mutation more
+write_conflicts_written : (kept : Kept) (t : Transaction) (mutation : Mutation) (stamp key : List ℕ) → length kept.adds_conflict ≡ length kept.mutations
     → StandsFor kept t → length stamp ≡ 10
-    → covers (declared_among (all_filled stamp (kept.mutations ++ mutation ∷ [])) (kept.declares ++ not kept.is_silenced ∷ []) ++ kept.write_ranges) key
-    ≡ covers (declared_of stamp (with_mutation t mutation)) key
-declared_written kept t mutation stamp key same stands ten =
-    let filled_one = of_one (not kept.is_silenced) (filled stamp mutation) in
+    → covers (write_conflicts_among (all_filled stamp (kept.mutations ++ mutation ∷ [])) (kept.adds_conflict ++ not kept.skips_write_conflict ∷ []) ++ kept.write_ranges) key
+    ≡ covers (write_conflicts_of stamp (with_mutation t mutation)) key
+write_conflicts_written kept t mutation stamp key same stands ten =
+    let filled_one = of_one (not kept.skips_write_conflict) (filled stamp mutation) in
     ap (λ list. covers (list ++ kept.write_ranges) key)
-    (ap (λ list. declared_among list (kept.declares ++ not kept.is_silenced ∷ [])) (filled-append stamp kept.mutations (mutation ∷ []))
-    ∙ declared_more (all_filled stamp kept.mutations) kept.declares (filled stamp mutation) (not kept.is_silenced)
+    (ap (λ list. write_conflicts_among list (kept.adds_conflict ++ not kept.skips_write_conflict ∷ [])) (filled-append stamp kept.mutations (mutation ∷ []))
+    ∙ write_conflicts_more (all_filled stamp kept.mutations) kept.adds_conflict (filled stamp mutation) (not kept.skips_write_conflict)
     (same ∙ sym (length-map kept.mutations (filled stamp))))
-    ∙ covers_between (declared_among (all_filled stamp kept.mutations) kept.declares) filled_one kept.write_ranges key
-    ∙ (λ i. stands.declared stamp key ten i || covers (of_one (not (stands.silenced i)) (filled stamp mutation)) key)
-    ∙ sym (covers_between (declared_by stamp t.script) (of_one (not t.is_silenced) (filled stamp mutation)) t.write_ranges key)
-    ∙ ap (λ list. covers (list ++ t.write_ranges) key) (sym (declared_wrote stamp t.script mutation (not t.is_silenced)))
+    ∙ covers_between (write_conflicts_among (all_filled stamp kept.mutations) kept.adds_conflict) filled_one kept.write_ranges key
+    ∙ (λ i. stands.write_conflicts stamp key ten i || covers (of_one (not (stands.with_write_conflict_disabled i)) (filled stamp mutation)) key)
+    ∙ sym (covers_between (write_conflicts_by stamp t.script) (of_one (not t.skips_write_conflict) (filled stamp mutation)) t.write_ranges key)
+    ∙ ap (λ list. covers (list ++ t.write_ranges) key) (sym (write_conflicts_wrote stamp t.script mutation (not t.skips_write_conflict)))
 
 -- what is kept with one mutation more, which counts so many bytes
-pub stands_written : (mutation : Mutation) (kept new : Kept) → length kept.declares ≡ length kept.mutations
+pub stands_written : (mutation : Mutation) (kept new : Kept) → length kept.adds_conflict ≡ length kept.mutations
     → new ≡ record kept {
       mutations = kept.mutations ++ mutation ∷ [];
-      declares = kept.declares ++ not kept.is_silenced ∷ [];
+      adds_conflict = kept.adds_conflict ++ not kept.skips_write_conflict ∷ [];
       size = grown kept.size (mutation_size mutation);
-      is_silenced = false;
+      skips_write_conflict = false;
     }
     → StandsWritten kept new mutation
 stands_written mutation kept new same is t stands = subst (λ k. StandsFor k (with_mutation t mutation)) (sym is) (record {
-  mutations = subst (λ list. SameMutations (kept.mutations ++ mutation ∷ []) list) (sym (written_wrote t.script mutation (not t.is_silenced)))
+  mutations = subst (λ list. SameMutations (kept.mutations ++ mutation ∷ []) list) (sym (written_wrote t.script mutation (not t.skips_write_conflict)))
       (same_more kept.mutations (writes_of t) (mutation ∷ []) stands.mutations);
   writes =
       ap (λ b. b && nat_lt (length kept.write_ranges) 1) (appended_not_empty kept.mutations mutation)
       ∙ sym (ap (λ b. b && nat_lt (length t.write_ranges) 1)
-      (ap (λ list. nat_lt (length list) 1) (written_wrote t.script mutation (not t.is_silenced)) ∙ appended_not_empty (writes_of t) mutation));
-  declared = λ stamp key ten. declared_written kept t mutation stamp key same stands ten;
+      (ap (λ list. nat_lt (length list) 1) (written_wrote t.script mutation (not t.skips_write_conflict)) ∙ appended_not_empty (writes_of t) mutation));
+  write_conflicts = λ stamp key ten. write_conflicts_written kept t mutation stamp key same stands ten;
   life = stands.life;
   version = stands.version;
   reads = stands.reads;
   size = ap (λ n. grown n (mutation_size mutation)) stands.size;
-  silenced = refl;
+  with_write_conflict_disabled = refl;
   phase = stands.phase;
 })
 
@@ -165,29 +165,29 @@ pub stands_read : (snapshot : Bool) (read : Read) (answer : Answer) (ranges : Li
 stands_read true read answer ranges kept t stands noted = record {
   mutations = stands.mutations;
   writes = stands.writes;
-  declared = stands.declared;
+  write_conflicts = stands.write_conflicts;
   life = stands.life;
   version = stands.version;
   reads = λ key. noted key ∙ or_false (covers t.read_ranges key);
   size = stands.size;
-  silenced = stands.silenced;
+  with_write_conflict_disabled = stands.with_write_conflict_disabled;
   phase = stands.phase;
 }
 stands_read false read answer ranges kept t stands noted = record {
   mutations = subst (λ list. SameMutations kept.mutations list) (sym (writes_read false read answer ranges t)) stands.mutations;
   writes =
       stands.writes ∙ ap (λ list. nat_lt (length list) 1 && nat_lt (length t.write_ranges) 1) (sym (writes_read false read answer ranges t));
-  declared = λ stamp key ten.
-      stands.declared stamp key ten ∙ ap (λ list. covers (list ++ t.write_ranges) key) (sym (declared_read stamp t.script read answer));
+  write_conflicts = λ stamp key ten.
+      stands.write_conflicts stamp key ten ∙ ap (λ list. covers (list ++ t.write_ranges) key) (sym (write_conflicts_read stamp t.script read answer));
   life = stands.life;
   version = stands.version;
   reads = λ key. noted key ∙ sym (covers-append t.read_ranges ranges key);
   size = stands.size;
-  silenced = stands.silenced;
+  with_write_conflict_disabled = stands.with_write_conflict_disabled;
   phase = stands.phase;
 }
 
--- ---- what it is told to rest on and to declare
+-- ---- read and write conflict ranges that are added to it
 
 pub stands_reads : (range : KeyRange) (kept : Kept) (t : Transaction) (ranges : List KeyRange) → StandsFor kept t
     → ((key : List ℕ) → covers ranges key ≡ (covers kept.read_ranges key || has range key))
@@ -195,12 +195,12 @@ pub stands_reads : (range : KeyRange) (kept : Kept) (t : Transaction) (ranges : 
 stands_reads range kept t ranges stands added = record {
   mutations = stands.mutations;
   writes = stands.writes;
-  declared = stands.declared;
+  write_conflicts = stands.write_conflicts;
   life = stands.life;
   version = stands.version;
   reads = λ key. added key ∙ ap (λ b. b || has range key) (stands.reads key) ∙ sym (covers_with_range t.read_ranges range key);
   size = ap (λ n. grown n (range_size range)) stands.size;
-  silenced = stands.silenced;
+  with_write_conflict_disabled = stands.with_write_conflict_disabled;
   phase = stands.phase;
 }
 
@@ -208,7 +208,7 @@ or_moved : (x y z : Bool) → (x || (y || z)) ≡ ((x || y) || z)
 or_moved true y z = refl
 or_moved false y z = refl
 
--- a range that is declared; an empty one changes nothing but the size
+-- a write conflict range that is added; an empty one changes nothing but the size
 pub stands_writes : (range : KeyRange) (kept : Kept) (t : Transaction) (ranges : List KeyRange) → StandsFor kept t
     → ((key : List ℕ) → covers ranges key ≡ (covers kept.write_ranges key || has range key))
     → nat_lt (length ranges) 1 ≡ (nat_lt (length kept.write_ranges) 1 && not (key_lt range.begin range.end))
@@ -221,21 +221,21 @@ stands_writes range kept t ranges stands added bare = record {
       ∙ ap (λ b. b && not (key_lt range.begin range.end)) stands.writes
       ∙ sym (and_moved (nat_lt (length (writes_of t)) 1) (nat_lt (length t.write_ranges) 1) (not (key_lt range.begin range.end)))
       ∙ ap (λ b. nat_lt (length (writes_of t)) 1 && b) (sym (with_range_bare t.write_ranges range));
-  declared = λ stamp key ten.
-      covers-append (declared_among (all_filled stamp kept.mutations) kept.declares) ranges key
-      ∙ ap (λ b. covers (declared_among (all_filled stamp kept.mutations) kept.declares) key || b) (added key)
-      ∙ or_moved (covers (declared_among (all_filled stamp kept.mutations) kept.declares) key) (covers kept.write_ranges key) (has range key)
+  write_conflicts = λ stamp key ten.
+      covers-append (write_conflicts_among (all_filled stamp kept.mutations) kept.adds_conflict) ranges key
+      ∙ ap (λ b. covers (write_conflicts_among (all_filled stamp kept.mutations) kept.adds_conflict) key || b) (added key)
+      ∙ or_moved (covers (write_conflicts_among (all_filled stamp kept.mutations) kept.adds_conflict) key) (covers kept.write_ranges key) (has range key)
       ∙ ap (λ b. b || has range key)
-      (sym (covers-append (declared_among (all_filled stamp kept.mutations) kept.declares) kept.write_ranges key) ∙ stands.declared stamp key ten
-      ∙ covers-append (declared_by stamp t.script) t.write_ranges key)
-      ∙ sym (or_moved (covers (declared_by stamp t.script) key) (covers t.write_ranges key) (has range key))
-      ∙ ap (λ b. covers (declared_by stamp t.script) key || b) (sym (covers_with_range t.write_ranges range key))
-      ∙ sym (covers-append (declared_by stamp t.script) (with_range t.write_ranges range) key);
+      (sym (covers-append (write_conflicts_among (all_filled stamp kept.mutations) kept.adds_conflict) kept.write_ranges key) ∙ stands.write_conflicts stamp key ten
+      ∙ covers-append (write_conflicts_by stamp t.script) t.write_ranges key)
+      ∙ sym (or_moved (covers (write_conflicts_by stamp t.script) key) (covers t.write_ranges key) (has range key))
+      ∙ ap (λ b. covers (write_conflicts_by stamp t.script) key || b) (sym (covers_with_range t.write_ranges range key))
+      ∙ sym (covers-append (write_conflicts_by stamp t.script) (with_range t.write_ranges range) key);
   life = stands.life;
   version = stands.version;
   reads = stands.reads;
   size = ap (λ n. grown n (range_size range)) stands.size;
-  silenced = stands.silenced;
+  with_write_conflict_disabled = stands.with_write_conflict_disabled;
   phase = stands.phase;
 }
   where
@@ -251,16 +251,16 @@ stands_writes range kept t ranges stands added bare = record {
         by_order true = le-ltb (length (ranges ++ range ∷ [])) 1 (omega (arith, length-append ranges (range ∷ []))) ∙ sym (and_false (nat_lt (length ranges) 1))
         by_order false = sym (and_true (nat_lt (length ranges) 1))
 
-pub stands_silenced : (kept : Kept) (t : Transaction) → StandsFor kept t → StandsFor (record kept { is_silenced = true }) (silenced t)
-stands_silenced kept t stands = record {
+pub stands_write_conflict_disabled : (kept : Kept) (t : Transaction) → StandsFor kept t → StandsFor (record kept { skips_write_conflict = true }) (with_write_conflict_disabled t)
+stands_write_conflict_disabled kept t stands = record {
   mutations = stands.mutations;
   writes = stands.writes;
-  declared = stands.declared;
+  write_conflicts = stands.write_conflicts;
   life = stands.life;
   version = stands.version;
   reads = stands.reads;
   size = stands.size;
-  silenced = refl;
+  with_write_conflict_disabled = refl;
   phase = stands.phase;
 }
 
@@ -269,12 +269,12 @@ pub stands_set_version : (kept : Kept) (t : Transaction) (version : ℕ) → Sta
 stands_set_version kept t version stands = record {
   mutations = stands.mutations;
   writes = stands.writes;
-  declared = stands.declared;
+  write_conflicts = stands.write_conflicts;
   life = stands.life;
   version = refl;
   reads = stands.reads;
   size = stands.size;
-  silenced = stands.silenced;
+  with_write_conflict_disabled = stands.with_write_conflict_disabled;
   phase = stands.phase;
 }
 
@@ -284,12 +284,12 @@ pub stands_same_reads : (kept : Kept) (t : Transaction) (ranges : List KeyRange)
 stands_same_reads kept t ranges same stands = record {
   mutations = stands.mutations;
   writes = stands.writes;
-  declared = stands.declared;
+  write_conflicts = stands.write_conflicts;
   life = stands.life;
   version = stands.version;
   reads = λ key. same key ∙ stands.reads key;
   size = stands.size;
-  silenced = stands.silenced;
+  with_write_conflict_disabled = stands.with_write_conflict_disabled;
   phase = stands.phase;
 }
 

@@ -52,20 +52,20 @@ at_next history commit =
     ∙ after_commits-push history commit finite.empty
     ∙ ap (λ h. do_all commit.mutations (after_commits h finite.empty)) (sym (take_all (last history) history (omega arith)))
 
--- a store with one version more, which the mutations of a commit make, and an index where the keys that it declares have this
--- version, keep the history with that commit
+-- a store with one version more, which the mutations of a commit make, and an index where the keys of its write conflict ranges
+-- have this version, keep the history with that commit
 pub keeps_next : (old new : Versions) (index later : Index) (setting : Setting) (commit : Commit) → Keeps old index setting
     → last_of new ≡ last_of old + 1
     → ((version : ℕ) → version ≤ last_of old → versions.at new version ≡ versions.at old version)
     → versions.at new (last_of old + 1) ≡ do_all commit.mutations (versions.at old (last_of old))
-    → ((key : List ℕ) → newest_at later key ≡ (if covers commit.declared key then last_of old + 1 else newest_at index key))
+    → ((key : List ℕ) → newest_at later key ≡ (if covers commit.write_conflicts key then last_of old + 1 else newest_at index key))
     → Keeps new later (grown_by setting (commit ∷ []))
 keeps_next old new index later setting commit keeps next before after judges = record {
   last_is = next ∙ ap (λ n. n + 1) keeps.last_is ∙ sym (length-append setting.history (commit ∷ []));
   at_is = λ version le. by_version version (cases_lt (last setting.history) version)
       (omega (arith, le, length-append setting.history (commit ∷ [])));
   newest_is = λ key.
-      judges key ∙ (λ i. if covers commit.declared key then keeps.last_is i + 1 else keeps.newest_is key i)
+      judges key ∙ (λ i. if covers commit.write_conflicts key then keeps.last_is i + 1 else keeps.newest_is key i)
       ∙ sym (newest_push setting.history commit key);
 }
   where

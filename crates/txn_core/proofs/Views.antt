@@ -156,7 +156,7 @@ module _ {A : Type 0} (shown : A → Reply) (old mid new : Kept) (store : Versio
       ap (λ (k : Kept). any_meet ranges (unreadable k.mutations)) admitted.same
       ∙ hidden_same old t ranges stands ∙ ap (λ rs. any_meet rs (unreadable (writes_of t))) interval_same
 
-  -- where the code rests on more ranges, with the version taken
+  -- where the code has further read conflict ranges, with the version taken
   rested_stands : (more : List KeyRange) → HasRested mid new (version_of mid store) more
       → StandsFor (record new { read_ranges = t.read_ranges }) (with_version setting t)
       × ((key : List ℕ) → covers new.read_ranges key ≡ (covers t.read_ranges key || covers (without (decided (writes_of t)) more) key))

@@ -51,7 +51,7 @@ IsRefusedBy (Err fault.NoMemory) old new code = StandsOn old new
 abbrev pub is_ahead_of : Kept → Versions → Bool
 is_ahead_of kept store = nat_lt (last_of store) (version_of kept store)
 
--- it has taken its version, and rests on the keys of these ranges too but for those that its mutations decide
+-- it has taken its version, and its read conflict ranges have the keys of these ranges too but for those that its mutations decide
 pub record HasRested (old new : Kept) (version : ℕ) (ranges : List KeyRange) : Type 0 where
   pub rest : new ≡ record old { version = Some version; read_ranges = new.read_ranges }
   pub ranges_are : (key : List ℕ) → covers new.read_ranges key ≡ (covers old.read_ranges key || covers (without (decided old.mutations) ranges) key)
@@ -61,8 +61,8 @@ abbrev pub ranges_of : (snapshot : Bool) → List KeyRange → List KeyRange
 ranges_of true interval = []
 ranges_of false interval = interval
 
--- A read that is let through rests on its interval; one that is refused, since a key of the interval is unreadable, has its
--- version taken; after want of memory it rests on the same keys as before.
+-- A read that is let through adds its interval to the read conflict ranges; one that is refused, since a key of the interval is
+-- unreadable, has its version taken; after want of memory the read conflict ranges have the same keys as before.
 abbrev pub Rests : {A : Type 0} → Result A TrFault → (old new : Kept) → Versions → (snapshot : Bool) → List KeyRange → Type 0
 Rests (Ok _) old new store snapshot interval =
     (any_meet interval (unreadable old.mutations) ≡ false) × HasRested old new (version_of old store) (ranges_of snapshot interval)

@@ -6,7 +6,7 @@ use Rattle.database_rules.specs.Databases.{Mutation}
 use Rattle.database_rules.specs.Histories.{Setting, grown_by, at, last, write_range}
 use Rattle.database_rules.specs.Newest.{newest_of}
 use Rattle.database_rules.specs.States.{covers, state_under, all_filled, unreadable}
-use Rattle.database_rules.specs.Transactions.{Transaction, writes_of, declared_of, is_read_only, with_version}
+use Rattle.database_rules.specs.Transactions.{Transaction, writes_of, write_conflicts_of, is_read_only, with_version}
 use Rattle.conflict_ranges.specs.Writes.{newest_at, Index}
 use Rattle.fdb_calls.specs.Calling.{Called}
 use Rattle.version_store.specs.Versions.{Versions, last_of}
@@ -18,27 +18,27 @@ pub record Kept : Type 0 where
   pub life : ℕ
   pub version : Option ℕ
   pub mutations : List Mutation
-  -- of each mutation whether it declares the keys that it writes
-  pub declares : List Bool
+  -- of each mutation whether it has a write conflict range
+  pub adds_conflict : List Bool
   pub read_ranges : List KeyRange
   pub write_ranges : List KeyRange
   pub size : ℕ
-  pub is_silenced : Bool
+  pub skips_write_conflict : Bool
   pub phase : Phase
 
--- it has no mutation of this life, and was told to declare no key
+-- it has no mutation of this life, and no write conflict range was added
 abbrev pub is_bare : Kept → Bool
 is_bare kept = nat_lt (length kept.mutations) 1 && nat_lt (length kept.write_ranges) 1
 
--- the keys that those of the mutations write which declare them
-abbrev pub declared_among : List Mutation → List Bool → List KeyRange
-declared_among (mutation ∷ mutations) (true ∷ declares) = write_range mutation ∷ declared_among mutations declares
-declared_among (mutation ∷ mutations) (false ∷ declares) = declared_among mutations declares
-declared_among mutations declares = []
+-- the write conflict ranges of those of the mutations that have one
+abbrev pub write_conflicts_among : List Mutation → List Bool → List KeyRange
+write_conflicts_among (mutation ∷ mutations) (true ∷ adds_conflict) = write_range mutation ∷ write_conflicts_among mutations adds_conflict
+write_conflicts_among (mutation ∷ mutations) (false ∷ adds_conflict) = write_conflicts_among mutations adds_conflict
+write_conflicts_among mutations adds_conflict = []
 
--- the keys that its commit declares to write, where this is the commit's versionstamp
-abbrev pub declared_in : (stamp : List ℕ) → Kept → List KeyRange
-declared_in stamp kept = declared_among (all_filled stamp kept.mutations) kept.declares ++ kept.write_ranges
+-- the write conflict ranges of its commit, where this is the commit's versionstamp
+abbrev pub write_conflicts_in : (stamp : List ℕ) → Kept → List KeyRange
+write_conflicts_in stamp kept = write_conflicts_among (all_filled stamp kept.mutations) kept.adds_conflict ++ kept.write_ranges
 
 -- Two lists of mutations agree: the same keys are unreadable under both, and each key has the same state under both,
 -- those with a versionstamp left out, and with any one versionstamp filled in.
@@ -48,22 +48,23 @@ pub record SameMutations (kept mutations : List Mutation) : Type 0 where
   pub filled_same : (stamp key : List ℕ) → length stamp ≡ 10
       → state_under (all_filled stamp kept) key ≡ state_under (all_filled stamp mutations) key
 
--- A transaction of the code stands for each one that its mutations and its fields agree with: the mutations agree, its commit
--- is read-only exactly where the other's is, they declare the same keys with any one versionstamp filled in, and its other
--- fields are the same; ranges are read by which keys they have. What the other's reads were answered is not compared.
+-- A transaction of the code stands for each one that its mutations and its fields agree with: the mutations agree, its commit is
+-- read-only exactly where the other's is, their write conflict ranges have the same keys with any one versionstamp filled in, and
+-- its other fields are the same; ranges are read by which keys they have. What the other's reads were answered is not compared.
 pub record StandsFor (kept : Kept) (transaction : Transaction) : Type 0 where
   pub mutations : SameMutations kept.mutations (writes_of transaction)
   pub writes : is_bare kept ≡ is_read_only transaction
-  pub declared : (stamp key : List ℕ) → length stamp ≡ 10
-      → covers (declared_in stamp kept) key ≡ covers (declared_of stamp transaction) key
+  pub write_conflicts : (stamp key : List ℕ) → length stamp ≡ 10
+      → covers (write_conflicts_in stamp kept) key ≡ covers (write_conflicts_of stamp transaction) key
   pub life : kept.life ≡ transaction.life
   pub version : kept.version ≡ transaction.version
   pub reads : (key : List ℕ) → covers kept.read_ranges key ≡ covers transaction.read_ranges key
   pub size : kept.size ≡ transaction.size
-  pub silenced : kept.is_silenced ≡ transaction.is_silenced
+  pub with_write_conflict_disabled : kept.skips_write_conflict ≡ transaction.skips_write_conflict
   pub phase : kept.phase ≡ transaction.phase
 
--- a store has the map of a history at each of its versions, and an index has for each key the newest commit that declared it
+-- a store has the map of a history at each of its versions, and an index has for each key the newest commit with it among its write
+-- conflict ranges
 pub record Keeps (store : Versions) (index : Index) (setting : Setting) : Type 0 where
   pub last_is : last_of store ≡ last setting.history
   pub at_is : (version : ℕ) → version ≤ last setting.history → versions.at store version ≡ at setting.history version

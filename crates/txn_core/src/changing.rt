@@ -1,9 +1,9 @@
-//! What the writes of a transaction change, by one walk along the edges of its pending mutations; where it set one key, and no
+//! What the writes of a transaction change, by one walk along the boundaries of its pending mutations; where it set one key, and no
 //! more, that is the one change.
 //!
-//! All keys of a segment, from an edge up to the next, have one state. Where that is a value or a list of atomic
-//! operations the segment has one key, and one change; where they have no value each key that is stored there is
-//! removed; else nothing changes. So the keys of the changes rise.
+//! All keys of a segment, from a boundary up to the next, have one state. Where that is a value or a list of atomic operations the
+//! segment has one key, and one change; where they have no value each key that is stored there is removed; else nothing changes. So
+//! the keys of the changes rise.
 
 ghost use Rattle.std.specs.Prelude.{◌≡◌, ◌≢◌, ℕ, List, true, false, [], ◌∷◌, ◌++◌, Some, IfOk, MatchOption, OnOk, IsTrue, option_copied};
 ghost use Rattle.std.specs.List.{All};
@@ -39,14 +39,14 @@ fn clear_stored(
     changes: &mut Changes,
     view: &View<'_>,
     begin: &Key,
-    edge: Option<&Key>,
+    boundary: Option<&Key>,
 ) -> Result<(), AllocError>
-    requires segment { IsSegment view.now.edits.now.mutations begin.now begin.now false (option_copied edge) }
+    requires segment { IsSegment view.now.edits.now.mutations begin.now begin.now false (option_copied boundary) }
     requires cleared { state_under view.now.edits.now.mutations begin.now ≡ Decided None }
     requires before { LeadUpTo view.now.edits.now.mutations (stored_of view.now) (Some begin.now) changes.old }
-    ensures { OnOk result (LeadUpTo view.now.edits.now.mutations (stored_of view.now) (option_copied edge.entry) changes.new) }
+    ensures { OnOk result (LeadUpTo view.now.edits.now.mutations (stored_of view.now) (option_copied boundary.entry) changes.new) }
 {
-    for (key, _) in view.stored_from(begin, edge) {
+    for (key, _) in view.stored_from(begin, boundary) {
         push(changes, key, None)?;
     }
     Ok(())
@@ -58,15 +58,15 @@ fn add_decided(
     view: &View<'_>,
     begin: &Key,
     value: Option<&[u8]>,
-    edge: Option<&Key>,
+    boundary: Option<&Key>,
 ) -> Result<(), AllocError>
     requires state { state_under view.now.edits.now.mutations begin.now ≡ Decided (option_copied value) }
-    requires segment { IsSegment view.now.edits.now.mutations begin.now begin.now false (option_copied edge) }
+    requires segment { IsSegment view.now.edits.now.mutations begin.now begin.now false (option_copied boundary) }
     requires before { LeadUpTo view.now.edits.now.mutations (stored_of view.now) (Some begin.now) changes.old }
-    ensures { OnOk result (LeadUpTo view.now.edits.now.mutations (stored_of view.now) (option_copied edge.entry) changes.new) }
+    ensures { OnOk result (LeadUpTo view.now.edits.now.mutations (stored_of view.now) (option_copied boundary.entry) changes.new) }
 {
     match value {
-        None => clear_stored(changes, view, begin, edge),
+        None => clear_stored(changes, view, begin, boundary),
         Some(value) => {
             let value = Bytes::from_slice(begin.allocator(), value)?;
             push(changes, begin, Some(value))
@@ -80,17 +80,17 @@ fn add_segment(
     view: &View<'_>,
     begin: &Key,
     state: KeyState<'_>,
-    edge: Option<&Key>,
+    boundary: Option<&Key>,
 ) -> Result<(), AllocError>
     requires state { IsStateUnder view.now.edits.now.mutations begin.now state }
-    requires segment { IsSegment view.now.edits.now.mutations begin.now begin.now false (option_copied edge) }
+    requires segment { IsSegment view.now.edits.now.mutations begin.now begin.now false (option_copied boundary) }
     requires readable { covers (unreadable view.now.edits.now.mutations) begin.now ≡ false }
     requires before { LeadUpTo view.now.edits.now.mutations (stored_of view.now) (Some begin.now) changes.old }
-    ensures { OnOk result (LeadUpTo view.now.edits.now.mutations (stored_of view.now) (option_copied edge.entry) changes.new) }
+    ensures { OnOk result (LeadUpTo view.now.edits.now.mutations (stored_of view.now) (option_copied boundary.entry) changes.new) }
 {
     match state {
         KeyState::Unmodified => Ok(()),
-        KeyState::Decided(value) => add_decided(changes, view, begin, value, edge),
+        KeyState::Decided(value) => add_decided(changes, view, begin, value, boundary),
         KeyState::Depends(edits) => {
             let value = applied(begin.allocator(), edits.as_slice(), view.stored(begin))?;
             push(changes, begin, value)
@@ -110,12 +110,12 @@ fn changes_from(view: &View<'_>, least: &Key) -> Result<Changes, AllocError>
     let mut changes = Changes::new(least.allocator());
     let mut from = least;
     loop {
-        let (state, edge) = view.edits.around(from);
-        add_segment(&mut changes, view, from, state, edge)?;
-        let Some(edge) = edge else {
+        let (state, boundary) = view.edits.around(from);
+        add_segment(&mut changes, view, from, state, boundary)?;
+        let Some(boundary) = boundary else {
             return Ok(changes);
         };
-        from = edge;
+        from = boundary;
     }
 }
 

@@ -12,9 +12,9 @@ ghost use Rattle.version_store.specs.Versions.{Versions, last_of};
 ghost use Rattle.txn_core.specs.Judging.{Judged, IsLow, conflict_refusal};
 ghost use Rattle.txn_core.specs.Stands.{Answers, Keeps, StandsFor, StandsStill, is_bare};
 
+use crate::adding_conflicts::stamp_of;
 use crate::answer::Answer;
 use crate::codes::commit_code;
-use crate::declaring::stamp_of;
 use crate::txn::Txn;
 use crate::verdict::Verdict;
 use conflict_ranges::WriteIndex;
@@ -24,15 +24,15 @@ use std::alloc::AllocError;
 use version_store::Store;
 
 impl Txn {
-    // Whether its commit makes no version: it has no mutation, and was told to declare no key. It takes no memory.
+    // Whether its commit makes no version: it has no mutation, and no write conflict range was added. It takes no memory.
     fn is_read_only(&self) -> bool
         ensures { result ≡ is_bare self.now }
     {
         self.edits.is_empty() && self.write_ranges.is_empty()
     }
 
-    // Whether a commit after a version declared a key that the transaction rests on. It takes no memory, and no search where no
-    // commit came after that version.
+    // Whether a commit after a version wrote a key of the transaction's read conflict ranges. It takes no memory, and no search
+    // where no commit came after that version.
     fn has_conflict(&self, index: &WriteIndex, version: u64) -> bool
         ensures { (store : Versions) (setting : Setting) → Keeps store index.now setting
             → result ≡ conflicts setting.history version self.now.read_ranges }
@@ -113,7 +113,7 @@ impl Txn {
         let stamp = stamp_of(version);
         let changes = self.changes(store, &stamp)?;
         store.reserve(&changes)?;
-        self.declare(index, &stamp, version)?;
+        self.add_write_conflicts(index, &stamp, version)?;
         store.install(changes);
         self.tried(Tried::Version(version));
         Ok(())
@@ -154,9 +154,8 @@ impl Txn {
         Answer::refused(code)
     }
 
-    // A commit: what the transaction wrote makes the next version, where it wrote anything, or was told to declare anything.
-    // After want of memory it stands as before but that its version may be taken, and the store and the index keep what they
-    // kept.
+    // A commit: what the transaction wrote makes the next version, where it wrote anything, or has a write conflict range. After
+    // want of memory it stands as before but that its version may be taken, and the store and the index keep what they kept.
     pub(crate) fn commit(
         &mut self,
         store: &mut Store,

@@ -1,4 +1,4 @@
-//! What a transaction is told to rest on and to declare.
+//! Read and write conflict ranges that are added to a transaction.
 
 ghost use Rattle.std.specs.Prelude.{◌≡◌, ◌||◌, ◌&&◌, not, ℕ, List, length, nat_lt, OnOk, OnErr};
 ghost use Rattle.key_bytes.specs.Keys.{key_lt};
@@ -30,7 +30,7 @@ fn add_filled(ranges: &mut RangeSet, range: &KeyRange) -> Result<(), AllocError>
 }
 
 impl Txn {
-    // Lets the commit rest on the keys of a range.
+    // Adds a read conflict range.
     pub(crate) fn read_conflict(&mut self, range: &KeyRange) -> Result<(), TrFault>
         ensures { Calls (λ _. reply.Done) result self.old self.new (λ t. read_conflict_called t range.now) }
     {
@@ -42,7 +42,7 @@ impl Txn {
         Ok(())
     }
 
-    // Lets the commit declare the keys of a range.
+    // Adds a write conflict range.
     pub(crate) fn write_conflict(&mut self, range: &KeyRange) -> Result<(), TrFault>
         ensures { Calls (λ _. reply.Done) result self.old self.new (λ t. write_conflict_called t range.now) }
     {
@@ -54,7 +54,7 @@ impl Txn {
         Ok(())
     }
 
-    // Lets the next write declare nothing.
+    // Lets the next write add no write conflict range.
     #[tactic(auto, unfolding(database_rules::specs::Transactions::phase_code))]
     pub(crate) fn no_write_conflict(&mut self) -> Result<(), TrFault>
         ensures { Calls (λ _. reply.Done) result self.old self.new no_write_conflict_called }
@@ -62,7 +62,7 @@ impl Txn {
         if let Some(code) = phase_code(self.phase) {
             return Err(TrFault::Code(code));
         }
-        self.is_silenced = true;
+        self.skips_write_conflict = true;
         Ok(())
     }
 }

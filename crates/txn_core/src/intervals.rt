@@ -1,4 +1,4 @@
-//! The keys that a read rests on, by its answer.
+//! The read conflict range of a read, by its answer.
 
 ghost use Rattle.std.specs.Prelude.{◌≡◌, IfOk};
 ghost use Rattle.database_rules.specs.Intervals as rules;

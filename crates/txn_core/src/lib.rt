@@ -9,13 +9,13 @@
 //! commit; `Txn::call` takes a call of a request.
 #![tactic(auto)]
 
+mod adding_conflicts;
 mod answer;
 mod call;
 mod changing;
 mod codes;
 mod committing;
 mod conflicts;
-mod declaring;
 mod intervals;
 mod lives;
 mod logging;

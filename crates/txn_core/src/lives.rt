@@ -50,11 +50,11 @@ impl Txn {
         self.life = life;
         self.version = None;
         self.edits.reset();
-        take_away(&mut self.declares);
+        take_away(&mut self.adds_conflict);
         take_keys_away(&mut self.read_ranges, alloc);
         take_keys_away(&mut self.write_ranges, alloc);
         self.size = 0;
-        self.is_silenced = false;
+        self.skips_write_conflict = false;
         self.phase = Phase::Active;
     }
 

@@ -1,4 +1,4 @@
-//! What a read leaves: the version that it took, and the keys that its transaction rests on since then.
+//! What a read leaves: the version that it took, and the read conflict ranges of its transaction since then.
 
 ghost use Rattle.std.specs.Prelude.{◌≡◌, ◌≢◌, ◌||◌, ◌&&◌, not, ℕ, List, true, false, Ok, IsTrue, MatchOption, IfOk};
 ghost use Rattle.std.specs.List.{list_any};
@@ -49,14 +49,14 @@ fn is_hidden(edits: &WriteMap, interval: &[KeyRange]) -> bool
     false
 }
 
-// Whether the value of a key in this state rests on what is stored.
+// Whether the value of a key in this state depends on what is stored.
 fn is_open(state: KeyState<'_>) -> bool
     ensures { result ≡ is_open state.entry }
 {
     matches!(state, KeyState::Unmodified | KeyState::Depends(_))
 }
 
-// Whether one search of the edges tells that the mutations decide no key of a range, and make none unreadable.
+// Whether one search of the boundaries tells that the mutations decide no key of a range, and make none unreadable.
 fn lies_open(edits: &WriteMap, range: &KeyRange) -> bool
     ensures readable { IsTrue result → list_any (meets range.now) (unreadable edits.now.mutations) ≡ false }
     ensures open { IsTrue result → (key : List ℕ)
@@ -122,9 +122,9 @@ impl Txn {
         store.last() < self.version_over(store)
     }
 
-    // What a read leaves that is answered on this interval: unless by snapshot, the transaction rests on the keys of it that
-    // its mutations don't decide. 1036 where a key of the interval is unreadable. The version is taken, unless memory runs
-    // out.
+    // What a read leaves that is answered on this interval: unless by snapshot, the transaction's read conflict ranges get the keys
+    // of it that its mutations don't decide. 1036 where a key of the interval is unreadable. The version is taken, unless memory
+    // runs out.
     pub(crate) fn rest_on(
         &mut self,
         store: &Store,

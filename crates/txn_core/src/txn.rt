@@ -17,12 +17,12 @@ pub struct Txn {
     pub(crate) life: u64,
     pub(crate) version: Option<u64>,
     pub(crate) edits: WriteMap,
-    // of each mutation whether it declares the keys that it writes
-    pub(crate) declares: Vec<bool>,
+    // of each mutation whether it has a write conflict range
+    pub(crate) adds_conflict: Vec<bool>,
     pub(crate) read_ranges: RangeSet,
     pub(crate) write_ranges: RangeSet,
     pub(crate) size: u64,
-    pub(crate) is_silenced: bool,
+    pub(crate) skips_write_conflict: bool,
     pub(crate) phase: Phase,
 }
 
@@ -33,11 +33,11 @@ impl Drop for Txn {
             life: _,
             version: _,
             edits: _,
-            declares: _,
+            adds_conflict: _,
             read_ranges: _,
             write_ranges: _,
             size: _,
-            is_silenced: _,
+            skips_write_conflict: _,
             phase: _,
         } = self;
     }
@@ -54,15 +54,15 @@ impl Model for Txn {
       life = t.life;
       version = t.version;
       mutations = t.edits.mutations;
-      declares = t.declares.items;
+      adds_conflict = t.adds_conflict.items;
       read_ranges = t.read_ranges;
       write_ranges = t.write_ranges;
       size = t.size;
-      is_silenced = t.is_silenced;
+      skips_write_conflict = t.skips_write_conflict;
       phase = t.phase;
     } };
 
-    ghost invariant = { λ t. (t.size ≤ 10000001) × (length t.declares.items ≡ length t.edits.mutations) × IsLowPhase t.phase };
+    ghost invariant = { λ t. (t.size ≤ 10000001) × (length t.adds_conflict.items ≡ length t.edits.mutations) × IsLowPhase t.phase };
 }
 
 impl Txn {
@@ -76,11 +76,11 @@ impl Txn {
             life,
             version: None,
             edits: WriteMap::new(alloc),
-            declares: Vec::new(alloc),
+            adds_conflict: Vec::new(alloc),
             read_ranges: RangeSet::new(alloc),
             write_ranges: RangeSet::new(alloc),
             size: 0,
-            is_silenced: false,
+            skips_write_conflict: false,
             phase: Phase::Active,
         }
     }
@@ -100,7 +100,7 @@ impl Txn {
         self.edits.allocator()
     }
 
-    /// Returns the keys that it rests on, as ranges that are not empty, lie apart and rise.
+    /// Returns its read conflict ranges, as ranges that are not empty, lie apart and rise.
     pub fn read_ranges(&self) -> &RangeSet
         ensures { result.now ≡ self.now.read_ranges }
     {

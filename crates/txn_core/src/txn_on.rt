@@ -8,7 +8,7 @@ ghost use Rattle.database_rules.specs.Histories.{Setting};
 ghost use Rattle.database_rules.specs.Modes.{lacks_limit};
 ghost use Rattle.database_rules.specs.Reads as read;
 ghost use Rattle.database_rules.specs.States.{all_filled, covers, state_under, is_unmodified};
-ghost use Rattle.database_rules.specs.Transactions.{Transaction, declared_of, writes_of, with_phase};
+ghost use Rattle.database_rules.specs.Transactions.{Transaction, write_conflicts_of, writes_of, with_phase};
 ghost use Rattle.fdb_calls.specs.declared.Reply.TheVariants as reply;
 ghost use Rattle.fdb_calls.specs.Answers.{Answered};
 ghost use Rattle.fdb_calls.specs.Calling.{read_called, set_called, clear_called, clear_range_called, atomic_called};
@@ -38,10 +38,9 @@ pub struct TxnOn<'a> {
 }
 
 impl TxnOn<'_> {
-    /// Asks the checks of a commit, and answers the first that fails by its code: 2101 where the mutations have too many
-    /// bytes, 1009 where the read version is above the last one, 1020 exactly where a commit after it declared
-    /// a key that the transaction rests on; then whether there is anything to write. A transaction that goes on
-    /// to its version takes it.
+    /// Asks the checks of a commit, and answers the first that fails by its code: 2101 where the mutations have too many bytes,
+    /// 1009 where the read version is above the last one, 1020 exactly where a commit after it wrote a key of the transaction's
+    /// read conflict ranges; then whether there is anything to write. A transaction that goes on to its version takes it.
     pub fn judge(&mut self) -> Result<Verdict, TrFault>
         ensures verdict { (setting : Setting) (t : Transaction) → StandsFor self.old.txn.now t → Keeps self.old.store.now self.old.index.now setting
             → Judged result (StandsFor self.new.txn.now) setting t }
@@ -65,12 +64,12 @@ impl TxnOn<'_> {
         self.txn.changes(self.store, stamp)
     }
 
-    /// Returns the keys that the transaction's commit declares to write, where this is its versionstamp.
+    /// Returns the write conflict ranges of the transaction's commit, where this is its versionstamp.
     pub fn write_ranges(&self, stamp: &[u8; 10]) -> Result<RangeSet, AllocError>
         ensures { IfOk result (λ ranges. (t : Transaction) (key : List ℕ) → StandsFor self.now.txn.now t
-            → covers ranges key ≡ covers (declared_of stamp.now t) key) }
+            → covers ranges key ≡ covers (write_conflicts_of stamp.now t) key) }
     {
-        self.txn.declared_keys(stamp)
+        self.txn.write_conflict_keys(stamp)
     }
 
     /// Notes what became of a commit.
@@ -87,8 +86,8 @@ impl TxnOn<'_> {
 }
 
 impl TxnOn<'_> {
-    /// Returns the key that `selector` means among those that the transaction sees (`fdb_transaction_get_key`).
-    /// A read by snapshot has the same answer, and adds nothing to the keys that the transaction rests on.
+    /// Returns the key that `selector` means among those that the transaction sees (`fdb_transaction_get_key`). A read by snapshot
+    /// has the same answer, and adds no read conflict range.
     pub fn get_key(&mut self, selector: &Selector, snapshot: bool) -> Result<Key, TrFault>
         ensures answer { (setting : Setting) (t : Transaction) → StandsFor self.old.txn.now t → Keeps self.old.store.now self.old.index.now setting
             → Answered reply.KeyIs result (StandsFor self.new.txn.now) t (read_called setting t false snapshot (read.GetKey selector.now)) }
@@ -144,7 +143,7 @@ impl TxnOn<'_> {
 }
 
 impl TxnOn<'_> {
-    /// Lets the commit rest on the keys of a range, as if they had been read (`fdb_transaction_add_conflict_range`).
+    /// Adds a read conflict range, as if its keys had been read (`fdb_transaction_add_conflict_range`).
     pub fn read_conflict(&mut self, range: &KeyRange) -> Result<(), TrFault>
         ensures answer { (t : Transaction) → StandsFor self.old.txn.now t
             → Answered (λ _. reply.Done) result (StandsFor self.new.txn.now) t (read_conflict_called t range.now) }
@@ -155,7 +154,7 @@ impl TxnOn<'_> {
         self.txn.read_conflict(range)
     }
 
-    /// Declares the keys of a range, as if they were written (`fdb_transaction_add_conflict_range`).
+    /// Adds a write conflict range, as if its keys were written (`fdb_transaction_add_conflict_range`).
     pub fn write_conflict(&mut self, range: &KeyRange) -> Result<(), TrFault>
         ensures answer { (t : Transaction) → StandsFor self.old.txn.now t
             → Answered (λ _. reply.Done) result (StandsFor self.new.txn.now) t (write_conflict_called t range.now) }
@@ -198,7 +197,7 @@ impl TxnOn<'_> {
         self.txn.promise()
     }
 
-    /// Returns the keys that the transaction rests on, as ranges that are not empty, lie apart and rise.
+    /// Returns the transaction's read conflict ranges, as ranges that are not empty, lie apart and rise.
     pub fn read_ranges(&self) -> &RangeSet
         ensures { result.now ≡ self.now.txn.now.read_ranges }
     {

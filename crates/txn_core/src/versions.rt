@@ -11,8 +11,8 @@ ghost use Rattle.txn_core.specs.Accesses.{Calls};
 ghost use Rattle.txn_core.specs.Judging.{Promises};
 ghost use Rattle.txn_core.specs.Stands.{Keeps};
 
+use crate::adding_conflicts::stamp_of;
 use crate::codes::{phase_code, set_version_code};
-use crate::declaring::stamp_of;
 use crate::txn::Txn;
 use database_rules::{Code, NO_COMMIT_VERSION, Phase, TRANSACTION_CANCELLED, Tried};
 use fdb_calls::{Outcome, TrFault};

@@ -34,10 +34,10 @@ impl Txn {
         ensures ok { OnOk result (StandsWritten self.old self.new (database.Set key.now value.now)) }
         ensures err { OnErr result (StandsOn self.old self.new) }
     {
-        self.declares.reserve(1)?;
+        self.adds_conflict.reserve(1)?;
         self.edits.set(key, value)?;
-        self.declares.push(!self.is_silenced).unwrap();
-        self.is_silenced = false;
+        self.adds_conflict.push(!self.skips_write_conflict).unwrap();
+        self.skips_write_conflict = false;
         self.size = grown(self.size, key.len() as u64 + value.len() as u64);
         Ok(())
     }
@@ -46,10 +46,10 @@ impl Txn {
         ensures ok { OnOk result (StandsWritten self.old self.new (database.Clear key.now)) }
         ensures err { OnErr result (StandsOn self.old self.new) }
     {
-        self.declares.reserve(1)?;
+        self.adds_conflict.reserve(1)?;
         self.edits.clear(key)?;
-        self.declares.push(!self.is_silenced).unwrap();
-        self.is_silenced = false;
+        self.adds_conflict.push(!self.skips_write_conflict).unwrap();
+        self.skips_write_conflict = false;
         self.size = grown(self.size, 2 * key.len() as u64 + 1);
         Ok(())
     }
@@ -58,10 +58,10 @@ impl Txn {
         ensures ok { OnOk result (StandsWritten self.old self.new (database.ClearRange range.now.begin range.now.end)) }
         ensures err { OnErr result (StandsOn self.old self.new) }
     {
-        self.declares.reserve(1)?;
+        self.adds_conflict.reserve(1)?;
         self.edits.clear_range(range)?;
-        self.declares.push(!self.is_silenced).unwrap();
-        self.is_silenced = false;
+        self.adds_conflict.push(!self.skips_write_conflict).unwrap();
+        self.skips_write_conflict = false;
         self.size = grown(self.size, range_size(range));
         Ok(())
     }
@@ -71,14 +71,14 @@ impl Txn {
         ensures ok { OnOk result (StandsWritten self.old self.new (database.Atomic op key.now operand.now)) }
         ensures err { OnErr result (StandsOn self.old self.new) }
     {
-        self.declares.reserve(1)?;
+        self.adds_conflict.reserve(1)?;
         if op.is_versionstamped() {
             self.edits.stamp(op, key, operand)?;
         } else {
             self.edits.atomic(op, key, operand)?;
         }
-        self.declares.push(!self.is_silenced).unwrap();
-        self.is_silenced = false;
+        self.adds_conflict.push(!self.skips_write_conflict).unwrap();
+        self.skips_write_conflict = false;
         self.size = grown(self.size, key.len() as u64 + operand.len() as u64);
         Ok(())
     }

@@ -1,4 +1,4 @@
-//! Trials of a transaction over a store: each call on its happy path, and what a transaction rests on and declares.
+//! Trials of a transaction over a store: each call on its happy path, and the read and write conflict ranges of a transaction.
 //!
 //! They call public functions alone, so they stand apart from txn_core: its own functions aren't proved again with them.
 #![tactic(auto)]

@@ -109,7 +109,7 @@ fn are_entries(pairs: &Pairs, entries: &[Entry]) -> bool {
             .all(|(pair, entry)| is_entry(pair, entry))
 }
 
-// The versionstamp with which a test asks what a commit changes and declares.
+// The versionstamp with which a test asks what a commit changes, and its write conflict ranges.
 const STAMP: &[u8; 10] = b"stampstamp";
 
 impl World {

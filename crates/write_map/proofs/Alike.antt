@@ -4,16 +4,16 @@ use Rattle.key_bytes.specs.Keys.{key_le, key_lt, after}
 use Rattle.key_bytes.proofs.Orders.{below_after}
 use Rattle.key_map.specs.Ends.{first, last}
 use Rattle.std.specs.List.{filter}
-use Rattle.edge_map.specs.Edges.{Edges, held, edges_of, is_edge}
-use Rattle.edge_map.proofs.Held.{IsRising}
-use Rattle.edge_map.proofs.Neighbours.{next-after, prev-greatest}
+use Rattle.range_map.specs.Boundaries.{Boundaries, held, boundaries_of, is_boundary}
+use Rattle.range_map.proofs.Held.{IsRising}
+use Rattle.range_map.proofs.Neighbours.{next-after, prev-greatest}
 use Rattle.database_rules.specs.Databases.{Mutation}
 use Rattle.database_rules.specs.States.{KeyState, Unmodified, Decided, Depends, state_under}
 use Rattle.write_map.specs.declared.level.Level.{Level}
 use Rattle.write_map.specs.Pending.{AreAlike, IsBare, IsDepends, is_single_state}
 use Rattle.write_map.specs.Levels.{state_of, AreLevels}
 
-module _ (mutations : List Mutation) (levels : Edges Level) (are : AreLevels mutations levels) where
+module _ (mutations : List Mutation) (levels : Boundaries Level) (are : AreLevels mutations levels) where
   -- keys with one level are alike
   pub alike_held : (k q : List ℕ) → held levels q ≡ held levels k → AreAlike mutations k q
   alike_held k q same = record {
@@ -28,18 +28,18 @@ module _ (mutations : List Mutation) (levels : Edges Level) (are : AreLevels mut
     readable = (are.agree k).readable ∙ ap (λ level. level.is_unreadable) (same ∙ are.base);
   }
 
-  single_after : (k : List ℕ) → is_single_state (state_under mutations k) ≡ true → is_edge (after k) levels ≡ true
+  single_after : (k : List ℕ) → is_single_state (state_under mutations k) ≡ true → is_boundary (after k) levels ≡ true
   single_after k single = (are.single k (sym (ap is_single_state (are.agree k).state) ∙ single)).1
 
   -- a state of one key alone ends at the next key
   pub next_single : (k : List ℕ) → IsRising levels.entries → is_single_state (state_under mutations k) ≡ true
-      → first (filter (key_lt k) (edges_of levels)) ≡ Some (after k)
+      → first (filter (key_lt k) (boundaries_of levels)) ≡ Some (after k)
   next_single k rising single = next-after levels k rising (single_after k single)
 
-  pub prev_single : (k edge : List ℕ) → IsRising levels.entries → last (filter (λ edge. key_lt edge k) (edges_of levels)) ≡ Some edge
-      → is_single_state (state_under mutations edge) ≡ true → key_le k (after edge) ≡ true
-  prev_single k edge rising is single =
-      prev-greatest levels k edge (after edge) rising is (single_after edge single) (below_after edge)
+  pub prev_single : (k boundary : List ℕ) → IsRising levels.entries → last (filter (λ boundary. key_lt boundary k) (boundaries_of levels)) ≡ Some boundary
+      → is_single_state (state_under mutations boundary) ≡ true → key_le k (after boundary) ≡ true
+  prev_single k boundary rising is single =
+      prev-greatest levels k boundary (after boundary) rising is (single_after boundary single) (below_after boundary)
 
 -- a list of atomic operations is of one key alone
 pub depends_single : (state : KeyState) → IsDepends state → is_single_state state ≡ true

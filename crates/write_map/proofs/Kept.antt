@@ -5,7 +5,7 @@ use Rattle.std.proofs.lemmas.List.Elements.{All-push}
 use Rattle.std.proofs.lemmas.List.Folds.{list_any-append}
 use Rattle.std.specs.List.{list_any}
 use Rattle.key_bytes.specs.declared.range.KeyRange.{KeyRange}
-use Rattle.edge_map.specs.Edges.{Edges}
+use Rattle.range_map.specs.Boundaries.{Boundaries}
 use Rattle.database_rules.specs.declared.AtomicOp.{AtomicOp}
 use Rattle.database_rules.specs.declared.AtomicOp.TheVariants as atomic
 use Rattle.database_rules.specs.Databases.{Mutation, Set, Clear, ClearRange, Atomic}
@@ -42,7 +42,7 @@ hidden_stamped (Atomic op own operand) range is = stamped op is
     stamped atomic.SetVersionstampedValue is = refl
     stamped _ is = absurd cc
 
-module _ (mutations : List Mutation) (mutation : Mutation) (old new : Edges Level) (flag : Bool) (kept : IsKept mutations old flag)
+module _ (mutations : List Mutation) (mutation : Mutation) (old new : Boundaries Level) (flag : Bool) (kept : IsKept mutations old flag)
     (step : IsStep mutation old new) where
   flagged_by : (b : Bool) → is_stamped mutation ≡ b → (flag || b) ≡ list_any is_stamped (mutations ++ mutation ∷ [])
   flagged_by b is =

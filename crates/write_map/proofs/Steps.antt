@@ -16,9 +16,9 @@ use Rattle.database_rules.specs.Atomics.{is_versionstamped}
 use Rattle.database_rules.specs.Databases.{Mutation, Set, Clear, ClearRange, Atomic}
 use Rattle.database_rules.specs.States.{KeyState, Unmodified, Decided, after_atomic, state_after, covers, unreadable_by, unreadable}
 use Rattle.database_rules.proofs.States.{states_after-append, covers-unreadable-append}
-use Rattle.edge_map.specs.Edges.{Edges, held, is_edge, changed}
-use Rattle.edge_map.proofs.Edged.{edge_changed, held-changed_one}
-use Rattle.edge_map.proofs.Held.{IsRising, held-changed}
+use Rattle.range_map.specs.Boundaries.{Boundaries, held, is_boundary, changed}
+use Rattle.range_map.proofs.Bounded.{boundary_changed, held-changed_one}
+use Rattle.range_map.proofs.Held.{IsRising, held-changed}
 use Rattle.write_map.specs.declared.level.Level.{Level}
 use Rattle.write_map.specs.declared.level.State.{State}
 use Rattle.write_map.specs.Pending.{IsOn, is_single_state}
@@ -26,13 +26,13 @@ use Rattle.write_map.specs.Levels.{state_of, with_state, cleared, hidden, AreSin
 use Rattle.write_map.proofs.Splits.{IsSplit}
 
 -- the levels follow a mutation
-pub record IsStep (mutation : Mutation) (old new : Edges Level) : Type 0 where
+pub record IsStep (mutation : Mutation) (old new : Boundaries Level) : Type 0 where
   pub base : new.base ≡ old.base
   pub states : (key : List ℕ) → state_of (held new key).state ≡ state_after mutation key (state_of (held old key).state)
   pub readable : (key : List ℕ) → (held new key).is_unreadable ≡ ((held old key).is_unreadable || covers (unreadable_by mutation) key)
   pub single : AreSingle new
 
-pub levels_added : (mutations : List Mutation) (mutation : Mutation) (old new : Edges Level) → AreLevels mutations old
+pub levels_added : (mutations : List Mutation) (mutation : Mutation) (old new : Boundaries Level) → AreLevels mutations old
     → IsStep mutation old new → AreLevels (mutations ++ mutation ∷ []) new
 levels_added mutations mutation old new are step = record {
   base = step.base ∙ are.base;
@@ -86,20 +86,20 @@ atomic_here op key operand state plain =
     let itself : bytes_eq key key ≡ true = text_same key key key refl ∙ (eq_by_cmp_equiv nat_list_cmp_total).refl key in
     λ i. cond (sym itself i && not (sym plain i)) (after_atomic op operand state) state
 
-module _ (key : List ℕ) (mutation : Mutation) (state : State) (old split : Edges Level) (on : IsOn key mutation)
+module _ (key : List ℕ) (mutation : Mutation) (state : State) (old split : Boundaries Level) (on : IsOn key mutation)
     (gives : state_of state ≡ state_after mutation key (state_of (held old key).state)) (single : AreSingle old)
     (is : IsSplit key (after key) old split) (rising : IsRising split.entries) where
   abbrev made : Level
   made = with_state state (held split key)
 
-  abbrev put : Edges Level
+  abbrev put : Boundaries Level
   put = changed (is_at (key_cmp key)) (λ _. made) split
 
   held-put : (k : List ℕ) → held put k ≡ cond (is_at (key_cmp key) k) made (held split k)
   held-put k = held-changed_one key (λ _. made) split k rising is.begins is.ends
 
-  edge_put : (q : List ℕ) → is_edge q split ≡ true → is_edge q put ≡ true
-  edge_put q there = edge_changed q (is_at (key_cmp key)) (λ _. made) split ∙ there
+  boundary_put : (q : List ℕ) → is_boundary q split ≡ true → is_boundary q put ≡ true
+  boundary_put q there = boundary_changed q (is_at (key_cmp key)) (λ _. made) split ∙ there
 
   pub step_put : IsStep mutation old put
   step_put = record {
@@ -130,13 +130,13 @@ module _ (key : List ℕ) (mutation : Mutation) (state : State) (old split : Edg
       readable_by k false other = ap (λ level. level.is_unreadable) (is.same k)
 
       single_by : (k : List ℕ) (t : Bool) → is_at (key_cmp key) k ≡ t
-          → is_single_state (state_of (cond t made (held split k)).state) ≡ true → (is_edge k put ≡ true) × (is_edge (after k) put ≡ true)
+          → is_single_state (state_of (cond t made (held split k)).state) ≡ true → (is_boundary k put ≡ true) × (is_boundary (after k) put ≡ true)
       single_by k true same alone =
-          let P : List ℕ → Type 0 = λ k. (is_edge k put ≡ true) × (is_edge (after k) put ≡ true) in
-          subst P (tells_apart exact_bytes key k same) (edge_put key is.begins, edge_put (after key) is.ends)
+          let P : List ℕ → Type 0 = λ k. (is_boundary k put ≡ true) × (is_boundary (after k) put ≡ true) in
+          subst P (tells_apart exact_bytes key k same) (boundary_put key is.begins, boundary_put (after key) is.ends)
       single_by k false other alone =
-          let edges = single k (sym (ap (λ level. is_single_state (state_of level.state)) (is.same k)) ∙ alone) in
-          (edge_put k (is.kept k edges.0), edge_put (after k) (is.kept (after k) edges.1))
+          let boundaries = single k (sym (ap (λ level. is_single_state (state_of level.state)) (is.same k)) ∙ alone) in
+          (boundary_put k (is.kept k boundaries.0), boundary_put (after k) (is.kept (after k) boundaries.1))
 
 -- ---- a mutation of a range
 
@@ -148,9 +148,9 @@ pub record Follows (begin end : List ℕ) (mutation : Mutation) (f : Level → L
       → (cond (within begin end key) (f level) level).is_unreadable ≡ (level.is_unreadable || covers (unreadable_by mutation) key)
   pub single : (level : Level) → is_single_state (state_of (f level).state) ≡ true → is_single_state (state_of level.state) ≡ true
 
-module _ (begin end : List ℕ) (mutation : Mutation) (f : Level → Level) (old split : Edges Level) (follows : Follows begin end mutation f)
+module _ (begin end : List ℕ) (mutation : Mutation) (f : Level → Level) (old split : Boundaries Level) (follows : Follows begin end mutation f)
     (single : AreSingle old) (is : IsSplit begin end old split) (rising : IsRising split.entries) where
-  abbrev changed_range : Edges Level
+  abbrev changed_range : Boundaries Level
   changed_range = changed (within begin end) f split
 
   held-range : (k : List ℕ) → held changed_range k ≡ cond (within begin end k) (f (held old k)) (held old k)
@@ -158,8 +158,8 @@ module _ (begin end : List ℕ) (mutation : Mutation) (f : Level → Level) (old
       held-changed begin end f split k rising is.begins is.ends
       ∙ ap (λ level. cond (within begin end k) (f level) level) (is.same k)
 
-  edge_range : (q : List ℕ) → is_edge q old ≡ true → is_edge q changed_range ≡ true
-  edge_range q there = edge_changed q (within begin end) f split ∙ is.kept q there
+  boundary_range : (q : List ℕ) → is_boundary q old ≡ true → is_boundary q changed_range ≡ true
+  boundary_range q there = boundary_changed q (within begin end) f split ∙ is.kept q there
 
   pub step_range : IsStep mutation old changed_range
   step_range = record {
@@ -167,9 +167,9 @@ module _ (begin end : List ℕ) (mutation : Mutation) (f : Level → Level) (old
     states = λ k. ap (λ level. state_of level.state) (held-range k) ∙ follows.states k (held old k);
     readable = λ k. ap (λ level. level.is_unreadable) (held-range k) ∙ follows.readable k (held old k);
     single = λ k alone.
-        let edges = single k (single_by k (within begin end k)
+        let boundaries = single k (single_by k (within begin end k)
         (sym (ap (λ level. is_single_state (state_of level.state)) (held-range k)) ∙ alone)) in
-        (edge_range k edges.0, edge_range (after k) edges.1);
+        (boundary_range k boundaries.0, boundary_range (after k) boundaries.1);
   }
     where
       single_by : (k : List ℕ) (t : Bool) → is_single_state (state_of (cond t (f (held old k)) (held old k)).state) ≡ true

@@ -1,10 +1,10 @@
--- What an edge has: the state of the keys from it up to the next edge, and whether they are unreadable.
+-- What a boundary has: the state of the keys from it up to the next boundary, and whether they are unreadable.
 use Rattle.std.specs.Prelude.{◌≡◌, ℕ, Bool, true, false, List, Option, Some, None}
 use Rattle.std.specs.Option.{option_map}
 use Rattle.std.specs.List.{All, list_any}
 use Rattle.std.specs.BTreeMap.{is_at}
 use Rattle.key_bytes.specs.Keys.{key_cmp, after}
-use Rattle.edge_map.specs.Edges.{Edges, held, is_edge, changed}
+use Rattle.range_map.specs.Boundaries.{Boundaries, held, is_boundary, changed}
 use Rattle.database_rules.specs.declared.AtomicOp.{AtomicOp}
 use Rattle.database_rules.specs.Databases.{Mutation}
 use Rattle.database_rules.specs.States.{KeyState, Unmodified, Decided, Depends, after_atomic, covers, state_under, unreadable}
@@ -25,7 +25,7 @@ state_of (kept.Depends edits) = Depends edits
 abbrev pub bare : Level
 bare = record { state = kept.Unmodified; is_unreadable = false }
 
--- what a new edge gets of a state: what may be had by more keys than one
+-- what a new boundary gets of a state: what may be had by more keys than one
 abbrev pub spread_state : State → State
 spread_state kept.Unmodified = kept.Unmodified
 spread_state (kept.Decided value) = kept.Decided None
@@ -34,7 +34,7 @@ spread_state (kept.Depends edits) = kept.Decided None
 abbrev pub spread : Level → Level
 spread level = record level { state = spread_state level.state }
 
--- an edge has a state in place of its own
+-- a boundary has a state in place of its own
 abbrev pub with_state : State → Level → Level
 with_state state level = record level { state = state }
 
@@ -57,8 +57,8 @@ abbrev pub IsMade : AtomicOp → List ℕ → State → Option State → Type 0
 IsMade op operand state None = is_list state ≡ true
 IsMade op operand state (Some made) = state_of made ≡ after_atomic op operand (state_of state)
 
--- the state at one edge became what an atomic operation makes of it
-pub record IsEdited (key : List ℕ) (op : AtomicOp) (operand : List ℕ) (old new : Edges Level) : Type 0 where
+-- the state at one boundary became what an atomic operation makes of it
+pub record IsEdited (key : List ℕ) (op : AtomicOp) (operand : List ℕ) (old new : Boundaries Level) : Type 0 where
   pub state : State
   pub made : state_of state ≡ after_atomic op operand (state_of (held old key).state)
   pub levels : new ≡ changed (is_at (key_cmp key)) (λ _. with_state state (held old key)) old
@@ -77,19 +77,19 @@ pub record IsLevel (mutations : List Mutation) (key : List ℕ) (level : Level) 
   pub readable : covers (unreadable mutations) key ≡ level.is_unreadable
 
 -- a state of one key alone ends at the next key
-abbrev pub AreSingle : Edges Level → Type 0
+abbrev pub AreSingle : Boundaries Level → Type 0
 AreSingle levels = (key : List ℕ) → is_single_state (state_of (held levels key).state) ≡ true
-    → (is_edge key levels ≡ true) × (is_edge (after key) levels ≡ true)
+    → (is_boundary key levels ≡ true) × (is_boundary (after key) levels ≡ true)
 
 -- each key has its level, and a state of one key alone ends at the next key
-pub record AreLevels (mutations : List Mutation) (levels : Edges Level) : Type 0 where
+pub record AreLevels (mutations : List Mutation) (levels : Boundaries Level) : Type 0 where
   pub base : levels.base ≡ bare
   pub agree : (key : List ℕ) → IsLevel mutations key (held levels key)
   pub single : AreSingle levels
 
 -- what a map keeps beside its mutations is what they say: the level of each key, and whether one of them has a versionstamp; each
 -- of these has room for it
-pub record IsKept (mutations : List Mutation) (edges : Edges Level) (flag : Bool) : Type 0 where
-  pub levels : AreLevels mutations edges
+pub record IsKept (mutations : List Mutation) (boundaries : Boundaries Level) (flag : Bool) : Type 0 where
+  pub levels : AreLevels mutations boundaries
   pub flagged : flag ≡ list_any is_stamped mutations
   pub room : All HasRoom mutations

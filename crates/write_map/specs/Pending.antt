@@ -3,13 +3,13 @@ use Rattle.std.specs.Prelude.{◌≡◌, ℕ, Bool, true, false, List, Some, Non
 use Rattle.database_rules.specs.Atomics.{is_versionstamped}
 use Rattle.database_rules.specs.Databases.{Mutation, Set, Clear, ClearRange, Atomic}
 use Rattle.database_rules.specs.States.{KeyState, Unmodified, Decided, Depends, covers, state_under, unreadable}
-pub use Rattle.edge_map.specs.Edges.{IsBelowEdge}
+pub use Rattle.range_map.specs.Boundaries.{IsBelowBoundary}
 
 pub record Pending : Type 0 where
   -- the mutations, in their order
   pub mutations : List Mutation
-  -- the edges, in the order of keys: all keys between two that follow each other are alike
-  pub edges : List (List ℕ)
+  -- the boundaries, in the order of keys: all keys between two that follow each other are alike
+  pub boundaries : List (List ℕ)
 
 -- two keys have one state under mutations, and both are readable or neither is
 pub record AreAlike (mutations : List Mutation) (a b : List ℕ) : Type 0 where

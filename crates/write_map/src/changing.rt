@@ -4,13 +4,13 @@ ghost use Rattle.std.specs.Prelude.{◌≡◌, true, IsTrue, OnOk, OnErr};
 ghost use Rattle.std.specs.BTreeMap.{is_at};
 ghost use Rattle.std.specs.List.Sorted.{IsStrictlySortedBy};
 ghost use Rattle.key_bytes.specs.Keys.{key_cmp};
-ghost use Rattle.edge_map.specs.Edges.{changed, edges_of, held, is_edge, split_both};
+ghost use Rattle.range_map.specs.Boundaries.{changed, boundaries_of, held, is_boundary, split_both};
 ghost use Rattle.write_map.specs.Levels.{cleared, hidden, is_list, spread, with_state, IsEdited};
 
 use crate::edits::AtomicEdit;
 use crate::level::{Level, State};
-use edge_map::{Change, EdgeMap};
 use key_bytes::Key;
+use range_map::{Change, RangeMap};
 use std::alloc::AllocError;
 
 // The keys have no value from then on.
@@ -39,10 +39,10 @@ impl Change<Level> for HideKeys {
     }
 }
 
-// Makes a key and the one above it edges, and gives the key another state: one call of `put`, and two searches more where the key
-// is unreadable, and stays so. After a refusal the levels are as they were.
+// Makes a key and the one above it boundaries, and gives the key another state: one call of `put`, and two searches more where the
+// key is unreadable, and stays so. After a refusal the levels are as they were.
 pub(crate) fn put_state(
-    levels: &mut EdgeMap<Level>,
+    levels: &mut RangeMap<Level>,
     key: &Key,
     next: &Key,
     state: State,
@@ -50,7 +50,7 @@ pub(crate) fn put_state(
     ensures ok { OnOk result (let split = split_both spread key.now next.now levels.old in
         levels.new ≡ changed (is_at (key_cmp key.now)) (λ _. with_state state (held split key.now)) split) }
     ensures err { OnErr result (levels.new ≡ levels.old) }
-    ensures rising { OnOk result (IsStrictlySortedBy key_cmp (edges_of levels.new)) }
+    ensures rising { OnOk result (IsStrictlySortedBy key_cmp (boundaries_of levels.new)) }
 {
     let level = Level {
         state,
@@ -64,11 +64,11 @@ pub(crate) fn put_state(
     Ok(())
 }
 
-// Makes an edge unreadable again that was so before it got another state: `before` is what it had.
-fn hide_again(levels: &mut EdgeMap<Level>, key: &Key, before: Level)
-    requires { IsTrue (is_edge key.now levels.old) }
+// Makes a boundary unreadable again that was so before it got another state: `before` is what it had.
+fn hide_again(levels: &mut RangeMap<Level>, key: &Key, before: Level)
+    requires { IsTrue (is_boundary key.now levels.old) }
     ensures given { levels.new ≡ changed (is_at (key_cmp key.now)) (λ _. hidden (held levels.old key.now)) levels.old }
-    ensures rising { IsStrictlySortedBy key_cmp (edges_of levels.new) }
+    ensures rising { IsStrictlySortedBy key_cmp (boundaries_of levels.new) }
 {
     let mut taken = levels.replace(key, before);
     taken.is_unreadable = true;
@@ -76,17 +76,17 @@ fn hide_again(levels: &mut EdgeMap<Level>, key: &Key, before: Level)
     levels.shows_rising();
 }
 
-// Adds an operation to the list of operations that an edge has. After a refusal the levels are as they were.
+// Adds an operation to the list of operations that a boundary has. After a refusal the levels are as they were.
 pub(crate) fn push_edit(
-    levels: &mut EdgeMap<Level>,
+    levels: &mut RangeMap<Level>,
     key: &Key,
     edit: AtomicEdit,
 ) -> Result<(), AllocError>
-    requires edge { IsTrue (is_edge key.now levels.old) }
+    requires boundary { IsTrue (is_boundary key.now levels.old) }
     requires list { is_list (held levels.old key.now).state ≡ true }
     ensures ok { OnOk result (IsEdited key.now edit.op edit.operand levels.old levels.new) }
     ensures err { OnErr result (levels.new ≡ levels.old) }
-    ensures rising { IsStrictlySortedBy key_cmp (edges_of levels.old) }
+    ensures rising { IsStrictlySortedBy key_cmp (boundaries_of levels.old) }
 {
     levels.shows_rising();
     let mut level = levels.replace(key, Level::bare());

@@ -1,4 +1,4 @@
-//! What an edge has.
+//! What a boundary has.
 
 ghost use Rattle.std.specs.Prelude.{◌≡◌, true, false, IfOk, OnOk, OnErr};
 ghost use Rattle.database_rules.specs.Atomics.{is_versionstamped};
@@ -9,8 +9,8 @@ use crate::edits::{AtomicEdit, AtomicEdits};
 use crate::state::KeyState;
 use atomic_ops::apply;
 use database_rules::AtomicOp;
-use edge_map::Spread;
 use key_bytes::Bytes;
+use range_map::Spread;
 use std::alloc::{AllocError, Global};
 
 // What the mutations without a versionstamp make of a key.
@@ -50,14 +50,14 @@ impl State {
     }
 }
 
-// What the keys have from an edge up to the next one.
+// What the keys have from a boundary up to the next one.
 #[derive(Drop)]
 pub(crate) struct Level {
     pub(crate) state: State,
     pub(crate) is_unreadable: bool,
 }
 
-// A new edge lies behind the first key of the edge before it, so it gets what may be had by more keys than one.
+// A new boundary lies behind the first key of the boundary before it, so it gets what may be had by more keys than one.
 impl Spread for Level {
     ghost use Rattle.write_map.specs.Levels.{spread};
 

@@ -10,7 +10,7 @@ ghost use Rattle.database_rules.specs.Databases as rules;
 ghost use Rattle.database_rules.specs.States.{state_after, state_under, has_room, stamped_bytes, unreadable_by};
 ghost use Rattle.write_map.specs.Levels.{state_of};
 ghost use Rattle.write_map.specs.Mutations.{mutation_of, mutations_of};
-ghost use Rattle.write_map.specs.Pending.{AreAlike, IsBare, IsBelowEdge, IsDepends, IsOn, is_single_state};
+ghost use Rattle.write_map.specs.Pending.{AreAlike, IsBare, IsBelowBoundary, IsDepends, IsOn, is_single_state};
 ghost use Rattle.write_map.specs.Stamps.{is_stamped, HasRoom};
 ghost use Rattle.write_map.specs.Answers.{IsStateUnder};
 
@@ -21,19 +21,19 @@ use crate::mutation::Mutation;
 use crate::stamping::hidden_keys;
 use crate::state::KeyState;
 use database_rules::AtomicOp;
-use edge_map::EdgeMap;
 use key_bytes::{Bytes, Key, KeyRange};
+use range_map::RangeMap;
 use std::alloc::{AllocError, Global};
 use std::marker::Model;
 
 // A map of so many mutations at most keeps its room when they are taken away.
 const FEW: usize = 16;
 
-/// The pending mutations of a transaction. Contracts see the list of them in their order, and the edges between which all
-/// keys are alike.
+/// The pending mutations of a transaction. Contracts see the list of them in their order, and the boundaries between which all keys
+/// are alike.
 pub struct WriteMap {
     alloc: Global,
-    levels: EdgeMap<Level>,
+    levels: RangeMap<Level>,
     log: Vec<Mutation>,
     // Whether a mutation has a versionstamp.
     is_stamped: bool,
@@ -52,14 +52,14 @@ impl Drop for WriteMap {
 }
 
 impl Model for WriteMap {
-    ghost use Rattle.edge_map.specs.Edges.{edges_of};
+    ghost use Rattle.range_map.specs.Boundaries.{boundaries_of};
     ghost use Rattle.write_map.specs.Pending.{Pending};
     ghost use Rattle.write_map.specs.Mutations.{mutations_of};
     ghost use Rattle.write_map.specs.Levels.{IsKept};
 
     ghost Value = { Pending };
 
-    ghost view = { λ map. record { mutations = mutations_of map.log.items; edges = edges_of map.levels } };
+    ghost view = { λ map. record { mutations = mutations_of map.log.items; boundaries = boundaries_of map.levels } };
 
     ghost invariant = { λ map. IsKept (mutations_of map.log.items) map.levels map.is_stamped };
 }
@@ -67,11 +67,11 @@ impl Model for WriteMap {
 impl WriteMap {
     /// Makes the map without a mutation.
     pub fn new(alloc: Global) -> WriteMap
-        ensures { result ≡ record { mutations = []; edges = [] } }
+        ensures { result ≡ record { mutations = []; boundaries = [] } }
     {
         WriteMap {
             alloc,
-            levels: EdgeMap::new(alloc, Level::bare()),
+            levels: RangeMap::new(alloc, Level::bare()),
             log: Vec::new(alloc),
             is_stamped: false,
         }
@@ -119,50 +119,50 @@ impl WriteMap {
         self.levels.at(key).shown()
     }
 
-    /// Returns the first edge above a key: up to it all keys from this one on are alike. None where all keys
-    /// from this one on are.
+    /// Returns the first boundary above a key: up to it all keys from this one on are alike. None where all keys from this one on
+    /// are.
     pub fn next_edge(&self, key: &Key) -> Option<&Key>
-        ensures edge { option_map (λ edge. edge.now) result
-            ≡ first (filter (key_lt key.now) self.now.edges) }
+        ensures boundary { option_map (λ boundary. boundary.now) result
+            ≡ first (filter (key_lt key.now) self.now.boundaries) }
         ensures alike { (asked : List ℕ) → key_le key.now asked ≡ true
-            → IsBelowEdge asked (option_map (λ edge. edge.now) result)
+            → IsBelowBoundary asked (option_map (λ boundary. boundary.now) result)
             → AreAlike self.now.mutations key.now asked }
         ensures single { is_single_state (state_under self.now.mutations key.now) ≡ true
-            → option_map (λ edge. edge.now) result ≡ Some (after key.now) }
+            → option_map (λ boundary. boundary.now) result ≡ Some (after key.now) }
     {
         self.levels.shows_rising();
         self.levels.next(key)
     }
 
-    /// Returns what the mutations make of a key, as `at` gives it, and the first edge above it, as `next_edge`
-    /// gives it: one search of the edges where the key is an edge itself, and else one more.
+    /// Returns what the mutations make of a key, as `at` gives it, and the first boundary above it, as `next_edge` gives it: one
+    /// search of the boundaries where the key is a boundary itself, and else one more.
     pub fn around(&self, key: &Key) -> (KeyState<'_>, Option<&Key>)
         ensures state { IsStateUnder self.now.mutations key.now result.0 }
-        ensures edge { option_map (λ edge. edge.now) result.1
-            ≡ first (filter (key_lt key.now) self.now.edges) }
+        ensures boundary { option_map (λ boundary. boundary.now) result.1
+            ≡ first (filter (key_lt key.now) self.now.boundaries) }
         ensures alike { (asked : List ℕ) → key_le key.now asked ≡ true
-            → IsBelowEdge asked (option_map (λ edge. edge.now) result.1)
+            → IsBelowBoundary asked (option_map (λ boundary. boundary.now) result.1)
             → AreAlike self.now.mutations key.now asked }
         ensures single { is_single_state (state_under self.now.mutations key.now) ≡ true
-            → option_map (λ edge. edge.now) result.1 ≡ Some (after key.now) }
+            → option_map (λ boundary. boundary.now) result.1 ≡ Some (after key.now) }
     {
         self.levels.shows_rising();
-        let (level, edge) = self.levels.around(key);
-        (level.shown(), edge)
+        let (level, boundary) = self.levels.around(key);
+        (level.shown(), boundary)
     }
 
-    /// Returns the last edge below a key: from it on all keys below this one are alike. None where no key below
-    /// this one has a mutation.
+    /// Returns the last boundary below a key: from it on all keys below this one are alike. None where no key below this one has a
+    /// mutation.
     pub fn prev_edge(&self, key: &Key) -> Option<&Key>
-        ensures edge { option_map (λ edge. edge.now) result
-            ≡ last (filter (λ edge. key_lt edge key.now) self.now.edges) }
-        ensures alike { IfSome result (λ edge. (asked : List ℕ) → key_le edge.now asked ≡ true
-            → key_lt asked key.now ≡ true → AreAlike self.now.mutations edge.now asked) }
+        ensures boundary { option_map (λ boundary. boundary.now) result
+            ≡ last (filter (λ boundary. key_lt boundary key.now) self.now.boundaries) }
+        ensures alike { IfSome result (λ boundary. (asked : List ℕ) → key_le boundary.now asked ≡ true
+            → key_lt asked key.now ≡ true → AreAlike self.now.mutations boundary.now asked) }
         ensures bare { result ≡ None → (asked : List ℕ) → key_lt asked key.now ≡ true
             → IsBare self.now.mutations asked }
-        ensures single { IfSome result (λ edge.
-            is_single_state (state_under self.now.mutations edge.now) ≡ true
-            → key_le key.now (after edge.now) ≡ true) }
+        ensures single { IfSome result (λ boundary.
+            is_single_state (state_under self.now.mutations boundary.now) ≡ true
+            → key_le key.now (after boundary.now) ≡ true) }
     {
         self.levels.shows_rising();
         self.levels.prev(key)
@@ -170,7 +170,7 @@ impl WriteMap {
 
     /// Takes all mutations away. Room for a few stays, and of more all is given back.
     pub fn reset(&mut self)
-        ensures { self.new ≡ record { mutations = []; edges = [] } }
+        ensures { self.new ≡ record { mutations = []; boundaries = [] } }
     {
         if self.log.len() > FEW {
             *self = WriteMap::new(self.alloc);
@@ -181,8 +181,8 @@ impl WriteMap {
         }
     }
 
-    // Adds a mutation of one key, after which it has this state. It takes one walk along a few edges, or six searches of more at
-    // most, and two more where the key is unreadable. After a refusal the map is as it was.
+    // Adds a mutation of one key, after which it has this state. It takes one walk along a few boundaries, or six searches of more
+    // at most, and two more where the key is unreadable. After a refusal the map is as it was.
     fn put(&mut self, mutation: Mutation, key: &Key, state: State) -> Result<(), AllocError>
         requires one { IsOn key.now (mutation_of mutation) }
         requires state { state_of state ≡ state_after (mutation_of mutation) key.now (state_under self.old.mutations key.now) }
@@ -223,8 +223,8 @@ impl WriteMap {
         self.put(Mutation::Clear { key: own }, &key, State::Decided(None))
     }
 
-    /// Clears the keys of a range: one mutation more. It takes two walks along a few edges, or six searches of more at most,
-    /// and writes once for each edge in the range. After a refusal the map is as it was (API reference,
+    /// Clears the keys of a range: one mutation more. It takes two walks along a few boundaries, or six searches of more at most,
+    /// and writes once for each boundary in the range. After a refusal the map is as it was (API reference,
     /// "fdb_transaction_clear_range").
     pub fn clear_range(&mut self, range: &KeyRange) -> Result<(), AllocError>
         ensures added { OnOk result (self.new.mutations

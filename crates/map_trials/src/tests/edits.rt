@@ -68,7 +68,7 @@ fn one_of_each(alloc: Global) -> Result<WriteMap, AllocError> {
     Ok(map)
 }
 
-// Keys with what they show in that map, and the edges above and below them.
+// Keys with what they show in that map, and the boundaries above and below them.
 type Row = (&'static [u8], &'static [u8], &'static [u8], &'static [u8]);
 
 const ROWS: &[Row] = &[
@@ -94,33 +94,33 @@ const ROWS: &[Row] = &[
     ),
 ];
 
-fn edge_text(edge: Option<&Key>) -> &[u8] {
-    match edge {
-        Some(edge) => edge.as_slice(),
+fn boundary_text(boundary: Option<&Key>) -> &[u8] {
+    match boundary {
+        Some(boundary) => boundary.as_slice(),
         None => b"",
     }
 }
 
-// The state of a key as text, in both ways, and whether its edges are these.
+// The state of a key as text, in both ways, and whether its boundaries are these.
 fn looked_at(
     alloc: Global,
     map: &WriteMap,
     key: &Key,
     row: Row,
 ) -> Result<(Bytes, Bytes, bool), AllocError> {
-    let (state, edge) = map.around(key);
-    let are_edges = edge_text(edge) == row.2
-        && edge_text(map.next_edge(key)) == row.2
-        && edge_text(map.prev_edge(key)) == row.3;
+    let (state, boundary) = map.around(key);
+    let are_boundaries = boundary_text(boundary) == row.2
+        && boundary_text(map.next_edge(key)) == row.2
+        && boundary_text(map.prev_edge(key)) == row.3;
     let around = state_text(alloc, state)?;
-    Ok((around, state_text(alloc, map.at(key))?, are_edges))
+    Ok((around, state_text(alloc, map.at(key))?, are_boundaries))
 }
 
 fn is_row(alloc: Global, row: Row) -> Result<bool, AllocError> {
     let key = key_of(alloc, row.0)?;
     let map = one_of_each(alloc)?;
-    let (around, at, are_edges) = looked_at(alloc, &map, &key, row)?;
-    Ok(are_edges && around.as_slice() == row.1 && at.as_slice() == row.1)
+    let (around, at, are_boundaries) = looked_at(alloc, &map, &key, row)?;
+    Ok(are_boundaries && around.as_slice() == row.1 && at.as_slice() == row.1)
 }
 
 // The first row that the map with one mutation of each kind differs from.

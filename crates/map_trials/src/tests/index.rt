@@ -1,4 +1,4 @@
-//! Which version last declared each key.
+//! The last write version of each key.
 
 use super::{key_of, range_of};
 use conflict_ranges::{RangeSet, WriteIndex};
@@ -58,7 +58,7 @@ fn newest(alloc: Global, begin: &[u8], end: &[u8]) -> Result<[u64; 3], AllocErro
     Ok([index.newest_in(&range), by_ends, index.newest()])
 }
 
-// The newest version from `b` to `c` once `a` to `c` was declared at 4 in a list, and once `b` was at 7 as a key.
+// The newest version from `b` to `c` once `a` to `c` was installed at 4 in a list, and `b` at 7 as a key.
 fn newest_of_declared(alloc: Global) -> Result<[u64; 2], AllocError> {
     let (ranges, key) = ([range_of(alloc, b"a", b"c")?], key_of(alloc, b"b")?);
     let range = range_of(alloc, b"b", b"c")?;
@@ -106,8 +106,8 @@ fn write_keys<V: Versions>(alloc: Global, index: &mut V, count: u64) -> Result<(
     Ok(())
 }
 
-// Gives each key the version of its own commit, but three of four commits declare the three keys behind it too, which the next
-// commits declare again.
+// Gives each key the version of its own commit, but three of four commits have the three keys behind it among their write conflict
+// ranges too, as the next commits have again.
 fn write_ranges<V: Versions>(alloc: Global, index: &mut V, count: u64) -> Result<(), AllocError> {
     for number in 0..count {
         let version = number.wrapping_add(2);

@@ -8,7 +8,6 @@ ghost use Rattle.machine_threads.specs.Threaded.{history_of, IsRunning};
 use fdb_calls::{Reply, Request};
 use future_cell::{Receipt, Wake};
 use key_bytes::{Bytes, Pair, Pairs};
-use machine_seat::start;
 use machine_threads::{Cause, ThreadedMachine, run_machine};
 use network::{Post, Service, serve};
 use outside::OpenGate;
@@ -18,6 +17,7 @@ use std::sync::Wait;
 use std::test::Fail;
 use std::thread;
 use std::thread::Threads;
+use suspended_machine::start;
 
 // A service that answers each request that a machine of this number was started, or that it has no memory.
 #[derive(Drop)]
@@ -72,8 +72,8 @@ fn first_machine(alloc: Global, sender: Sender<Post>) -> Result<ThreadedMachine,
     ensures history { IfOk result (λ machine. history_of machine ≡ first_history) }
 {
     let prefix = Bytes::from_slice(alloc, b"p")?;
-    let seat = start(alloc, 0, prefix, 3, starting(alloc)?)?;
-    Ok(ThreadedMachine::new(alloc, seat, sender))
+    let suspended = start(alloc, 0, prefix, 3, starting(alloc)?)?;
+    Ok(ThreadedMachine::new(alloc, suspended, sender))
 }
 
 // Answers until all machines are over: how many were started.

@@ -6,7 +6,7 @@ use super::*;
 #[derive(Clone, Copy)]
 struct Race {
     by_snapshot: bool,
-    is_silent: bool,
+    is_without_conflict: bool,
 }
 
 // A read and a write of `k`.
@@ -21,7 +21,7 @@ fn commits(world: &mut World) -> Result<bool, AllocError> {
 
 // The version of the first commit, and how the second is judged, where both read `k` before.
 fn race_in(world: &mut World, race: Race) -> Result<(i64, Verdict), TrFault> {
-    if race.is_silent {
+    if race.is_without_conflict {
         world.first().no_write_conflict()?;
     }
     read_and_set(&mut world.first(), true, b"1")?;
@@ -44,21 +44,21 @@ const REFUSED: TrFault = TrFault::Code(Code(1020));
 
 const READ: Race = Race {
     by_snapshot: false,
-    is_silent: false,
+    is_without_conflict: false,
 };
 
 const READ_BY_SNAPSHOT: Race = Race {
     by_snapshot: true,
-    is_silent: false,
+    is_without_conflict: false,
 };
 
 const READ_UNDER_SILENCE: Race = Race {
     by_snapshot: false,
-    is_silent: true,
+    is_without_conflict: true,
 };
 
 #[test]
-fn a_commit_is_refused_for_what_was_declared_since_its_read(rt: HostRuntime) {
+fn a_commit_is_refused_for_what_was_write_conflicts_since_its_read(rt: HostRuntime) {
     assert_eq!(rt; judged(rt.alloc(), READ), Err(REFUSED));
     assert_eq!(rt;
         judged(rt.alloc(), READ_BY_SNAPSHOT),
@@ -70,7 +70,7 @@ fn a_commit_is_refused_for_what_was_declared_since_its_read(rt: HostRuntime) {
     );
 }
 
-// Whether a transaction rests on a range that it is told to.
+// Whether a read conflict range that is added to a transaction is one of its own.
 fn rests_when_told_in(world: &mut World) -> Result<bool, TrFault> {
     let range = range_of(world.alloc, (b"m", b"p"))?;
     world.first().read_conflict(&range)?;

@@ -1,4 +1,4 @@
-//! What reads answer, and which keys a transaction rests on then.
+//! What reads answer, and which read conflict ranges a transaction has then.
 
 use super::*;
 use database_rules::{Mode, Selector};

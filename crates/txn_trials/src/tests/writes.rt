@@ -1,9 +1,9 @@
-//! What a transaction writes, changes and declares.
+//! What a transaction writes and changes, and its write conflict ranges.
 
 use super::*;
 use version_store::{Change, Changes};
 
-// The writes of a layer, over any transaction: the clear of the range declares nothing.
+// The writes of a layer, over any transaction: the clear of the range adds no write conflict range.
 fn write_layer<T: Tr>(tr: &mut T, range: &KeyRange) -> Result<(), TrFault> {
     tr.set(b"k", b"\x01\0")?;
     tr.atomic(AtomicOp::Add, b"k", b"\xff\0")?;
@@ -41,8 +41,8 @@ fn a_layer_reads_what_it_wrote(rt: HostRuntime) {
     assert_eq!(rt; layer(rt.alloc()), Ok((true, true)));
 }
 
-// Whether a transaction with the writes of a layer declares these keys.
-fn declares(on: &TxnOn<'_>, spans: &[Span]) -> Result<bool, AllocError> {
+// Whether a transaction with the writes of a layer has these write conflict ranges.
+fn adds_conflict(on: &TxnOn<'_>, spans: &[Span]) -> Result<bool, AllocError> {
     Ok(are_spans(&on.write_ranges(STAMP)?, spans))
 }
 
@@ -76,7 +76,7 @@ fn commits_in(world: &mut World) -> Result<(bool, bool), TrFault> {
     write_layer(&mut world.first(), &cleared)?;
     world.first().write_conflict(&told)?;
     let changes = changes(&world.first(), &CHANGED)?;
-    Ok((changes, declares(&world.first(), DECLARED)?))
+    Ok((changes, adds_conflict(&world.first(), DECLARED)?))
 }
 
 fn commits(alloc: Global) -> Result<(bool, bool), TrFault> {
@@ -87,7 +87,7 @@ fn commits(alloc: Global) -> Result<(bool, bool), TrFault> {
 }
 
 #[test]
-fn a_transaction_tells_what_it_changes_and_declares(rt: HostRuntime) {
+fn a_transaction_tells_what_it_changes_and_adds_conflict(rt: HostRuntime) {
     assert_eq!(rt; commits(rt.alloc()), Ok((true, true)));
 }
 

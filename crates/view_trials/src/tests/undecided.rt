@@ -79,12 +79,12 @@ fn first_other_row(alloc: Global) -> Result<Option<usize>, AllocError> {
     Ok(None)
 }
 
-// Whether there is an edge above the begin of a range that lies below its end, where `b` is set.
-fn has_edge_below(alloc: Global, begin: &[u8], end: &[u8]) -> Result<bool, AllocError> {
+// Whether there is a boundary above the begin of a range that lies below its end, where `b` is set.
+fn has_boundary_below(alloc: Global, begin: &[u8], end: &[u8]) -> Result<bool, AllocError> {
     let range = range_of(alloc, begin, end)?;
     let edits = edits_of(alloc, &[Edit::Set(b"b", b"1")])?;
-    let (_, edge) = around_below(&edits, &range.begin, &range.end);
-    Ok(edge.is_some())
+    let (_, boundary) = around_below(&edits, &range.begin, &range.end);
+    Ok(boundary.is_some())
 }
 
 // What the operations of a state make of a value.
@@ -110,8 +110,8 @@ fn added(alloc: Global) -> Result<Option<Bytes>, AllocError> {
 #[test]
 fn finds_the_undecided_keys(rt: HostRuntime) -> Result<(), Fail> {
     assert_eq!(rt; first_other_row(rt.alloc())?, None);
-    assert!(rt; has_edge_below(rt.alloc(), b"a", b"c")?);
-    assert!(rt; !has_edge_below(rt.alloc(), b"a", b"b")?);
+    assert!(rt; has_boundary_below(rt.alloc(), b"a", b"c")?);
+    assert!(rt; !has_boundary_below(rt.alloc(), b"a", b"b")?);
     let value = added(rt.alloc())?;
     assert!(rt; value.is_some_and(|value| value.as_slice() == b"\x00\x01".as_slice()));
     Ok(())

@@ -152,9 +152,13 @@ fn near_slice(alloc: Global, view: View<'_>, key: &Key) -> Result<Bytes, AllocEr
     slice_text(alloc, &near, key)
 }
 
-fn near_text(alloc: Global, view: View<'_>, key: &Key, down: bool) -> Result<Bytes, AllocError> {
-    let near = NearView::new(view, key, down)?;
-    let found = if down { near.prev(key) } else { near.next(key) };
+fn near_text(alloc: Global, view: View<'_>, key: &Key, reverse: bool) -> Result<Bytes, AllocError> {
+    let near = NearView::new(view, key, reverse)?;
+    let found = if reverse {
+        near.prev(key)
+    } else {
+        near.next(key)
+    };
     pair_text(found, alloc)
 }
 

@@ -3,8 +3,8 @@ use Rattle.std.proofs.lemmas.Bool.{false≢true, not-true, not-false}
 use Rattle.key_bytes.specs.Keys.{key_lt}
 use Rattle.conflict_ranges.specs.declared.membership.Membership.{Membership}
 use Rattle.conflict_ranges.specs.Ends.{IsNextWithin}
-use Rattle.edge_map.proofs.Edged.{within_backward}
-use Rattle.conflict_ranges.proofs.Segments.{fewer_edges}
+use Rattle.range_map.proofs.Bounded.{within_backward}
+use Rattle.conflict_ranges.proofs.Segments.{fewer_boundaries}
 use Rattle.conflict_ranges.proofs.Walks.{passed_none, passed_next}
 use Rattle.conflict_ranges.proofs.members.any_in.Goals as goal
 
@@ -30,11 +30,11 @@ pub loop-next-smaller : goal.loop-next-smaller
 loop-next-smaller c =
     let members = c.args.members.now in let from = c.loop-next.from.now in
     let next = subst (IsNextWithin from c.args.range.now.end members) c.in-Some.is c.around_within.ensures.next in
-    fewer_edges members from c.in-Some.edge.now c.shows_rising.ensures next.next
+    fewer_boundaries members from c.in-Some.boundary.now c.shows_rising.ensures next.next
 
 pub loop-next-preserved : goal.loop-next-preserved
 loop-next-preserved c =
     let members = c.args.members.now in let from = c.loop-next.from.now in let range = c.args.range.now in
     passed_next IsOut range members from c.loop-next.invariant
     (sym (ap (λ membership. membership.0) c.around_within.ensures.at) ∙ c.if-membership.false)
-    c.in-Some.edge.now (subst (IsNextWithin from range.end members) c.in-Some.is c.around_within.ensures.next)
+    c.in-Some.boundary.now (subst (IsNextWithin from range.end members) c.in-Some.is c.around_within.ensures.next)

@@ -1,7 +1,7 @@
 use Rattle.std.proofs.Common.{◌≡◌, false, length}
 use Rattle.std.specs.List.{filter}
 use Rattle.key_bytes.specs.Keys.{key_lt}
-use Rattle.edge_map.specs.Edges.{edges_of}
+use Rattle.range_map.specs.Boundaries.{boundaries_of}
 use Rattle.conflict_ranges.proofs.Walks.{HasPassed}
 use Rattle.conflict_ranges.proofs.members.any_in.Given as goal
 
@@ -10,4 +10,4 @@ abbrev pub invariant-loop-next : goal.invariant-loop-next
 invariant-loop-next l = HasPassed (λ membership. membership.0 ≡ false) l.range l.members l.from
 
 abbrev pub decreases-loop-next : goal.decreases-loop-next
-decreases-loop-next l = length (filter (key_lt l.from) (edges_of l.members))
+decreases-loop-next l = length (filter (key_lt l.from) (boundaries_of l.members))

@@ -1,8 +1,8 @@
 use Rattle.std.proofs.Common.{cond, sym, ap, ◌∙◌, arith}
 use Rattle.std.proofs.lemmas.Bool.{not-true}
 use Rattle.key_bytes.specs.Keys.{key_lt}
-use Rattle.edge_map.specs.Edges.{held}
-use Rattle.edge_map.proofs.Edged.{within_backward}
+use Rattle.range_map.specs.Boundaries.{held}
+use Rattle.range_map.proofs.Bounded.{within_backward}
 use Rattle.conflict_ranges.proofs.Sound.{sound_split, sound_given}
 use Rattle.conflict_ranges.proofs.Splits.{length_given, put_at}
 use Rattle.conflict_ranges.proofs.members.put.Goals as goal

@@ -1,6 +1,6 @@
 use Rattle.std.proofs.Common.{◌+◌, ◌<◌, cond, length, drop, sym, ap, subst, ◌∙◌, arith}
 use Rattle.database_rules.specs.States.{covers}
-use Rattle.edge_map.specs.Edges.{held}
+use Rattle.range_map.specs.Boundaries.{held}
 use Rattle.conflict_ranges.specs.Ends.{HasRoom}
 use Rattle.conflict_ranges.proofs.Sound.{sound_given}
 use Rattle.conflict_ranges.proofs.Splits.{put_first, length_given, room_given, next_left}

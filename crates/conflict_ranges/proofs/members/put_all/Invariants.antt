@@ -1,6 +1,6 @@
 use Rattle.std.proofs.Common.{◌≡◌, ℕ, if◌then◌else◌, List, length, drop}
 use Rattle.database_rules.specs.States.{covers}
-use Rattle.edge_map.specs.Edges.{held}
+use Rattle.range_map.specs.Boundaries.{held}
 use Rattle.conflict_ranges.specs.Ends.{HasRoom}
 use Rattle.conflict_ranges.specs.Segments.{IsSound}
 use Rattle.conflict_ranges.proofs.members.put_all.Given as goal

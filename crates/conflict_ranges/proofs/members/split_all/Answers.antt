@@ -24,4 +24,4 @@ pub returns-clause-room : goal.returns-clause-room
 returns-clause-room c =
     let ranges = c.args.ranges.now in let index = c.loop-range.range-index in let now = c.loop-range.members in
     let ended : length ranges ≤ index = omega arith in
-    c.loop-range.invariant.room now (λ edge there. there) (subst (HasRoom now) (sym (drop_all index ranges ended)) tt)
+    c.loop-range.invariant.room now (λ boundary there. there) (subst (HasRoom now) (sym (drop_all index ranges ended)) tt)

@@ -1,5 +1,5 @@
 use Rattle.std.proofs.Common.{◌≡◌, ◌+◌, ◌*◌, ◌≤◌, ℕ, List, length, drop}
-use Rattle.edge_map.specs.Edges.{held}
+use Rattle.range_map.specs.Boundaries.{held}
 use Rattle.conflict_ranges.specs.Segments.{IsSound}
 use Rattle.conflict_ranges.proofs.Splits.{GivesRoom}
 use Rattle.conflict_ranges.proofs.members.split_all.Given as goal

@@ -39,10 +39,10 @@ loop-one-preserved c =
         apart = c.close_with.ensures.apart;
       };
       taken_are = c.close_with.ensures.taken ∙ so_far.taken_are;
-      seats = ap (map (λ (it : Unsettled). it.seat)) pushed
-          ∙ map-append (λ (it : Unsettled). it.seat) c.loop-one.unsettled.items _
-          ∙ ap (λ l. l ++ one.seat ∷ []) so_far.seats
-          ∙ sym (map-append (λ (it : ThreadedMachine). it.seat) c.loop-one.yielded (one ∷ []));
+      suspended_machines = ap (map (λ (it : Unsettled). it.suspended)) pushed
+          ∙ map-append (λ (it : Unsettled). it.suspended) c.loop-one.unsettled.items _
+          ∙ ap (λ l. l ++ one.suspended ∷ []) so_far.suspended_machines
+          ∙ sym (map-append (λ (it : ThreadedMachine). it.suspended) c.loop-one.yielded (one ∷ []));
       waiters = ap (map (λ (it : Unsettled). it.waiters.items)) pushed
           ∙ map-append (λ (it : Unsettled). it.waiters.items) c.loop-one.unsettled.items _
           ∙ ap (λ l. l ++ one.waiters.items ∷ []) so_far.waiters
@@ -61,6 +61,6 @@ returns c =
       closed = so_far.closed_are ∙ ap (λ l. closed c.args.receiver.now ++ map history_of l) all;
       agrees = λ some. so_far.agree (omega (arith, some, ap length all));
       taken = so_far.taken_are;
-      seats = so_far.seats ∙ ap (map (λ (it : ThreadedMachine). it.seat)) all;
+      suspended_machines = so_far.suspended_machines ∙ ap (map (λ (it : ThreadedMachine). it.suspended)) all;
       waiters = so_far.waiters ∙ ap (map (λ (it : ThreadedMachine). it.waiters.items)) all;
     }

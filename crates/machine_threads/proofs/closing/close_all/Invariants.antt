@@ -13,6 +13,6 @@ invariant-loop-one l = record {
   closed_are : closed l.receiver ≡ closed l.fn.receiver ++ map history_of l.yielded;
   agree : 0 < length l.yielded → Agrees (taken l.receiver) (closed l.receiver);
   taken_are : taken l.receiver ≡ taken l.fn.receiver;
-  seats : map (λ (one : Unsettled). one.seat) l.unsettled.items ≡ map (λ (one : ThreadedMachine). one.seat) l.yielded;
+  suspended_machines : map (λ (one : Unsettled). one.suspended) l.unsettled.items ≡ map (λ (one : ThreadedMachine). one.suspended) l.yielded;
   waiters : map (λ (one : Unsettled). one.waiters.items) l.unsettled.items ≡ map (λ (one : ThreadedMachine). one.waiters.items) l.yielded;
 }

@@ -30,8 +30,8 @@ settle_all-requires c =
 
 pub loop-one-preserved : goal.loop-one-preserved
 loop-one-preserved c = record {
-  seats = c.in_ok-push.ensures.items ∙ ap (λ seats. seats ++ c.in-Some.one.seat ∷ []) c.loop-one.invariant.seats
-      ∙ sym (map-append (λ (both : Unsettled × Vec (Receipt Reply Wake)). both.0.seat) c.loop-one.yielded ((c.in-Some.one, c.in-Some.own) ∷ []));
+  suspended_machines = c.in_ok-push.ensures.items ∙ ap (λ suspended_machines. suspended_machines ++ c.in-Some.one.suspended ∷ []) c.loop-one.invariant.suspended_machines
+      ∙ sym (map-append (λ (both : Unsettled × Vec (Receipt Reply Wake)). both.0.suspended) c.loop-one.yielded ((c.in-Some.one, c.in-Some.own) ∷ []));
   settled = All-push IsSettledBy c.loop-one.yielded (c.in-Some.one, c.in-Some.own) c.loop-one.invariant.settled c.settle_all.ensures;
 }
 
@@ -46,8 +46,8 @@ returns c =
     c.in-None.is c.next.ensures.steps in
     let all : c.loop-one.yielded ≡ zip unsettled.items receipts.items = sym (map-id c.loop-one.yielded) ∙ end.0 in
     record {
-      seats = c.loop-one.invariant.seats ∙ ap (map (λ (both : Unsettled × Vec (Receipt Reply Wake)). both.0.seat)) all
-          ∙ map-zip (λ (one : Unsettled). one.seat) unsettled.items receipts.items c.requires.as_many;
+      suspended_machines = c.loop-one.invariant.suspended_machines ∙ ap (map (λ (both : Unsettled × Vec (Receipt Reply Wake)). both.0.suspended)) all
+          ∙ map-zip (λ (one : Unsettled). one.suspended) unsettled.items receipts.items c.requires.as_many;
       settled = λ number one own at own_at. All-at IsSettledBy (zip unsettled.items receipts.items) number (one, own)
           (subst (All IsSettledBy) all c.loop-one.invariant.settled) (zip-at unsettled.items receipts.items number one own at own_at);
     }

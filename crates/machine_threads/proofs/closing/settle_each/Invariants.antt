@@ -8,9 +8,9 @@ use Rattle.machine_threads.specs.declared.closing.Unsettled.{Unsettled}
 use Rattle.machine_threads.proofs.Settling.{IsSettledBy}
 use Rattle.machine_threads.proofs.closing.settle_each.Given as goal
 
--- the machines so far were settled, and are at their seats
+-- the machines so far were settled, and are at their suspended machines
 abbrev pub invariant-loop-one : goal.invariant-loop-one
 invariant-loop-one l = record {
-  seats : l.seats.items ≡ map (λ (both : Unsettled × Vec (Receipt Reply Wake)). both.0.seat) l.yielded;
+  suspended_machines : l.suspended_machines.items ≡ map (λ (both : Unsettled × Vec (Receipt Reply Wake)). both.0.suspended) l.yielded;
   settled : All IsSettledBy l.yielded;
 }

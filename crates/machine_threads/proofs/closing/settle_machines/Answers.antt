@@ -29,7 +29,7 @@ by_machine-requires c =
     let numbered = subst AreNumbered c.deref.ensures.value (c.are_numbered.ensures c.if-not-are_numbered.false) in
     let left = c.in_ok-unsettled.ensures in
     let as_many : c.len.result ≡ length closing =
-    c.len.ensures ∙ c.in_ok-unsettled.unsettled.ok.0 ∙ same_length (λ (one : Unsettled). one.seat) (λ (one : ThreadedMachine). one.seat) _ closing left.seats in
+    c.len.ensures ∙ c.in_ok-unsettled.unsettled.ok.0 ∙ same_length (λ (one : Unsettled). one.suspended) (λ (one : ThreadedMachine). one.suspended) _ closing left.suspended_machines in
     record {
       each = as_many_receipts (posts_of (taken c.args.receiver)) c.args.order.now c.args.receipts c.requires.order c.requires.cells;
       named = subst (λ (w : ℕ × List ℕ). All (λ machine. machine < w.0) w.1) (λ i. (sym as_many i, sym c.requires.order i))
@@ -66,7 +66,7 @@ returns c =
       numbered = closing;
       all_of_them = moved;
       by_number = numbered;
-      seats_are = sym left.seats ∙ sym c.in_ok-settle_each.ensures.seats;
+      suspended_machines_are = sym left.suspended_machines ∙ sym c.in_ok-settle_each.ensures.suspended_machines;
       of_these = of_these_when_closed c.args.ended.items closing c.args.receiver c.close_all.new.receiver moved c.requires.cover
           c.requires.none_closed left.closed left.taken left.agrees;
       are_taken = taken_when_closed c.args.ended.items closing c.args.receiver c.close_all.new.receiver moved numbered

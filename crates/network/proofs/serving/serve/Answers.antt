@@ -17,7 +17,7 @@ loop-init g c =
     let took = taken c.args.receiver.now in
     let gone : drop (length took) took ≡ [] = drop_all (length took) took (omega arith) in
     let none : posts_since c.args.receiver.now c.args.receiver.now ≡ [] = ap posts_of gone in
-    let nothing = c.new-desk.ensures.nothing in
+    let nothing = c.new-server.ensures.nothing in
     record {
       can_next = tt;
       is_finite = tt;
@@ -25,8 +25,8 @@ loop-init g c =
           (λ i. (sym none i, sym nothing.0 i, sym nothing.1 i)) (Serves-nothing g.S.Service.answers g.S.Service.notes start);
       replies = subst (λ (w : List Post × Bool × List (Receipt Reply Wake)). Replies g.S.Service.answers g.S.Service.notes start start w.0 w.1 w.2)
           (λ i. (sym none i, sym nothing.2 i, sym nothing.1 i)) (Replies-nothing g.S.Service.answers g.S.Service.notes start);
-      over = c.new-desk.ensures.machines.1 ∙ sym (ap overs_in none);
-      within = omega (arith, c.new-desk.ensures.machines.0, c.new-desk.ensures.machines.1);
+      over = c.new-server.ensures.machines.1 ∙ sym (ap overs_in none);
+      within = omega (arith, c.new-server.ensures.machines.0, c.new-server.ensures.machines.1);
       taken = sym (append-nil took) ∙ ap (λ l. took ++ l) (sym gone);
       closed = refl;
       line = refl;

@@ -1,7 +1,7 @@
 use Rattle.std.proofs.Common.{◌≡◌, [], ◌∷◌, Ok, Err, subst, ◌∙◌, sym, false}
 use Rattle.std.proofs.lemmas.Result.{err_from_is_err_and}
 use Rattle.database_rules.specs.Databases.{Set}
-use Rattle.allocator_rules.specs.Acts.{Silences, Writes}
+use Rattle.allocator_rules.specs.Acts.{DisablesWriteConflict, Writes}
 use Rattle.allocator_rules.specs.Counters.{recent_key}
 use Rattle.prefix_allocator.proofs.Calls.{Quiet, quiet_then, quiet_fault, Present, Read, read_fault, tried, read_absent}
 use Rattle.prefix_allocator.proofs.Steps.{ended}
@@ -14,7 +14,7 @@ returns-in_err-value-clause-tried g c setting t stands =
     let after = g.T.Tr.stands c.get.new.self setting in
     rw (p.1, p.2) (read_fault (Present setting t c.args.keys.now.space c.args.number) c.in_err-value.field-0.0 setting after
     (recent_key c.args.keys.now.space c.args.number) false
-    (Silences ∷ Writes (Set (recent_key c.args.keys.now.space c.args.number) []) ∷ []) t
+    (DisablesWriteConflict ∷ Writes (Set (recent_key c.args.keys.now.space c.args.number) []) ∷ []) t
     (subst (λ key. Read (Err c.in_err-value.field-0.0) after setting key false t) key (c.in_err-value.ensures.answer setting t stands)))
 
 pub returns-in_err-no_write_conflict-clause-tried : goal.returns-in_err-no_write_conflict-clause-tried
@@ -28,7 +28,7 @@ returns-in_err-no_write_conflict-clause-tried g c setting t stands =
     let after = g.T.Tr.stands c.no_write_conflict.new.self setting in
     rw (p.1, p.2) (tried setting t space number c.in_ok-value.value (Err f) first after
     (subst (λ key. Read (Ok c.in_ok-value.value) first setting key false t) key (c.in_ok-value.ensures.answer setting t stands))
-    (λ u stands. quiet_fault (Present setting t space number) f setting after Silences (Writes (Set (recent_key space number) []) ∷ []) u
+    (λ u stands. quiet_fault (Present setting t space number) f setting after DisablesWriteConflict (Writes (Set (recent_key space number) []) ∷ []) u
     (c.in_err-no_write_conflict.ensures.answer setting u stands)))
 
 pub returns-in_err-set-clause-tried : goal.returns-in_err-set-clause-tried
@@ -45,7 +45,7 @@ returns-in_err-set-clause-tried g c setting t stands =
     let present = Present setting t space number in
     rw (p.1, p.2) (tried setting t space number c.in_ok-value.value (Err f) first after
     (subst (λ key. Read (Ok c.in_ok-value.value) first setting key false t) key (c.in_ok-value.ensures.answer setting t stands))
-    (λ u stands. quiet_then present c.in_ok-no_write_conflict.field-0 (Err f) setting second after Silences
+    (λ u stands. quiet_then present c.in_ok-no_write_conflict.field-0 (Err f) setting second after DisablesWriteConflict
     (Writes (Set (recent_key space number) []) ∷ []) u
     (c.in_ok-no_write_conflict.ensures.answer setting u stands)
     (λ v stands. quiet_fault present f setting after (Writes (Set (recent_key space number) [])) [] v
@@ -65,7 +65,7 @@ returns-clause-tried g c setting t stands =
     let is : present c.is_none.result = read_absent setting t space number c.in_ok-value.value c.is_none.result first
     (sym c.is_none.ensures) read in
     tried setting t space number c.in_ok-value.value (Ok c.is_none.result) first after read
-    (λ u stands. quiet_then present c.in_ok-no_write_conflict.field-0 (Ok c.is_none.result) setting second after Silences
+    (λ u stands. quiet_then present c.in_ok-no_write_conflict.field-0 (Ok c.is_none.result) setting second after DisablesWriteConflict
     (Writes (Set (recent_key space number) []) ∷ []) u
     (c.in_ok-no_write_conflict.ensures.answer setting u stands)
     (λ v stands. quiet_then present c.in_ok-set.field-0 (Ok c.is_none.result) setting after after

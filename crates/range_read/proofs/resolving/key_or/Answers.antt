@@ -8,7 +8,7 @@ use Rattle.range_read.proofs.resolving.key_or.Goals as goal
 
 pub returns-in-None : goal.returns-in-None
 returns-in-None g c =
-    let keys = keys_of (onward (g.V.OrderedView.map c.args.view.now) c.args.start.now c.args.down) in
+    let keys = keys_of (onward (g.V.OrderedView.map c.args.view.now) c.args.start.now c.args.reverse) in
     let d = c.args.otherwise.now in
     let fewer = ap (λ o. unwrap_or o d) (sym c.in-None.is ∙ (c.in_ok-key.ensures {u = tt})) ∙ unwrap_or-slice_get keys c.args.place d in
     IfOk-weaker c.from_slice.result _ _ (λ _ is. is ∙ fewer) c.from_slice.ensures

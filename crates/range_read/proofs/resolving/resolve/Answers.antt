@@ -5,7 +5,7 @@ use Rattle.std.proofs.lemmas.Result.{IfOk-weaker}
 use Rattle.std.specs.Map.{keys_of}
 use Rattle.key_bytes.specs.Keys.{top}
 use Rattle.range_read.specs.Walks.{onward}
-use Rattle.range_read.proofs.Selectors.{law_up, law_down}
+use Rattle.range_read.proofs.Selectors.{law_up, law_backward}
 use Rattle.range_read.proofs.resolving.resolve.Goals as goal
 
 -- an offset that is read is the offset
@@ -25,5 +25,5 @@ returns g c =
     let m = g.V.OrderedView.map c.args.view.now in
     IfOk-weaker c.key_or-in-Down.result _ _ (λ _ is.
     is ∙ ap (λ k. get_or (keys_of (onward m k true)) c.in-Down.place []) (c.in_ok-start.ensures {u = tt})
-    ∙ law_down m c.args.selector.now c.in-Down.place
+    ∙ law_backward m c.args.selector.now c.in-Down.place
     (read_exact c.args.selector.now.offset _ (search rules) (c.in-Down.ensures {u = tt}))) c.key_or-in-Down.ensures

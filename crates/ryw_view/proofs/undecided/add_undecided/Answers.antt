@@ -5,12 +5,12 @@ use Rattle.key_bytes.specs.Keys.{key_lt, within}
 use Rattle.key_bytes.proofs.Orders.{irreflexive}
 use Rattle.database_rules.specs.Intervals.{decided}
 use Rattle.database_rules.specs.States.{covers, unreadable}
-use Rattle.edge_map.proofs.Edged.{within_backward}
+use Rattle.range_map.proofs.Bounded.{within_backward}
 use Rattle.range_read.proofs.Rising.{first_passes}
 use Rattle.database_rules.specs.Databases.{Mutation}
 use Rattle.write_map.specs.Answers.{IsStateUnder}
 use Rattle.write_map.specs.declared.state.KeyState.{KeyState as Shown}
-use Rattle.ryw_view.specs.Segments.{is_hidden, is_open, AreAlikeUpTo, IsEdgeBelow}
+use Rattle.ryw_view.specs.Segments.{is_hidden, is_open, AreAlikeUpTo, IsBoundaryBelow}
 use Rattle.ryw_view.proofs.Decided.{hidden_is, segment_is, at_begin, walked_on, added_on, last_met, one_met}
 use Rattle.ryw_view.proofs.Meetings.{empty_meets_none}
 use Rattle.ryw_view.proofs.Passed.{fewer_above}
@@ -44,8 +44,8 @@ returns-then-is_empty-clause-added c _ key =
     nothing_added range.begin range.end key (covers c.args.pieces.now.items key) (not (covers (decided c.args.edits.now.mutations) key))
     (not-true (key_lt range.begin range.end) (sym c.is_empty.ensures ∙ c.if-is_empty.true))
 
-pub loop-edge-init : goal.loop-edge-init
-loop-edge-init c =
+pub loop-boundary-init : goal.loop-boundary-init
+loop-boundary-init c =
     let range = c.args.range.now in
     record {
       walked =
@@ -58,70 +58,70 @@ loop-edge-init c =
 
 pub returns-then-not-branch-clause-readable : goal.returns-then-not-branch-clause-readable
 returns-then-not-branch-clause-readable c =
-    let mutations = c.args.edits.now.mutations in let from = c.loop-edge.from.now in
+    let mutations = c.args.edits.now.mutations in let from = c.loop-boundary.from.now in
     let answer = c.around_below.result.0 in
     let hidden : covers (unreadable mutations) from ≡ true =
     sym (hidden_is mutations from answer c.around_below.ensures.state)
     ∙ not-false (is_hidden answer) (sym (c.in_ok-add_segment.ensures {u = tt}).readable ∙ c.if-not-branch.true) in
-    ap not (sym (one_met mutations c.args.range.now from c.loop-edge.invariant.walked hidden))
+    ap not (sym (one_met mutations c.args.range.now from c.loop-boundary.invariant.walked hidden))
 
-pub loop-edge-smaller : goal.loop-edge-smaller
-loop-edge-smaller c =
-    let pending = c.args.edits.now in let from = c.loop-edge.from.now in
-    let next = subst (λ edge. MatchOption edge (AreAlikeUpTo pending.mutations from c.args.range.now.end)
-    (λ edge. IsEdgeBelow pending from c.args.range.now.end edge.now)) c.in-Some.is c.around_below.ensures.edge in
-    fewer_above pending.edges from c.in-Some.edge.now next.is
+pub loop-boundary-smaller : goal.loop-boundary-smaller
+loop-boundary-smaller c =
+    let pending = c.args.edits.now in let from = c.loop-boundary.from.now in
+    let next = subst (λ boundary. MatchOption boundary (AreAlikeUpTo pending.mutations from c.args.range.now.end)
+    (λ boundary. IsBoundaryBelow pending from c.args.range.now.end boundary.now)) c.in-Some.is c.around_below.ensures.boundary in
+    fewer_above pending.boundaries from c.in-Some.boundary.now next.is
 
-pub loop-edge-preserved : goal.loop-edge-preserved
-loop-edge-preserved c =
+pub loop-boundary-preserved : goal.loop-boundary-preserved
+loop-boundary-preserved c =
     let pending = c.args.edits.now in let range = c.args.range.now in
-    let from = c.loop-edge.from.now in let edge = c.in-Some.edge.now in
-    let before = c.loop-edge.invariant in
+    let from = c.loop-boundary.from.now in let boundary = c.in-Some.boundary.now in
+    let before = c.loop-boundary.invariant in
     let answer = c.around_below.result.0 in let state = c.around_below.ensures.state in
-    let next = subst (λ edge. MatchOption edge (AreAlikeUpTo pending.mutations from range.end)
-    (λ edge. IsEdgeBelow pending from range.end edge.now)) c.in-Some.is c.around_below.ensures.edge in
+    let next = subst (λ boundary. MatchOption boundary (AreAlikeUpTo pending.mutations from range.end)
+    (λ boundary. IsBoundaryBelow pending from range.end boundary.now)) c.in-Some.is c.around_below.ensures.boundary in
     let here = c.in_ok-add_segment.ensures {u = tt} in
-    let rises : key_lt from edge ≡ true = first_passes (key_lt from) pending.edges edge next.is in
+    let rises : key_lt from boundary ≡ true = first_passes (key_lt from) pending.boundaries boundary next.is in
     let shown : is_hidden answer ≡ false = not-true (is_hidden answer) (sym here.readable ∙ c.if-not-branch.false) in
     record {
       walked =
-          walked_on pending.mutations range from edge before.walked rises next.alike
+          walked_on pending.mutations range from boundary before.walked rises next.alike
           (sym (hidden_is pending.mutations from answer state) ∙ shown) next.below;
       added = λ key.
-          added_on pending.mutations range from edge before.walked rises (covers c.args.pieces.now.items key)
-          (covers c.loop-edge.pieces.items key) (covers c.add_segment.new.pieces.items key) key
+          added_on pending.mutations range from boundary before.walked rises (covers c.args.pieces.now.items key)
+          (covers c.loop-boundary.pieces.items key) (covers c.add_segment.new.pieces.items key) key
           (not (covers (decided pending.mutations) key)) (before.added key)
-          (added_of pending.mutations from edge c.unwrap_or.result.now answer (covers c.add_segment.new.pieces.items key)
-          (covers c.loop-edge.pieces.items key) key next.alike state shown
-          (ap (λ edge. edge.now) (rw c.in-Some.is at c.unwrap_or.ensures))
+          (added_of pending.mutations from boundary c.unwrap_or.result.now answer (covers c.add_segment.new.pieces.items key)
+          (covers c.loop-boundary.pieces.items key) key next.alike state shown
+          (ap (λ boundary. boundary.now) (rw c.in-Some.is at c.unwrap_or.ensures))
           (here.added (λ i. Ok (c.if-not-branch.false i)) key));
     }
 
 pub returns-in_default-clause-readable : goal.returns-in_default-clause-readable
 returns-in_default-clause-readable c =
-    let pending = c.args.edits.now in let range = c.args.range.now in let from = c.loop-edge.from.now in
+    let pending = c.args.edits.now in let range = c.args.range.now in let from = c.loop-boundary.from.now in
     let answer = c.around_below.result.0 in
-    let last = subst (λ edge. MatchOption edge (AreAlikeUpTo pending.mutations from range.end)
-    (λ edge. IsEdgeBelow pending from range.end edge.now)) c.in_default.is c.around_below.ensures.edge in
+    let last = subst (λ boundary. MatchOption boundary (AreAlikeUpTo pending.mutations from range.end)
+    (λ boundary. IsBoundaryBelow pending from range.end boundary.now)) c.in_default.is c.around_below.ensures.boundary in
     sym c.if-not-branch.false
     ∙ (c.in_ok-add_segment.ensures {u = tt}).readable
     ∙ ap not
     (hidden_is pending.mutations from answer c.around_below.ensures.state
-    ∙ last_met pending.mutations range from c.loop-edge.invariant.walked last)
+    ∙ last_met pending.mutations range from c.loop-boundary.invariant.walked last)
 
 pub returns-in_default-clause-added : goal.returns-in_default-clause-added
 returns-in_default-clause-added c done key =
-    let pending = c.args.edits.now in let range = c.args.range.now in let from = c.loop-edge.from.now in
-    let before = c.loop-edge.invariant in
+    let pending = c.args.edits.now in let range = c.args.range.now in let from = c.loop-boundary.from.now in
+    let before = c.loop-boundary.invariant in
     let answer = c.around_below.result.0 in
-    let last = subst (λ edge. MatchOption edge (AreAlikeUpTo pending.mutations from range.end)
-    (λ edge. IsEdgeBelow pending from range.end edge.now)) c.in_default.is c.around_below.ensures.edge in
+    let last = subst (λ boundary. MatchOption boundary (AreAlikeUpTo pending.mutations from range.end)
+    (λ boundary. IsBoundaryBelow pending from range.end boundary.now)) c.in_default.is c.around_below.ensures.boundary in
     let here = c.in_ok-add_segment.ensures {u = tt} in
     let shown : is_hidden answer ≡ false = not-true (is_hidden answer) (sym here.readable ∙ c.if-not-branch.false) in
     added_on pending.mutations range from range.end before.walked before.walked.below (covers c.args.pieces.now.items key)
-    (covers c.loop-edge.pieces.items key) (covers c.add_segment.new.pieces.items key) key
+    (covers c.loop-boundary.pieces.items key) (covers c.add_segment.new.pieces.items key) key
     (not (covers (decided pending.mutations) key)) (before.added key)
     (added_of pending.mutations from range.end c.unwrap_or.result.now answer (covers c.add_segment.new.pieces.items key)
-    (covers c.loop-edge.pieces.items key) key last c.around_below.ensures.state shown
-    (ap (λ edge. edge.now) (rw c.in_default.is at c.unwrap_or.ensures))
+    (covers c.loop-boundary.pieces.items key) key last c.around_below.ensures.state shown
+    (ap (λ boundary. boundary.now) (rw c.in_default.is at c.unwrap_or.ensures))
     (here.added (λ i. Ok (c.if-not-branch.false i)) key))

@@ -7,13 +7,13 @@ use Rattle.ryw_view.proofs.Decided.{HasWalked}
 use Rattle.ryw_view.proofs.undecided.add_undecided.Given as goal
 
 -- the pieces have the undecided keys before the one that the walk came to
-abbrev pub invariant-loop-edge : goal.invariant-loop-edge
-invariant-loop-edge l = record {
+abbrev pub invariant-loop-boundary : goal.invariant-loop-boundary
+invariant-loop-boundary l = record {
   walked : HasWalked l.edits.mutations l.range l.from;
   added : (key : List ℕ) → covers l.pieces.items key
       ≡ (covers l.initial.pieces.items key || (within l.range.begin l.from key && not (covers (decided l.edits.mutations) key)));
 }
 
--- the edges above
-abbrev pub decreases-loop-edge : goal.decreases-loop-edge
-decreases-loop-edge l = length (filter (key_lt l.from) l.edits.edges)
+-- the boundaries above
+abbrev pub decreases-loop-boundary : goal.decreases-loop-boundary
+decreases-loop-boundary l = length (filter (key_lt l.from) l.edits.boundaries)

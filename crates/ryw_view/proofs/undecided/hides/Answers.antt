@@ -6,7 +6,7 @@ use Rattle.key_bytes.specs.Ranges.{meets}
 use Rattle.database_rules.specs.States.{unreadable}
 use Rattle.range_read.proofs.Rising.{first_passes}
 use Rattle.write_map.proofs.Filled.{plain_readable}
-use Rattle.ryw_view.specs.Segments.{AreAlikeUpTo, IsEdgeBelow}
+use Rattle.ryw_view.specs.Segments.{AreAlikeUpTo, IsBoundaryBelow}
 use Rattle.ryw_view.proofs.Decided.{hidden_is, at_begin, walked_on, last_met, one_met}
 use Rattle.ryw_view.proofs.Meetings.{empty_meets_none}
 use Rattle.ryw_view.proofs.Passed.{fewer_above}
@@ -24,40 +24,40 @@ returns-then-not-has_stamps c =
           (not-true (key_lt range.begin range.end) (sym w.is_empty.ensures ∙ w.if-is_empty.true)))
     ]
 
-pub loop-edge-init : goal.loop-edge-init
-loop-edge-init c =
+pub loop-boundary-init : goal.loop-boundary-init
+loop-boundary-init c =
     let range = c.args.range.now in
     at_begin c.args.edits.now.mutations range
     (not-false (key_lt range.begin range.end) (sym c.is_empty.ensures ∙ c.if-is_empty.false))
 
 pub returns-then-is_hidden : goal.returns-then-is_hidden
 returns-then-is_hidden c =
-    let mutations = c.args.edits.now.mutations in let from = c.loop-edge.from.now in
-    sym (one_met mutations c.args.range.now from c.loop-edge.invariant
+    let mutations = c.args.edits.now.mutations in let from = c.loop-boundary.from.now in
+    sym (one_met mutations c.args.range.now from c.loop-boundary.invariant
     (sym (hidden_is mutations from c.around_below.result.0 c.around_below.ensures.state) ∙ sym c.is_hidden.ensures ∙ c.if-is_hidden.true))
 
-pub loop-edge-smaller : goal.loop-edge-smaller
-loop-edge-smaller c =
-    let pending = c.args.edits.now in let from = c.loop-edge.from.now in
-    let next = subst (λ edge. MatchOption edge (AreAlikeUpTo pending.mutations from c.args.range.now.end)
-    (λ edge. IsEdgeBelow pending from c.args.range.now.end edge.now)) c.in-Some.is c.around_below.ensures.edge in
-    fewer_above pending.edges from c.in-Some.edge.now next.is
+pub loop-boundary-smaller : goal.loop-boundary-smaller
+loop-boundary-smaller c =
+    let pending = c.args.edits.now in let from = c.loop-boundary.from.now in
+    let next = subst (λ boundary. MatchOption boundary (AreAlikeUpTo pending.mutations from c.args.range.now.end)
+    (λ boundary. IsBoundaryBelow pending from c.args.range.now.end boundary.now)) c.in-Some.is c.around_below.ensures.boundary in
+    fewer_above pending.boundaries from c.in-Some.boundary.now next.is
 
-pub loop-edge-preserved : goal.loop-edge-preserved
-loop-edge-preserved c =
-    let pending = c.args.edits.now in let from = c.loop-edge.from.now in let edge = c.in-Some.edge.now in
-    let next = subst (λ edge. MatchOption edge (AreAlikeUpTo pending.mutations from c.args.range.now.end)
-    (λ edge. IsEdgeBelow pending from c.args.range.now.end edge.now)) c.in-Some.is c.around_below.ensures.edge in
-    walked_on pending.mutations c.args.range.now from edge c.loop-edge.invariant
-    (first_passes (key_lt from) pending.edges edge next.is) next.alike
+pub loop-boundary-preserved : goal.loop-boundary-preserved
+loop-boundary-preserved c =
+    let pending = c.args.edits.now in let from = c.loop-boundary.from.now in let boundary = c.in-Some.boundary.now in
+    let next = subst (λ boundary. MatchOption boundary (AreAlikeUpTo pending.mutations from c.args.range.now.end)
+    (λ boundary. IsBoundaryBelow pending from c.args.range.now.end boundary.now)) c.in-Some.is c.around_below.ensures.boundary in
+    walked_on pending.mutations c.args.range.now from boundary c.loop-boundary.invariant
+    (first_passes (key_lt from) pending.boundaries boundary next.is) next.alike
     (sym (hidden_is pending.mutations from c.around_below.result.0 c.around_below.ensures.state)
     ∙ sym c.is_hidden.ensures ∙ c.if-is_hidden.false) next.below
 
 pub returns-in_default : goal.returns-in_default
 returns-in_default c =
-    let pending = c.args.edits.now in let from = c.loop-edge.from.now in
-    let last = subst (λ edge. MatchOption edge (AreAlikeUpTo pending.mutations from c.args.range.now.end)
-    (λ edge. IsEdgeBelow pending from c.args.range.now.end edge.now)) c.in_default.is c.around_below.ensures.edge in
+    let pending = c.args.edits.now in let from = c.loop-boundary.from.now in
+    let last = subst (λ boundary. MatchOption boundary (AreAlikeUpTo pending.mutations from c.args.range.now.end)
+    (λ boundary. IsBoundaryBelow pending from c.args.range.now.end boundary.now)) c.in_default.is c.around_below.ensures.boundary in
     sym c.if-is_hidden.false ∙ c.is_hidden.ensures
     ∙ hidden_is pending.mutations from c.around_below.result.0 c.around_below.ensures.state
-    ∙ last_met pending.mutations c.args.range.now from c.loop-edge.invariant last
+    ∙ last_met pending.mutations c.args.range.now from c.loop-boundary.invariant last

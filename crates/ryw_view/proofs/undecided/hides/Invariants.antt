@@ -5,9 +5,9 @@ use Rattle.ryw_view.proofs.Decided.{HasWalked}
 use Rattle.ryw_view.proofs.undecided.hides.Given as goal
 
 -- no key before the one that the walk came to is hidden
-abbrev pub invariant-loop-edge : goal.invariant-loop-edge
-invariant-loop-edge l = HasWalked l.edits.mutations l.range l.from
+abbrev pub invariant-loop-boundary : goal.invariant-loop-boundary
+invariant-loop-boundary l = HasWalked l.edits.mutations l.range l.from
 
--- the edges above
-abbrev pub decreases-loop-edge : goal.decreases-loop-edge
-decreases-loop-edge l = length (filter (key_lt l.from) l.edits.edges)
+-- the boundaries above
+abbrev pub decreases-loop-boundary : goal.decreases-loop-boundary
+decreases-loop-boundary l = length (filter (key_lt l.from) l.edits.boundaries)

@@ -5,11 +5,11 @@ use Rattle.tester_run.proofs.driving.drive.Given as goal
 
 abbrev pub invariant-loop : goal.invariant-loop
 invariant-loop g l = record {
-  goes_on : GoesOnByTurns l.fn.core (g.W.Words.words l.fn.words) l.fn.seats.items l.fn.order l.fn.from
-      l.core (g.W.Words.words l.words) l.seats.items l.order l.from;
-  going : IsGoing l.core l.seats.items l.order;
+  goes_on : GoesOnByTurns l.fn.core (g.W.Words.words l.fn.words) l.fn.suspended_machines.items l.fn.order l.fn.from
+      l.core (g.W.Words.words l.words) l.suspended_machines.items l.order l.from;
+  going : IsGoing l.core l.suspended_machines.items l.order;
 }
 
 -- how many machines may still be started
 abbrev pub decreases-loop : goal.decreases-loop
-decreases-loop g l = MACHINES - length l.seats.items
+decreases-loop g l = MACHINES - length l.suspended_machines.items

@@ -2,27 +2,27 @@ use Rattle.std.proofs.Common.{ℕ, List, None, Some, Option, sym, ap, subst, ◌
 use Rattle.std.specs.Prelude.{option_and_then, slice_get}
 use Rattle.client_core.specs.Stands.{HasStarted}
 use Rattle.client_core.proofs.Results.{ok_so}
-use Rattle.machine_seat.specs.declared.seat.Seat.{Seat}
+use Rattle.suspended_machine.specs.declared.suspended.SuspendedMachine.{SuspendedMachine}
 use Rattle.tester_run.specs.Driving.{HasUsed}
-use Rattle.tester_run.proofs.Seats.{used_moved}
+use Rattle.tester_run.proofs.SuspendedMachines.{used_moved}
 use Rattle.tester_run.proofs.Leading.{going_used, taken_goes_on, takes_used}
 use Rattle.tester_run.proofs.driving.take.Goals as goal
 
 pub returns-in-None-clause-goes_on : goal.returns-in-None-clause-goes_on
 returns-in-None-clause-goes_on g c =
-    let before = c.args.seats.now.items in let after = c.use_alone.new.seats.items in
+    let before = c.args.suspended_machines.now.items in let after = c.use_alone.new.suspended_machines.items in
     ok_so (HasUsed None c.apply-reply.result c.args.number before after) _ c.use_alone.result (λ came did.
     taken_goes_on c.args.core.now c.apply-reply.new.self _ _ before after c.args.order.now c.push.new.self c.args.number
     (takes_used c.args.core.now c.apply-reply.new.self _ _ before after c.args.order.now c.push.new.self c.args.number
     c.request_at-request.result.now None c.apply-reply.result came did
-    (ap (λ (seats : List Seat). option_and_then (λ (seat : Seat). seat.asks) (slice_get seats c.args.number)) (sym c.deref.ensures.value)
+    (ap (λ (suspended_machines : List SuspendedMachine). option_and_then (λ (suspended : SuspendedMachine). suspended.asks) (slice_get suspended_machines c.args.number)) (sym c.deref.ensures.value)
     ∙ c.request_at-request.ensures)
     c.apply-reply.ensures.step (sym c.in-None.is ∙ c.in_ok-prefix.ensures) c.in_ok-push.ensures.ok))
     c.use_alone.ensures
 
 pub returns-in-None-clause-going : goal.returns-in-None-clause-going
 returns-in-None-clause-going g c =
-    let before = c.args.seats.now.items in let after = c.use_alone.new.seats.items in
+    let before = c.args.suspended_machines.now.items in let after = c.use_alone.new.suspended_machines.items in
     ok_so (HasUsed None c.apply-reply.result c.args.number before after) _ c.use_alone.result (λ came did.
     going_used c.args.core.now c.apply-reply.new.self before after c.args.order.now c.push.new.self c.args.number None
     c.apply-reply.result came c.requires.going did c.apply-reply.ensures.applied c.in_ok-push.ensures.ok
@@ -32,34 +32,34 @@ returns-in-None-clause-going g c =
 
 pub returns-in-None-clause-moved : goal.returns-in-None-clause-moved
 returns-in-None-clause-moved g c =
-    let before = c.args.seats.now.items in let after = c.use_alone.new.seats.items in
+    let before = c.args.suspended_machines.now.items in let after = c.use_alone.new.suspended_machines.items in
     ok_so (HasUsed None c.apply-reply.result c.args.number before after) _ c.use_alone.result
     (λ came did. used_moved None c.apply-reply.result c.args.number before after came did) c.use_alone.ensures
 
 pub returns-in-Some-clause-goes_on : goal.returns-in-Some-clause-goes_on
 returns-in-Some-clause-goes_on g c =
-    let before = c.args.seats.now.items in let after = c.use_and_seat.new.seats.items in
-    ok_so (HasUsed (Some c.in-Some.prefix) c.apply-reply.result c.args.number before after) _ c.use_and_seat.result (λ came did.
+    let before = c.args.suspended_machines.now.items in let after = c.use_and_suspended.new.suspended_machines.items in
+    ok_so (HasUsed (Some c.in-Some.prefix) c.apply-reply.result c.args.number before after) _ c.use_and_suspended.result (λ came did.
     taken_goes_on c.args.core.now c.apply-reply.new.self _ _ before after c.args.order.now c.push.new.self c.args.number
     (takes_used c.args.core.now c.apply-reply.new.self _ _ before after c.args.order.now c.push.new.self c.args.number
     c.request_at-request.result.now (Some c.in-Some.prefix) c.apply-reply.result came did
-    (ap (λ (seats : List Seat). option_and_then (λ (seat : Seat). seat.asks) (slice_get seats c.args.number)) (sym c.deref.ensures.value)
+    (ap (λ (suspended_machines : List SuspendedMachine). option_and_then (λ (suspended : SuspendedMachine). suspended.asks) (slice_get suspended_machines c.args.number)) (sym c.deref.ensures.value)
     ∙ c.request_at-request.ensures)
     c.apply-reply.ensures.step (sym c.in-Some.is ∙ c.in_ok-prefix.ensures) c.in_ok-push.ensures.ok))
-    c.use_and_seat.ensures
+    c.use_and_suspended.ensures
 
 pub returns-in-Some-clause-going : goal.returns-in-Some-clause-going
 returns-in-Some-clause-going g c =
-    let before = c.args.seats.now.items in let after = c.use_and_seat.new.seats.items in
-    ok_so (HasUsed (Some c.in-Some.prefix) c.apply-reply.result c.args.number before after) _ c.use_and_seat.result (λ came did.
+    let before = c.args.suspended_machines.now.items in let after = c.use_and_suspended.new.suspended_machines.items in
+    ok_so (HasUsed (Some c.in-Some.prefix) c.apply-reply.result c.args.number before after) _ c.use_and_suspended.result (λ came did.
     going_used c.args.core.now c.apply-reply.new.self before after c.args.order.now c.push.new.self c.args.number (Some c.in-Some.prefix)
     c.apply-reply.result came c.requires.going did c.apply-reply.ensures.applied c.in_ok-push.ensures.ok
     (subst (λ (prefix : Option (List ℕ)). HasStarted prefix c.apply-reply.result c.args.core.now.started c.apply-reply.new.self.started)
     (sym c.in_ok-prefix.ensures ∙ c.in-Some.is) c.apply-reply.ensures.started))
-    c.use_and_seat.ensures
+    c.use_and_suspended.ensures
 
 pub returns-in-Some-clause-moved : goal.returns-in-Some-clause-moved
 returns-in-Some-clause-moved g c =
-    let before = c.args.seats.now.items in let after = c.use_and_seat.new.seats.items in
-    ok_so (HasUsed (Some c.in-Some.prefix) c.apply-reply.result c.args.number before after) _ c.use_and_seat.result
-    (λ came did. used_moved (Some c.in-Some.prefix) c.apply-reply.result c.args.number before after came did) c.use_and_seat.ensures
+    let before = c.args.suspended_machines.now.items in let after = c.use_and_suspended.new.suspended_machines.items in
+    ok_so (HasUsed (Some c.in-Some.prefix) c.apply-reply.result c.args.number before after) _ c.use_and_suspended.result
+    (λ came did. used_moved (Some c.in-Some.prefix) c.apply-reply.result c.args.number before after came did) c.use_and_suspended.ensures

@@ -2,9 +2,9 @@ use Rattle.std.proofs.Common.{◌+◌, ◌∷◌, [], ◌++◌, List, ℕ, drop,
 use Rattle.std.proofs.Math.Seq.{split_at}
 use Rattle.std.proofs.lemmas.List.{take_more}
 use Rattle.std.specs.Prelude.{slice_index_or}
-use Rattle.machine_seat.specs.declared.seat.Seat.{Seat}
+use Rattle.suspended_machine.specs.declared.suspended.SuspendedMachine.{SuspendedMachine}
 use Rattle.tester_run.specs.Driving.{asks_at}
-use Rattle.tester_run.proofs.Seats.{asks_within}
+use Rattle.tester_run.proofs.SuspendedMachines.{asks_within}
 use Rattle.tester_run.proofs.replaying.follow.Goals as goal
 
 pub returns-then-not-asks-clause-followed : goal.returns-then-not-asks-clause-followed
@@ -21,8 +21,8 @@ returns-then-not-asks-clause-followed g c =
 
 pub take-requires-clause-within : goal.take-requires-clause-within
 take-requires-clause-within g c =
-    asks_within c.loop-machine.seats.items c.from-number.result
-    (sym (c.if-not-asks.ensures ∙ ap (λ (seats : List Seat). asks_at seats c.from-number.result) c.deref.ensures.value))
+    asks_within c.loop-machine.suspended_machines.items c.from-number.result
+    (sym (c.if-not-asks.ensures ∙ ap (λ (suspended_machines : List SuspendedMachine). asks_at suspended_machines c.from-number.result) c.deref.ensures.value))
 
 pub loop-machine-preserved : goal.loop-machine-preserved
 loop-machine-preserved g c = record {

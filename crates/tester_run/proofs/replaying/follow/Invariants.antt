@@ -4,8 +4,8 @@ use Rattle.tester_run.proofs.replaying.follow.Given as goal
 
 abbrev pub invariant-loop-machine : goal.invariant-loop-machine
 invariant-loop-machine g l = record {
-  goes_on : GoesOn l.fn.core (g.W.Words.words l.fn.words) l.fn.seats.items l.fn.order
-      l.core (g.W.Words.words l.words) l.seats.items l.order;
-  going : IsGoing l.core l.seats.items l.order;
+  goes_on : GoesOn l.fn.core (g.W.Words.words l.fn.words) l.fn.suspended_machines.items l.fn.order
+      l.core (g.W.Words.words l.words) l.suspended_machines.items l.order;
+  going : IsGoing l.core l.suspended_machines.items l.order;
   followed : l.order ≡ take l.machine-index l.given;
 }

@@ -10,15 +10,15 @@ ends_by_turns : (c : goal.After-drop-arguments-2) → EndsByTurns c.args.pairs g
 ends_by_turns c =
     subst (λ (a : RunArgs). EndsByTurns c.args.pairs a c.in_ok-ended.ended) c.in_ok-arguments.ensures
     (c.in_ok-ended.ensures c.args.pairs c.in_ok-arguments.arguments
-    (starts_at c.args.pairs c.in_ok-arguments.arguments c.in_ok-core.core _ c.in_ok-seat.seat c.in_ok-core.ensures.begun
-    c.new-words.ensures.to_come c.in_ok-seat.ensures.first))
+    (starts_at c.args.pairs c.in_ok-arguments.arguments c.in_ok-core.core _ c.in_ok-suspended.suspended c.in_ok-core.ensures.begun
+    c.new-words.ensures.to_come c.in_ok-suspended.ensures.first))
 
 pub returns-clause-summarizes : goal.returns-clause-summarizes
 returns-clause-summarizes c =
     let ended = c.in_ok-ended.ended in
     let ends = (ends_by_turns c).ends in
-    run_summarizes c.args.pairs gen_arguments ended.core ends.words ended.seats.items ended.order c.summary_of.result ends.leads
-    ends.seated ends.none c.summary_of.ensures.order c.summary_of.ensures.summary c.summary_of.ensures.status
+    run_summarizes c.args.pairs gen_arguments ended.core ends.words ended.suspended_machines.items ended.order c.summary_of.result ends.leads
+    ends.is_suspended ends.none c.summary_of.ensures.order c.summary_of.ensures.summary c.summary_of.ensures.status
 
 pub returns-clause-turns : goal.returns-clause-turns
 returns-clause-turns c =

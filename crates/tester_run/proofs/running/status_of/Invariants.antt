@@ -3,5 +3,5 @@ use Rattle.std.specs.List.{list_all}
 use Rattle.machine_rules.specs.Runs.{has_ended}
 use Rattle.tester_run.proofs.running.status_of.Given as goal
 
-abbrev pub invariant-loop-seat : goal.invariant-loop-seat
-invariant-loop-seat l = list_all (λ seat. has_ended seat.machine.machine.state) (take l.seat-index l.seats) ≡ true
+abbrev pub invariant-loop-suspended : goal.invariant-loop-suspended
+invariant-loop-suspended l = list_all (λ suspended. has_ended suspended.machine.machine.state) (take l.suspended-index l.suspended_machines) ≡ true

@@ -2,5 +2,5 @@ use Rattle.std.proofs.Common.{◌≡◌, take}
 use Rattle.tester_run.specs.Summaries.{total_at}
 use Rattle.tester_run.proofs.summing.total.Given as goal
 
-abbrev pub invariant-loop-seat : goal.invariant-loop-seat
-invariant-loop-seat l = l.total ≡ total_at l.which (take l.seat-index l.seats)
+abbrev pub invariant-loop-suspended : goal.invariant-loop-suspended
+invariant-loop-suspended l = l.total ≡ total_at l.which (take l.suspended-index l.suspended_machines)

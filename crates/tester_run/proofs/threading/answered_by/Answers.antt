@@ -1,7 +1,7 @@
 use Rattle.std.proofs.Common.{subst}
 use Rattle.request_line.specs.declared.ends.Receiver.{Receiver}
 use Rattle.network.specs.declared.post.Post.{Post}
-use Rattle.thread_gathering.specs.declared.service.CoreService.{CoreService}
+use Rattle.threaded_run_laws.specs.declared.service.CoreService.{CoreService}
 use Rattle.tester_run.specs.Serving.{CameBack, IsServed}
 use Rattle.tester_run.proofs.threading.answered_by.Goals as goal
 

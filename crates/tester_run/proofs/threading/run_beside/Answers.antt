@@ -1,7 +1,7 @@
 use Rattle.std.proofs.Common.{sym, subst, ◌∙◌}
 use Rattle.std.specs.Prelude.{IfOk}
 use Rattle.outside.specs.Seeds.{words_from}
-use Rattle.machine_seat.specs.declared.seat.Seat.{Seat}
+use Rattle.suspended_machine.specs.declared.suspended.SuspendedMachine.{SuspendedMachine}
 use Rattle.machine_threads.specs.Teams.{IsTeamOf}
 use Rattle.tester_run.specs.Driving.{EndsFrom}
 use Rattle.tester_run.proofs.Gathered.{cells_are, none_closed, order_is, overs_are, same_line, settled_ends, team_covers}
@@ -35,6 +35,6 @@ returns g c =
     let as_many = c.if-answered-len.false ∙ c.len.ensures ∙ c.in_ok-team.team.ok.0 in
     let first = c.new-machine.result in
     let team = subst (IsTeamOf first) (sym c.in_ok-team.ensures) (c.run_machine-ran.ensures.team (c.is_whole.ensures c.if-not-is_whole.false)) in
-    subst (λ (seat : Seat). IfOk c.settled.result (EndsFrom service.core (words_from service.words) seat)) c.new-machine.ensures.seat
+    subst (λ (suspended : SuspendedMachine). IfOk c.settled.result (EndsFrom service.core (words_from service.words) suspended)) c.new-machine.ensures.suspended
     (settled_ends receiver c.args.sender service c.answered_by-answered.result c.requires.fresh served first c.in_ok-team.team.items c.settled.result
     c.if-answered.false as_many team c.threads_gather_to_a_run.ensures c.settled.ensures.core c.settled.ensures.order c.settled.ensures.settled)

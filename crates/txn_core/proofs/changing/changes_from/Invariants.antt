@@ -8,6 +8,6 @@ use Rattle.txn_core.proofs.changing.changes_from.Given as goal
 abbrev pub invariant-loop-changes : goal.invariant-loop-changes
 invariant-loop-changes l = LeadUpTo l.view.edits.now.mutations (stored_of l.view) (Some l.from) l.changes
 
--- the edges above
+-- the boundaries above
 abbrev pub decreases-loop-changes : goal.decreases-loop-changes
-decreases-loop-changes l = length (filter (key_lt l.from) l.view.edits.now.edges)
+decreases-loop-changes l = length (filter (key_lt l.from) l.view.edits.now.boundaries)

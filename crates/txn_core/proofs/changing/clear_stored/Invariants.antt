@@ -5,4 +5,4 @@ use Rattle.txn_core.proofs.changing.clear_stored.Given as goal
 
 abbrev pub invariant-loop-key : goal.invariant-loop-key
 invariant-loop-key l =
-    IsClearedBefore l.view.edits.now.mutations (stored_of l.view) l.begin (option_copied l.edge) l.key-iterator l.changes
+    IsClearedBefore l.view.edits.now.mutations (stored_of l.view) l.begin (option_copied l.boundary) l.key-iterator l.changes

@@ -4,13 +4,13 @@ use Rattle.key_bytes.specs.Keys.{key_lt}
 use Rattle.key_bytes.specs.Ranges.{has}
 use Rattle.write_map.specs.declared.state.KeyState.{KeyState as Shown}
 use Rattle.write_map.specs.declared.state.KeyState.TheVariants as shown
-use Rattle.ryw_view.specs.Segments.{is_hidden, is_open, AreAlikeUpTo, IsEdgeBelow}
+use Rattle.ryw_view.specs.Segments.{is_hidden, is_open, AreAlikeUpTo, IsBoundaryBelow}
 use Rattle.ryw_view.proofs.Decided.{at_begin, hidden_is, last_met, segment_is}
 use Rattle.txn_core.proofs.Standing.{and_true}
 use Rattle.txn_core.proofs.resting.lies_open.Goals as goal
 use Rattle.txn_core.proofs.resting.lies_open.Goals.{After-is_open}
 
--- a key whose value rests on what is stored is readable
+-- a key whose value depends on what is stored is readable
 open_readable : (answer : Shown) → is_open answer ≡ true → is_hidden answer ≡ false
 open_readable shown.Unmodified rests = refl
 open_readable (shown.Decided value) rests = absurd (true≢false (sym rests))
@@ -21,8 +21,8 @@ open_readable shown.Unreadable rests = absurd (true≢false (sym rests))
 last : (c : After-is_open) → AreAlikeUpTo c.args.edits.now.mutations c.args.range.now.begin c.args.range.now.end
 last c =
     let range = c.args.range.now in let pending = c.args.edits.now in
-    subst (λ edge. MatchOption edge (AreAlikeUpTo pending.mutations range.begin range.end)
-    (λ edge. IsEdgeBelow pending range.begin range.end edge.now)) c.in_default-None.is-1 c.around_below.ensures.edge
+    subst (λ boundary. MatchOption boundary (AreAlikeUpTo pending.mutations range.begin range.end)
+    (λ boundary. IsBoundaryBelow pending range.begin range.end boundary.now)) c.in_default-None.is-1 c.around_below.ensures.boundary
 
 pub returns-in_default-None-clause-readable : goal.returns-in_default-None-clause-readable
 returns-in_default-None-clause-readable c is =

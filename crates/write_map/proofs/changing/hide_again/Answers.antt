@@ -1,15 +1,15 @@
 use Rattle.std.proofs.Common.{refl, ap, ◌∙◌}
 use Rattle.std.specs.BTreeMap.{is_at}
 use Rattle.key_bytes.specs.Keys.{key_cmp}
-use Rattle.edge_map.specs.Edges.{is_edge}
-use Rattle.edge_map.proofs.Edged.{edge_changed}
+use Rattle.range_map.specs.Boundaries.{is_boundary}
+use Rattle.range_map.proofs.Bounded.{boundary_changed}
 use Rattle.write_map.proofs.Edited.{hidden_back}
 use Rattle.write_map.proofs.changing.hide_again.Goals as goal
 
 pub replace-before-requires : goal.replace-before-requires
 replace-before-requires c =
     let key = c.args.key.now in
-    ap (is_edge key) c.replace-taken.ensures.after ∙ edge_changed key (is_at (key_cmp key)) _ c.args.levels.now ∙ c.requires
+    ap (is_boundary key) c.replace-taken.ensures.after ∙ boundary_changed key (is_at (key_cmp key)) _ c.args.levels.now ∙ c.requires
 
 pub returns-clause-given : goal.returns-clause-given
 returns-clause-given c =

@@ -1,8 +1,8 @@
 use Rattle.std.proofs.Common.{refl, ap, ◌∙◌}
 use Rattle.std.specs.BTreeMap.{is_at}
 use Rattle.key_bytes.specs.Keys.{key_cmp}
-use Rattle.edge_map.specs.Edges.{is_edge, split_both}
-use Rattle.edge_map.proofs.Edged.{begin_made, edge_changed}
+use Rattle.range_map.specs.Boundaries.{is_boundary, split_both}
+use Rattle.range_map.proofs.Bounded.{begin_made, boundary_changed}
 use Rattle.write_map.specs.Levels.{spread}
 use Rattle.write_map.proofs.Edited.{hidden_again}
 use Rattle.write_map.proofs.changing.put_state.Goals as goal
@@ -10,8 +10,8 @@ use Rattle.write_map.proofs.changing.put_state.Goals as goal
 pub hide_again-requires : goal.hide_again-requires
 hide_again-requires c =
     let key = c.args.key.now in let split = split_both spread key c.args.next.now c.args.levels.now in
-    ap (is_edge key) c.in_ok-before.ensures.ok
-    ∙ edge_changed key (is_at (key_cmp key)) _ split
+    ap (is_boundary key) c.in_ok-before.ensures.ok
+    ∙ boundary_changed key (is_at (key_cmp key)) _ split
     ∙ begin_made spread key c.args.next.now c.args.levels.now
 
 pub returns-then-before-clause-ok : goal.returns-then-before-clause-ok

@@ -2,7 +2,7 @@ use Rattle.std.proofs.Common.{sym, ap, ◌∙◌}
 use Rattle.std.proofs.lemmas.Bool.{not-true}
 use Rattle.key_bytes.specs.Keys.{key_lt}
 use Rattle.database_rules.specs.States.{covers}
-use Rattle.edge_map.proofs.Edged.{within_backward}
+use Rattle.range_map.proofs.Bounded.{within_backward}
 use Rattle.conflict_ranges.proofs.range_set.RangeSet.start.Goals as goal
 
 pub returns-else-not-is_empty-clause-ok : goal.returns-else-not-is_empty-clause-ok

@@ -1,7 +1,7 @@
 use Rattle.std.proofs.Common.{◌≡◌, ◌≤◌, ℕ, max, List, refl, sym, ap, subst, ◌∙◌}
 use Rattle.std.specs.FinMap.{contains_key, get, insert}
 use Rattle.std.specs.Option.{unwrap_or}
-use Rattle.edge_map.specs.Edges.{held}
+use Rattle.range_map.specs.Boundaries.{held}
 use Rattle.conflict_ranges.specs.Writes.{version_in, newest_at, Index, Keeps}
 use Rattle.conflict_ranges.proofs.Versions.{known, known_at_least_0, known_now}
 use Rattle.conflict_ranges.proofs.write_index.WriteIndex.add_key.Goals as goal
@@ -38,7 +38,7 @@ returns-clause-kept c =
     c.self.view_is (record {
       newest = refl;
       keys = λ q there. ap (λ keys. contains_key keys q) (keys_now c) ∙ known c.self.inside.keys c.args.key.now (version_of c) q there;
-      edges = λ edge there. there;
+      boundaries = λ boundary there. there;
     })
 
 pub returns-clause-known : goal.returns-clause-known

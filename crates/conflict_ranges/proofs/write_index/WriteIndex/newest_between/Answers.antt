@@ -1,5 +1,5 @@
 use Rattle.std.proofs.Common.{is_lt, true≢false, sym, ap, subst, ◌∙◌}
-use Rattle.edge_map.proofs.Edged.{within_backward}
+use Rattle.range_map.proofs.Bounded.{within_backward}
 use Rattle.conflict_ranges.specs.Writes.{Index}
 use Rattle.conflict_ranges.proofs.Versions.{above_one, reached_one, above_both, reached_both, IsAboveAll, IsReached}
 use Rattle.conflict_ranges.proofs.write_index.WriteIndex.newest_between.Goals as goal

@@ -8,5 +8,5 @@ use Rattle.ryw_view.proofs.view.View.first_stored.Goals as goal
 
 pub returns : goal.returns
 returns c =
-    between_met (stored_of c.args.self.now) c.args.from.now (option_copied c.args.edge) (option_map deref_pair c.next.result)
+    between_met (stored_of c.args.self.now) c.args.from.now (option_copied c.args.boundary) (option_map deref_pair c.next.result)
     (ap first (sym c.stored_from.ensures) ∙ sym (option_map-TakesFirst deref_pair _ _ _ c.next.ensures.steps))

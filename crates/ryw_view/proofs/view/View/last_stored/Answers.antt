@@ -8,7 +8,7 @@ use Rattle.ryw_view.proofs.view.View.last_stored.Goals as goal
 
 pub returns : goal.returns
 returns c =
-    let database = stored_of c.args.self.now in let until = c.args.until.now in let edge = option_copied c.args.edge in
+    let database = stored_of c.args.self.now in let until = c.args.until.now in let boundary = option_copied c.args.boundary in
     let pair = option_map deref_pair c.in-Ok.pair in
-    subst (IsFirstMet database until true edge) (sym c.inside.ensures)
-    (met_inside database until true edge pair (last_met database until pair c.in-Ok.ensures.ok.1))
+    subst (IsFirstMet database until true boundary) (sym c.inside.ensures)
+    (met_inside database until true boundary pair (last_met database until pair c.in-Ok.ensures.ok.1))

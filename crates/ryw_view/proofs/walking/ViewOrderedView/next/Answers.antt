@@ -12,7 +12,7 @@ use Rattle.ryw_view.proofs.walking.ViewOrderedView.next.Goals as goal
 pub first_in-requires-clause-segment : goal.first_in-requires-clause-segment
 first_in-requires-clause-segment c =
     let edits = c.args.self.now.edits.now in let next = c.around.ensures in
-    segment_up edits.mutations edits.edges c.loop-pair.from.now (option_copied c.around.result.1) next.edge next.alike next.single
+    segment_up edits.mutations edits.boundaries c.loop-pair.from.now (option_copied c.around.result.1) next.boundary next.alike next.single
 
 pub returns-in-Some : goal.returns-in-Some
 returns-in-Some c =
@@ -23,21 +23,21 @@ returns-in-Some c =
 
 pub loop-pair-smaller : goal.loop-pair-smaller
 loop-pair-smaller c =
-    fewer_above c.args.self.now.edits.now.edges c.loop-pair.from.now c.in-Some-edge.edge.now
-    (sym c.around.ensures.edge ∙ ap option_copied c.in-Some-edge.is)
+    fewer_above c.args.self.now.edits.now.boundaries c.loop-pair.from.now c.in-Some-boundary.boundary.now
+    (sym c.around.ensures.boundary ∙ ap option_copied c.in-Some-boundary.is)
 
 pub loop-pair-preserved : goal.loop-pair-preserved
 loop-pair-preserved c =
-    let view = seen_of c.args.self.now in let from = c.loop-pair.from.now in let edge = c.in-Some-edge.edge.now in
-    passed_segment view c.args.key.now from false c.loop-pair.invariant edge
-    (first_passes (key_lt from) c.args.self.now.edits.now.edges edge (sym c.around.ensures.edge ∙ ap option_copied c.in-Some-edge.is))
-    (subst (λ edge. IsFirstMet view from false (option_copied edge) None) c.in-Some-edge.is
+    let view = seen_of c.args.self.now in let from = c.loop-pair.from.now in let boundary = c.in-Some-boundary.boundary.now in
+    passed_segment view c.args.key.now from false c.loop-pair.invariant boundary
+    (first_passes (key_lt from) c.args.self.now.edits.now.boundaries boundary (sym c.around.ensures.boundary ∙ ap option_copied c.in-Some-boundary.is))
+    (subst (λ boundary. IsFirstMet view from false (option_copied boundary) None) c.in-Some-boundary.is
     (rw c.in_default.is at (c.in_ok-pair.ensures {u = tt})))
 
-pub returns-in_default-edge : goal.returns-in_default-edge
-returns-in_default-edge c =
+pub returns-in_default-boundary : goal.returns-in_default-boundary
+returns-in_default-boundary c =
     let view = seen_of c.args.self.now in let key = c.args.key.now in let from = c.loop-pair.from.now in
     met_first view key false None
     (met_to_the_end view key from false c.loop-pair.invariant None
-    (subst (λ edge. IsFirstMet view from false (option_copied edge) None) c.in_default-edge.is
+    (subst (λ boundary. IsFirstMet view from false (option_copied boundary) None) c.in_default-boundary.is
     (rw c.in_default.is at (c.in_ok-pair.ensures {u = tt}))))

@@ -9,6 +9,6 @@ use Rattle.ryw_view.proofs.walking.ViewOrderedView.next.Given as goal
 abbrev pub invariant-loop-pair : goal.invariant-loop-pair
 invariant-loop-pair l = HasPassed (seen_of l.self) l.key l.from false
 
--- the edges above
+-- the boundaries above
 abbrev pub decreases-loop-pair : goal.decreases-loop-pair
-decreases-loop-pair l = length (filter (key_lt l.from) l.self.edits.now.edges)
+decreases-loop-pair l = length (filter (key_lt l.from) l.self.edits.now.boundaries)

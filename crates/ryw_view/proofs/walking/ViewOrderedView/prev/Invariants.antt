@@ -6,9 +6,9 @@ use Rattle.ryw_view.proofs.Passed.{HasPassed}
 use Rattle.ryw_view.proofs.walking.ViewOrderedView.prev.Given as goal
 
 -- the view has no key that the walk passed
-abbrev pub invariant-loop-edge : goal.invariant-loop-edge
-invariant-loop-edge l = HasPassed (seen_of l.self) l.key l.until true
+abbrev pub invariant-loop-boundary : goal.invariant-loop-boundary
+invariant-loop-boundary l = HasPassed (seen_of l.self) l.key l.until true
 
--- the edges below
-abbrev pub decreases-loop-edge : goal.decreases-loop-edge
-decreases-loop-edge l = length (filter (λ edge. key_lt edge l.until) l.self.edits.now.edges)
+-- the boundaries below
+abbrev pub decreases-loop-boundary : goal.decreases-loop-boundary
+decreases-loop-boundary l = length (filter (λ boundary. key_lt boundary l.until) l.self.edits.now.boundaries)

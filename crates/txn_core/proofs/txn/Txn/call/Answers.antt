@@ -5,7 +5,7 @@ use mir.Syntax.{w64}
 use Rattle.std.proofs.lemmas.Result.{IfOk-weaker, on_err_weaker}
 use Rattle.database_rules.specs.Databases.{Set, Clear, ClearRange}
 use Rattle.database_rules.specs.Atomics.{atomic_named}
-use Rattle.database_rules.specs.Transactions.{phase_code, set_code, clear_code, range_code, atomic_code, set_version_code, with_read_range, with_write_range, silenced}
+use Rattle.database_rules.specs.Transactions.{phase_code, set_code, clear_code, range_code, atomic_code, set_version_code, with_read_range, with_write_range, with_write_conflict_disabled}
 use Rattle.fdb_calls.specs.declared.Reply.TheVariants as reply
 use Rattle.fdb_calls.specs.Answers.{Answered}
 use Rattle.fdb_calls.specs.Calling.{Called, called, set_read_version_called}
@@ -136,7 +136,7 @@ unfolding called
 returns-in-NoWriteConflict-clause-ok c = IfOk-weaker c.of_write-in-NoWriteConflict.result _ _ (λ answer tells t setting stands keeps.
     subst (λ (made : Called). Answers answer c.no_write_conflict.new.self c.args.store.now c.args.index.now setting made) (sym (ap (called setting c.args.life t) c.in-NoWriteConflict.is))
     (told_in_place (λ _. reply.Done) c.no_write_conflict.result answer c.no_write_conflict.new.self c.args.store.now c.args.index.now setting t _
-    (does_in_place (phase_code t.phase) t (silenced t) reply.Done) keeps (c.no_write_conflict.ensures t stands) tells)) c.of_write-in-NoWriteConflict.ensures.ok
+    (does_in_place (phase_code t.phase) t (with_write_conflict_disabled t) reply.Done) keeps (c.no_write_conflict.ensures t stands) tells)) c.of_write-in-NoWriteConflict.ensures.ok
 
 pub returns-in-NoWriteConflict-clause-err : goal.returns-in-NoWriteConflict-clause-err
 returns-in-NoWriteConflict-clause-err c = on_err_weaker c.of_write-in-NoWriteConflict.result (λ refused t setting stands keeps.

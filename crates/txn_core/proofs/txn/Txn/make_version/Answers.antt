@@ -11,7 +11,7 @@ use Rattle.conflict_ranges.specs.Writes.{newest_at}
 use Rattle.fdb_calls.specs.Calling.{commit_of, next_version}
 use Rattle.version_store.specs.Changed.{changed}
 use Rattle.version_store.specs.Versions.{at, last_of}
-use Rattle.txn_core.specs.Stands.{StandsFor, declared_in}
+use Rattle.txn_core.specs.Stands.{StandsFor, write_conflicts_in}
 use Rattle.txn_core.proofs.States.{same_filled_maps}
 use Rattle.txn_core.proofs.Stored.{keeps_same, keeps_next}
 use Rattle.txn_core.proofs.txn.Txn.make_version.Goals as goal
@@ -27,13 +27,13 @@ returns-clause-ok c setting t stands keeps =
     let made = ap (λ n. n + 1) (c.last-version.ensures ∙ sym reserved.last) in
     let base = reserved.reads (last_of c.reserve.new.self) ∙ ap (at store) reserved.last in (
       subst (λ v. StandsFor c.tried.new.self (with_phase t (phase.Tried (tried.Version v)))) version (c.tried.ensures t stands),
-      keeps_next c.reserve.new.self c.install.new.self index c.declare.new.index setting
+      keeps_next c.reserve.new.self c.install.new.self index c.add_write_conflicts.new.index setting
           (commit_of (stamp_of (next_version setting)) setting t) same c.install.ensures.last c.install.ensures.before
           (c.install.ensures.after ∙ ap (changed c.in_ok-changes.changes) base ∙ (c.in_ok-changes.ensures {u = tt}).leads
           ∙ ap (λ s. do_all (all_filled s kept.mutations) (at store (last_of store))) stamp
           ∙ same_filled_maps kept.mutations (writes_of t) (stamp_of (next_version setting)) stands.mutations ten (at store (last_of store))
           ∙ sym (ap (do_all (all_filled (stamp_of (next_version setting)) (writes_of t))) base))
           (λ key.
-          let declared = ap (λ s. covers (declared_in s kept) key) stamp ∙ stands.declared (stamp_of (next_version setting)) key ten in
-          (c.in_ok-declare.ensures {u = tt}).given key ∙ (λ i. if declared i then made i else newest_at index key)),
+          let write_conflicts = ap (λ s. covers (write_conflicts_in s kept) key) stamp ∙ stands.write_conflicts (stamp_of (next_version setting)) key ten in
+          (c.in_ok-add_write_conflicts.ensures {u = tt}).given key ∙ (λ i. if write_conflicts i then made i else newest_at index key)),
     )

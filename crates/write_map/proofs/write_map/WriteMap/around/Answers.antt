@@ -1,7 +1,7 @@
 use Rattle.std.proofs.Common.{ap, subst, ◌∙◌}
 use Rattle.database_rules.specs.States.{state_under}
-use Rattle.edge_map.specs.Edges.{IsBelowEdge}
-use Rattle.edge_map.proofs.Neighbours.{held-up_to}
+use Rattle.range_map.specs.Boundaries.{IsBelowBoundary}
+use Rattle.range_map.proofs.Neighbours.{held-up_to}
 use Rattle.write_map.specs.Mutations.{mutations_of}
 use Rattle.write_map.specs.Pending.{AreAlike, is_single_state}
 use Rattle.write_map.proofs.Alike.{alike_held, next_single}
@@ -12,7 +12,7 @@ returns-clause-alike c asked from below =
     let levels = c.self.inside.levels in let key = c.args.key.now in
     subst (λ pending. AreAlike pending.mutations key asked) c.self.view_is
     (alike_held (mutations_of c.self.inside.log.items) levels c.self.invariant.levels key asked
-    (held-up_to levels key asked from (subst (IsBelowEdge asked) c.around.ensures.next below)))
+    (held-up_to levels key asked from (subst (IsBelowBoundary asked) c.around.ensures.next below)))
 
 pub returns-clause-single : goal.returns-clause-single
 returns-clause-single c single =

@@ -1,7 +1,7 @@
 use Rattle.std.proofs.Common.{◌++◌, ◌∷◌, [], refl, sym, subst}
 use Rattle.key_bytes.specs.Keys.{within}
 use Rattle.database_rules.specs.Databases.{ClearRange}
-use Rattle.edge_map.specs.Edges.{changed}
+use Rattle.range_map.specs.Boundaries.{changed}
 use Rattle.write_map.specs.Levels.{cleared, IsKept}
 use Rattle.write_map.specs.Mutations.{mutations_of}
 use Rattle.write_map.proofs.Kept.{kept_plain}

@@ -1,6 +1,6 @@
 use Rattle.std.proofs.Common.{true, ◌++◌, ◌∷◌, [], sym, subst}
 use Rattle.key_bytes.specs.Keys.{within}
-use Rattle.edge_map.specs.Edges.{changed}
+use Rattle.range_map.specs.Boundaries.{changed}
 use Rattle.write_map.specs.Levels.{hidden, IsKept}
 use Rattle.write_map.specs.Mutations.{mutation_of, mutations_of}
 use Rattle.write_map.proofs.Kept.{hidden_stamped, kept_stamped}

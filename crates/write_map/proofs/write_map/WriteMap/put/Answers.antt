@@ -1,7 +1,7 @@
 use Rattle.std.proofs.Common.{◌++◌, ◌∷◌, [], refl, sym, ap, subst, ◌∙◌}
 use Rattle.key_bytes.specs.Keys.{after}
 use Rattle.database_rules.specs.States.{state_after, state_under}
-use Rattle.edge_map.specs.Edges.{split_both}
+use Rattle.range_map.specs.Boundaries.{split_both}
 use Rattle.write_map.specs.Levels.{spread, IsKept}
 use Rattle.write_map.specs.Mutations.{mutation_of, mutations_of}
 use Rattle.write_map.proofs.Edited.{rising_before}

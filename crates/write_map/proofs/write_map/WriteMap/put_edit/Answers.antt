@@ -1,7 +1,7 @@
 use Rattle.std.proofs.Common.{◌≡◌, ◌++◌, ◌∷◌, [], true, refl, sym, ap, subst, ◌∙◌}
 use Rattle.database_rules.specs.Databases.{Atomic}
 use Rattle.database_rules.specs.States.{state_under}
-use Rattle.edge_map.specs.Edges.{held}
+use Rattle.range_map.specs.Boundaries.{held}
 use Rattle.write_map.specs.Levels.{state_of, IsKept}
 use Rattle.write_map.specs.Mutations.{mutations_of}
 use Rattle.write_map.specs.Pending.{IsDepends, is_single_state}

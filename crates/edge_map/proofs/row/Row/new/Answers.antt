@@ -1,5 +1,0 @@
-use Rattle.edge_map.proofs.Lined.{rising_none}
-use Rattle.edge_map.proofs.row.Row.new.Goals as goal
-
-pub invariant_of-result : goal.invariant_of-result
-invariant_of-result g c = rising_none c.new.result.items c.new.ensures.items

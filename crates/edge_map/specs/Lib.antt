@@ -1,5 +1,0 @@
-pub mod Edges
-pub mod FirstTwo
-pub mod Halves
-pub mod Left
-pub mod Places

@@ -1,0 +1,11 @@
+pub mod Around
+pub mod Bounded
+pub mod Filled
+pub mod FirstTwo
+pub mod Held
+pub mod Lined
+pub mod Neighbours
+pub mod Placed
+pub mod Searched
+pub mod Spans
+pub mod Walked

@@ -1,0 +1,25 @@
+use Rattle.std.proofs.Common.{ap, sym, ◌∙◌}
+use Rattle.std.specs.List.{filter}
+use Rattle.std.specs.Option.{option_map}
+use Rattle.key_bytes.specs.Keys.{key_lt}
+use Rattle.key_map.specs.Ends.{last}
+use Rattle.key_map.proofs.Spans.{last-append}
+use Rattle.range_map.specs.Boundaries.{boundaries_of}
+use Rattle.range_map.proofs.Spans.{last-below}
+use Rattle.range_map.proofs.tree.Tree.prev.Goals as goal
+
+pub returns-in-Some : goal.returns-in-Some
+returns-in-Some g c =
+    sym (ap (option_map (λ e. e.0))
+    (ap last (c.in-Some.ensures {u = tt}).steps
+    ∙ last-append c.next_back.new.self (c.in-Some.boundary.now, c.in-Some.field-0-1.now)))
+    ∙ last-below c.self.inside.base c.self.inside.levels.items c.self.inside.places.entries c.args.key.now c.range.result
+    (c.range.ensures.between tt)
+    ∙ ap (λ boundaries. last (filter (λ boundary. key_lt boundary c.args.key.now) (boundaries_of boundaries))) c.self.view_is
+
+pub returns-in-None : goal.returns-in-None
+returns-in-None g c =
+    sym (ap (λ es. option_map (λ e. e.0) (last es)) (c.in-None.ensures {u = tt}).steps.0)
+    ∙ last-below c.self.inside.base c.self.inside.levels.items c.self.inside.places.entries c.args.key.now c.range.result
+    (c.range.ensures.between tt)
+    ∙ ap (λ boundaries. last (filter (λ boundary. key_lt boundary c.args.key.now) (boundaries_of boundaries))) c.self.view_is

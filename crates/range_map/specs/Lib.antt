@@ -1,0 +1,5 @@
+pub mod Boundaries
+pub mod FirstTwo
+pub mod Halves
+pub mod Left
+pub mod Places
