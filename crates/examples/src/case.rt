@@ -1,6 +1,6 @@
 //! A case of the program: the words and the input that it is run with, and what it is to answer.
 
-use crate::blocks::{is_line_feed, value_of};
+use case_files::blocks::{is_line_feed, value_of};
 use std::alloc::{AllocError, Global};
 use std::fs;
 use std::rt::Files;

@@ -3,24 +3,12 @@
 //! program ends with status 1 where one does.
 #![tactic(auto)]
 
-mod asking;
-mod blocks;
 mod case;
-mod counted_words;
-mod directing;
-mod loading;
-mod names;
-mod report;
 mod running;
-mod session;
-mod spell_fault;
-mod spelling;
-mod telling;
 
-use report::Report;
+use case_files::{Report, blocks, names};
 use running::run_case;
-use session::run_requests;
-use std::alloc::{AllocError, Global};
+use std::alloc::AllocError;
 use std::process::ExitCode;
 use std::rt::Files;
 use std::sync::Wait;
@@ -28,33 +16,19 @@ use std::thread::Threads;
 use std::{fs, io};
 
 fn main(rt: HostRuntime) -> io::Result<ExitCode> {
-    let of_program = run_all_cases(&rt)?;
-    let of_requests = run_all_requests(&rt)?;
-    Ok(ExitCode::from(if of_program && of_requests { 0 } else { 1 }))
+    let are_same = run_all(&rt)?;
+    Ok(ExitCode::from(if are_same { 0 } else { 1 }))
 }
 
-// Runs each file of cases of the program, and returns whether none differs.
-fn run_all_cases<
-    R: Files + Print + Threads + Wait + Sync + AllocGlobal + Clone + Drop + Send + 'static,
->(rt: &R) -> io::Result<bool> {
+// Runs each file of cases, and returns whether none differs.
+fn run_all<R: Files + Print + Threads + Wait + Sync + AllocGlobal + Clone + Drop + Send + 'static>(
+    rt: &R,
+) -> io::Result<bool> {
     let mut are_same = true;
     let files = names::ending_with(rt, ".cases")?;
     for file in files.iter() {
         let text = fs::read(rt, file.as_str())?;
         let report = run_cases(rt, text.as_slice())?;
-        are_same = are_same && report.is_same();
-        print(rt, file.as_str(), &report)?;
-    }
-    Ok(are_same)
-}
-
-// The same of each file of cases of requests.
-fn run_all_requests<R: Files + Print + AllocGlobal + Clone + Drop>(rt: &R) -> io::Result<bool> {
-    let mut are_same = true;
-    let files = names::ending_with(rt, ".requests")?;
-    for file in files.iter() {
-        let text = fs::read(rt, file.as_str())?;
-        let report = run_sessions(rt.alloc(), text.as_slice())?;
         are_same = are_same && report.is_same();
         print(rt, file.as_str(), &report)?;
     }
@@ -69,7 +43,7 @@ fn print(rt: &impl Print, name: &str, report: &Report) -> io::Result<()> {
     )
 }
 
-// Runs each case of the program in a text.
+// Runs each case in a text.
 fn run_cases<R: Files + Threads + Wait + Sync + AllocGlobal + Clone + Drop + Send + 'static>(
     rt: &R,
     text: &[u8],
@@ -79,18 +53,6 @@ fn run_cases<R: Files + Threads + Wait + Sync + AllocGlobal + Clone + Drop + Sen
     for place in 0..starts.len() {
         let block = blocks::block(text, starts.as_slice(), place);
         let difference = run_case(rt, block)?;
-        report.note(blocks::name_of(block), difference.as_ref())?;
-    }
-    Ok(report)
-}
-
-// Runs each case of requests in a text.
-fn run_sessions(alloc: Global, text: &[u8]) -> Result<Report, AllocError> {
-    let mut report = Report::new(alloc);
-    let starts = blocks::starts(alloc, text)?;
-    for place in 0..starts.len() {
-        let block = blocks::block(text, starts.as_slice(), place);
-        let difference = run_requests(alloc, block)?;
         report.note(blocks::name_of(block), difference.as_ref())?;
     }
     Ok(report)

@@ -1,9 +1,9 @@
 //! What a case of requests begins with: the pairs of the database, and the random words.
 
 use crate::asking::{bytes, pair_of, word};
-use crate::blocks::is_line_feed;
 use crate::spell_fault::SpellFault;
 use crate::spelling::{number, read_words};
+use case_files::blocks::is_line_feed;
 use client_core::Core;
 use command_rules::RunArgs;
 use key_bytes::{Bytes, Pair, Pairs};

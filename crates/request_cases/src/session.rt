@@ -1,12 +1,12 @@
 //! A case of requests: a core takes them one at a time, and each reply is compared with the one that is wanted.
 
 use crate::asking::{bytes, read_request, word};
-use crate::blocks::{is_line_feed, value_of};
 use crate::counted_words::CountedWords;
 use crate::loading::{load, read_random};
 use crate::spell_fault::SpellFault;
 use crate::spelling::{number, read_words};
 use crate::telling::tell;
+use case_files::blocks::{is_line_feed, value_of};
 use client_core::Core;
 use directory_types::Layer;
 use fdb_calls::{Reply, Request};

@@ -1,0 +1,58 @@
+//! Runs the cases of requests in `data/`, whose README says how a case is written: a core takes the requests of each one after the
+//! other, and each reply is compared with the one that is wanted. A line is printed for each file of cases: how many passed. One
+//! more is printed for each case that differs, and the program ends with status 1 where one does.
+#![tactic(auto)]
+
+mod asking;
+mod counted_words;
+mod directing;
+mod loading;
+mod session;
+mod spell_fault;
+mod spelling;
+mod telling;
+
+use case_files::{Report, blocks, names};
+use session::run_requests;
+use std::alloc::{AllocError, Global};
+use std::process::ExitCode;
+use std::rt::Files;
+use std::{fs, io};
+
+fn main(rt: HostRuntime) -> io::Result<ExitCode> {
+    let are_same = run_all(&rt)?;
+    Ok(ExitCode::from(if are_same { 0 } else { 1 }))
+}
+
+// Runs each file of cases, and returns whether none differs.
+fn run_all<R: Files + Print + AllocGlobal + Clone + Drop>(rt: &R) -> io::Result<bool> {
+    let mut are_same = true;
+    let files = names::ending_with(rt, ".requests")?;
+    for file in files.iter() {
+        let text = fs::read(rt, file.as_str())?;
+        let report = run_cases(rt.alloc(), text.as_slice())?;
+        are_same = are_same && report.is_same();
+        print(rt, file.as_str(), &report)?;
+    }
+    Ok(are_same)
+}
+
+fn print(rt: &impl Print, name: &str, report: &Report) -> io::Result<()> {
+    let (passed, all) = (report.passed, report.all);
+    println!(rt;
+        "{name}: {passed} of {all} passed{}",
+        report.differences.as_str()
+    )
+}
+
+// Runs each case in a text.
+fn run_cases(alloc: Global, text: &[u8]) -> Result<Report, AllocError> {
+    let mut report = Report::new(alloc);
+    let starts = blocks::starts(alloc, text)?;
+    for place in 0..starts.len() {
+        let block = blocks::block(text, starts.as_slice(), place);
+        let difference = run_requests(alloc, block)?;
+        report.note(blocks::name_of(block), difference.as_ref())?;
+    }
+    Ok(report)
+}
