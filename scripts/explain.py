@@ -74,21 +74,26 @@ def pair_of(fields):
 
 
 def lines_of(path):
-    """Yields the kind and the fields of each line of a file."""
+    """Yields the lines of a file."""
     with open(path, encoding="latin-1", newline="\n") as file:
-        for line in file:
-            yield line[0], line[2:].rstrip("\n")
+        yield from file
 
 
-def read_pairs(path):
-    """Reads the pairs of a script; of two lines with one key the later stays."""
-    return dict(pair_of(fields) for kind, fields in lines_of(path) if kind == "K")
+def fields_of(lines):
+    """Yields the kind and the fields of each line."""
+    for line in lines:
+        yield line[:1], line[2:].rstrip("\n")
 
 
-def read_dump(path):
-    """Reads a dump."""
+def pairs_of(fields_of_lines):
+    """Returns the pairs of a script; of two lines with one key the later stays."""
+    return dict(pair_of(fields) for kind, fields in fields_of_lines if kind == "K")
+
+
+def dump_of(fields_of_lines):
+    """Returns the dump that these lines are."""
     dump = Dump([], [], {})
-    for kind, fields in lines_of(path):
+    for kind, fields in fields_of_lines:
         if kind == "M":
             _, end, number, prefix = fields.split(" ", 3)
             dump.machines.append(Machine(end, int(number), unprintable(prefix), collections.defaultdict(list), collections.defaultdict(list)))
@@ -159,9 +164,9 @@ def instructions_of(pairs, prefix):
     return sorted((key, value) for key, value in pairs.items() if front + b"\x00" <= key < front + b"\xff")
 
 
-def notes_of(machine, number):
+def notes_of(machine, number, has_places=True):
     """Returns what is noted beside an instruction: the items that it left, and the errors that these don't tell."""
-    left = [f"leaves [{place}] {item_text(item)}" for place, item in machine.items.get(number, [])]
+    left = [f"leaves {f'[{place}] ' if has_places else ''}{item_text(item)}" for place, item in machine.items.get(number, [])]
     errors = [f"error {error_text(word)}" for word in machine.errors.get(number, [])]
     return left + [it for it in errors if not any(note.endswith(it) for note in left)]
 
@@ -221,7 +226,8 @@ def main(words):
     if len(words) != 2:
         sys.exit(__doc__)
     signal.signal(signal.SIGPIPE, signal.SIG_DFL)
-    for line in explained(read_pairs(words[0]), read_dump(words[1])):
+    script, dump = (fields_of(lines_of(path)) for path in words)
+    for line in explained(pairs_of(script), dump_of(dump)):
         print(line)
 
 
