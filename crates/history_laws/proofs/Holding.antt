@@ -1,22 +1,21 @@
 -- What is held of a transaction stays held.
-use Rattle.std.proofs.Common.{◌≡◌, ℕ, ◌≤◌, Bool, true, false, List, [], ◌∷◌, ◌++◌, length, Option, Some, None, refl, sym, ap, subst, ◌∙◌, length-append, arith}
+use Rattle.std.proofs.Common.{◌≡◌, ℕ, ◌≤◌, Bool, true, false, List, [], ◌∷◌, ◌++◌, Option, Some, None, refl, sym, ap, subst, ◌∙◌, length-append, arith}
 use Rattle.std.specs.Prelude.{not, unwrap_or}
-use Rattle.std.specs.FinMap as finite
-use Rattle.std.proofs.lemmas.Bool.{and_from, cond_both, or_left, or_right}
-use Rattle.std.proofs.lemmas.List.{append_assoc, append-nil, take-append-le}
+use Rattle.std.proofs.lemmas.Bool.{and_from, or_left, or_right}
+use Rattle.std.proofs.lemmas.List.{append_assoc, append-nil}
 use Rattle.key_bytes.specs.declared.range.KeyRange.{KeyRange}
 use Rattle.database_rules.specs.declared.Phase.{Phase}
-use Rattle.database_rules.specs.declared.Phase.TheVariants as phase
 use Rattle.database_rules.specs.Databases.{Mutation}
-use Rattle.database_rules.specs.Histories.{History, Script, Setting, Wrote, HasRead, Granted, after_commits, at, last, written}
+use Rattle.database_rules.specs.Histories.{History, Script, Setting, Wrote, HasRead, Granted, last, written}
 use Rattle.database_rules.specs.Intervals.{added}
 use Rattle.database_rules.specs.Reads.{Read, Answer, answer}
 use Rattle.key_bytes.specs.Ranges.{has}
 use Rattle.database_rules.specs.States.{covers, seen}
-use Rattle.database_rules.specs.Transactions.{Transaction, fresh, writes_of, version_in, view, map_below, is_tried, with_version, with_read, with_mutation, with_range, with_read_range, with_write_range, with_phase, with_granted, with_write_conflict_disabled, cancelled}
+use Rattle.database_rules.specs.Transactions.{Transaction, fresh, writes_of, version_in, view, map_below, with_version, with_read, with_mutation, with_range, with_read_range, with_write_range, with_phase, with_granted, with_write_conflict_disabled}
 use Rattle.database_rules.proofs.AddingConflicts.{written_wrote, written_read, written_granted}
 use Rattle.database_rules.proofs.Ranges.{covers_with_range}
 use Rattle.database_rules.proofs.States.{covers-append}
+use Rattle.step_laws.proofs.Chains.{at_before}
 use Rattle.history_laws.specs.Small.{is_small, are_small}
 use Rattle.history_laws.specs.Whole.{EachRead}
 use Rattle.history_laws.specs.Held.{IsAnsweredAt, IsHeld}
@@ -45,10 +44,6 @@ each-append P before (HasRead read given ∷ first) second each other = (each.0,
 each-append P before (Granted space number from ∷ first) second each other = each-append P before first second each other
 
 -- ---- what a read was answered
-
--- commits that come later leave the database at a version as it was
-pub at_before : (before more : History) (version : ℕ) → version ≤ length before → at (before ++ more) version ≡ at before version
-at_before before more version taken = ap (λ commits. after_commits commits finite.empty) (take-append-le version before more taken)
 
 -- a read was answered so among more commits too
 answered_later : (before more : History) (version : Option ℕ) (rests : List KeyRange) (writes : List Mutation) (read : Read) (given : Answer)
@@ -201,9 +196,3 @@ write_conflict_disabled_held before transaction held = record { answered = held.
 pub phase_held : (before : History) (transaction : Transaction) (phase : Phase) → IsHeld before transaction
     → IsHeld before (with_phase transaction phase)
 phase_held before transaction phase held = record { answered = held.answered; small = held.small; from_one = held.from_one }
-
--- it is cancelled
-pub cancelled_held : (before : History) (transaction : Transaction) → IsHeld before transaction → IsHeld before (cancelled transaction)
-cancelled_held before transaction held =
-    cond_both (is_tried transaction.phase) transaction (with_phase transaction phase.Cancelled) (IsHeld before)
-    (λ tried. held) (λ untried. phase_held before transaction phase.Cancelled held)

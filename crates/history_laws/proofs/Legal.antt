@@ -14,7 +14,7 @@ use Rattle.history_laws.specs.Small.{IsBelowTop, are_small}
 use Rattle.history_laws.specs.Held.{AgreeOn, IsAnswered, IsSound, AreSound}
 use Rattle.history_laws.specs.Steps.{AreReachedLegal}
 use Rattle.history_laws.specs.Whole.{EachRead, RunsWhole, fell_between, AreLegal, IsOneLegalHistory, AreRunsLegal}
-use Rattle.history_laws.proofs.Reaching.{runs_reached}
+use Rattle.history_laws.proofs.Worlds.{runs_reached}
 use Rattle.history_laws.proofs.Reading.{read_local}
 use Rattle.history_laws.proofs.Smallness.{do_all_small, seen_small}
 use Rattle.history_laws.proofs.Unmet.{IsRanged, AreRanged, ranged-drop, commits_unmet}

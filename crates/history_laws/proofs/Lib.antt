@@ -8,7 +8,6 @@ pub mod Smallness
 pub mod Unmet
 pub mod Legal
 pub mod Holding
-pub mod Stepping
-pub mod Directing
-pub mod Reaching
+pub mod Kept
+pub mod Worlds
 pub mod Rows

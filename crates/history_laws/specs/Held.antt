@@ -1,5 +1,5 @@
 -- What holds of each transaction and of each commit of a history that is reached.
-use Rattle.std.specs.Prelude.{◌≡◌, ℕ, ◌≤◌, ⊤, true, false, List, [], ◌∷◌, ◌++◌, length, Option, Some, None}
+use Rattle.std.specs.Prelude.{◌≡◌, ℕ, ◌≤◌, true, false, List, [], ◌∷◌, ◌++◌, length, Option, Some, None}
 use Rattle.std.specs.List.{list_any}
 use Rattle.std.specs.FinMap as finite
 use Rattle.key_bytes.specs.declared.range.KeyRange.{KeyRange}
@@ -9,8 +9,8 @@ use Rattle.database_rules.specs.Intervals.{added}
 use Rattle.database_rules.specs.Reads.{Read, Answer, answer}
 use Rattle.database_rules.specs.States.{covers, seen, touches}
 use Rattle.database_rules.specs.Transactions.{Transaction, writes_of}
-use Rattle.fdb_calls.specs.Calling.{Called}
-use Rattle.machine_rules.specs.Worlds.{World, Transactions}
+use Rattle.machine_rules.specs.Worlds.{World}
+use Rattle.step_laws.specs.Held.{AreEach, HoldsIn}
 use Rattle.history_laws.specs.Small.{are_small}
 use Rattle.history_laws.specs.Whole.{EachRead}
 
@@ -48,14 +48,7 @@ pub record IsSound (before : History) (commit : Commit) : Type 0 where
 
 -- each of these commits, where such commits came before them
 abbrev pub AreSound : (before : History) → List Commit → Type 0
-AreSound before [] = ⊤
-AreSound before (commit ∷ commits) = IsSound before commit × AreSound (before ++ commit ∷ []) commits
-
--- what a call leaves among the commits so far: a transaction that is held among them, and one commit at most, which is sound
-pub record IsGood (before : History) (called : Called) : Type 0 where
-  pub held : IsHeld before called.transaction
-  pub sound : AreSound before called.commits
-  pub few : length called.commits ≤ 1
+AreSound = AreEach IsSound
 
 -- a first commit, of a transaction that read nothing and put values under keys less than FF alone, and sound ones after it
 pub record IsGrown (history : History) : Type 0 where
@@ -66,12 +59,6 @@ pub record IsGrown (history : History) : Type 0 where
   pub sound : AreSound (first ∷ []) later
   pub small : are_small first.mutations ≡ true
 
--- each named transaction is held among these commits
-abbrev pub AreHeld : History → Transactions → Type 0
-AreHeld history transactions =
-    (name : List ℕ) (transaction : Transaction) → finite.get transactions name ≡ Some transaction → IsHeld history transaction
-
 -- what holds of the world at each place of a run
-pub record IsReached (world : World) : Type 0 where
-  pub grown : IsGrown world.setting.history
-  pub held : AreHeld world.setting.history world.transactions
+abbrev pub IsReached : World → Type 0
+IsReached = HoldsIn IsGrown IsHeld

@@ -14,7 +14,8 @@ use Rattle.database_rules.proofs.Ranges.{any_meet_at}
 use Rattle.allocator_rules.specs.Counters.{recent_key}
 use Rattle.allocator_rules.proofs.Codes.{packed_apart}
 use Rattle.prefix_laws.specs.Prefixes.{AreApart, AreGranting, all_grants, grants_in}
-use Rattle.prefix_laws.specs.Held.{AreDistinct, AreFit, AreSound, AreSpending, IsFitCommit, IsGrantIn, IsGrown, IsSpent}
+use Rattle.prefix_laws.specs.Held.{AreDistinct, AreFit, AreSpending, IsFitCommit, IsGrantIn, IsGrown, IsSound, IsSpent}
+use Rattle.step_laws.specs.Held.{AreEach}
 use Rattle.prefix_laws.proofs.Listed.{distinct_append, get_parts}
 
 -- ---- commits that are fit for a subspace
@@ -25,7 +26,7 @@ AreFitCommits space before [] = ⊤
 AreFitCommits space before (commit ∷ commits) = IsFitCommit before space commit × AreFitCommits space (before ++ commit ∷ []) commits
 
 -- sound ones are, where the allocator alone wrote there
-sound_fit : (space : List ℕ) (before : History) (commits : List Commit) → AreSound before commits
+sound_fit : (space : List ℕ) (before : History) (commits : List Commit) → AreEach IsSound before commits
     → AreGranting space (length before) commits → AreFitCommits space before commits
 sound_fit space before [] sound granting = tt
 sound_fit space before (commit ∷ commits) sound granting = (

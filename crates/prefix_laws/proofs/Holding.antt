@@ -1,26 +1,24 @@
 -- What is held of a transaction stays held.
 use Rattle.std.proofs.Common.{◌≡◌, ℕ, ◌≤◌, ◌⊎◌, inl, inr, Bool, true, false, List, [], ◌∷◌, ◌++◌, length, Some, refl, sym, ap, subst, ◌∙◌, length-append, arith}
 use Rattle.std.specs.Prelude.{◌||◌, slice_get, bytes_eq, unwrap_or}
-use Rattle.std.specs.FinMap as finite
-use Rattle.std.proofs.lemmas.Bool.{cond_both, false_from_ne_true, or_cases, or_left, or_right}
-use Rattle.std.proofs.lemmas.List.{append_assoc, append-nil, take-append-le}
+use Rattle.std.proofs.lemmas.Bool.{false_from_ne_true, or_cases, or_left, or_right}
+use Rattle.std.proofs.lemmas.List.{append_assoc, append-nil}
 use Rattle.std.proofs.lemmas.Option.{none-some}
 use Rattle.std.proofs.lemmas.Slice.Eq.{bytes_eq-Decides}
-use Rattle.database_rules.specs.declared.Phase.{Phase}
-use Rattle.database_rules.specs.declared.Phase.TheVariants as phase
-use Rattle.database_rules.specs.Histories.{History, Script, Setting, Granted, after_commits, at, write_conflicts_by, last, written}
+use Rattle.database_rules.specs.Histories.{History, Script, Setting, Granted, at, write_conflicts_by, last, written}
 use Rattle.database_rules.specs.Intervals.{decided}
 use Rattle.database_rules.specs.States.{all_filled, covers}
-use Rattle.database_rules.specs.Transactions.{Transaction, cancelled, write_conflicts_of, fresh, is_tried, version_in, with_phase, with_version, writes_of}
+use Rattle.database_rules.specs.Transactions.{Transaction, write_conflicts_of, fresh, version_in, writes_of}
 use Rattle.database_rules.proofs.AddingConflicts.{write_conflicts-append, written-append, written_granted}
 use Rattle.database_rules.proofs.States.{covers-append, filled-append}
 use Rattle.allocator_rules.specs.Counters.{recent_key}
+use Rattle.step_laws.proofs.Chains.{at_before}
 use Rattle.prefix_laws.specs.Prefixes.{IsGranting, granted_by, grants_in}
 use Rattle.prefix_laws.specs.Held.{AreDistinct, AreFit, AreSpending, HasGranted, HasGrown, IsFit, IsGrantOf, IsHeld, IsSpent}
 use Rattle.prefix_laws.proofs.Leaving.{leaving_fit}
 use Rattle.prefix_laws.proofs.Listed.{IsBehind, distinct_more, get_alone, get_parts}
 use Rattle.prefix_laws.proofs.Places.{granted_elsewhere, granted_itself, granting_before_note, granting_front, others_filled_leaving, others_leaving}
-use Rattle.prefix_laws.proofs.Recording.{grants-append, version_grown}
+use Rattle.prefix_laws.proofs.Recording.{grants-append}
 use Rattle.prefix_laws.proofs.Spending.{fit_append, fit_nothing, spending_first, spending_last}
 
 -- ---- what some entries more leave of a transaction
@@ -234,10 +232,6 @@ granted_held setting space number before after granted held stamp asked granting
 
 -- ---- histories and fresh transactions
 
--- commits that come later leave the database at a version as it was
-pub at_before : (before more : History) (version : ℕ) → version ≤ length before → at (before ++ more) version ≡ at before version
-at_before before more version taken = ap (λ commits. after_commits commits finite.empty) (take-append-le version before more taken)
-
 -- a number that was granted among some commits was so among more
 grant_later : (before more : History) (stamp space : List ℕ) (transaction : Transaction) (number : ℕ)
     → IsGrantOf before stamp space transaction number → IsGrantOf (before ++ more) stamp space transaction number
@@ -271,33 +265,3 @@ fresh_held history life stamp space granting = record {
   grants = λ place number found. absurd (none-some number found);
   distinct = λ place later one other before found found_later same. none-some one found;
 }
-
--- ---- what holds of a transaction that did nothing more
-
--- it may have another phase
-pub phase_held : (history : History) (transaction : Transaction) (phase : Phase) → IsHeld history transaction
-    → IsHeld history (with_phase transaction phase)
-phase_held history transaction phase held =
-    grown_held history transaction (with_phase transaction phase) (phase_grown transaction phase) held
-  where
-    phase_grown : (transaction : Transaction) (phase : Phase) → HasGrown transaction (with_phase transaction phase)
-    phase_grown transaction phase = record {
-      entries = [];
-      more = sym (append-nil transaction.script);
-      none_noted = λ space. refl;
-      taken = λ version is. is;
-      read_conflict_still = λ key read_conflict. read_conflict;
-      adds_conflict_still = λ key adds_conflict. adds_conflict;
-    }
-
--- it is cancelled
-pub cancelled_held : (history : History) (transaction : Transaction) → IsHeld history transaction → IsHeld history (cancelled transaction)
-cancelled_held history transaction held =
-    cond_both (is_tried transaction.phase) transaction (with_phase transaction phase.Cancelled) (IsHeld history)
-    (λ tried. held) (λ untried. phase_held history transaction phase.Cancelled held)
-
--- a version is taken
-pub version_held : (setting : Setting) (transaction : Transaction) → IsHeld setting.history transaction
-    → IsHeld setting.history (with_version setting transaction)
-version_held setting transaction held =
-    grown_held setting.history transaction (with_version setting transaction) (version_grown setting transaction) held

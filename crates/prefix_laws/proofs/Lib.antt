@@ -12,6 +12,6 @@ pub mod Leaving
 pub mod Places
 pub mod Holding
 pub mod Fitting
-pub mod Stepping
-pub mod Reaching
+pub mod Kept
+pub mod Worlds
 pub mod Premise

@@ -1,12 +1,12 @@
 -- What holds of each transaction and of each commit of a history that is reached, where the allocator of a subspace alone wrote there.
-use Rattle.std.specs.Prelude.{◌≡◌, ◌⊎◌, ℕ, ◌+◌, ◌^◌, ◌<◌, ◌≤◌, ⊤, true, false, List, [], ◌∷◌, ◌++◌, length, Some, slice_get, is_some}
+use Rattle.std.specs.Prelude.{◌≡◌, ◌⊎◌, ℕ, ◌+◌, ◌^◌, ◌<◌, ◌≤◌, true, false, List, [], ◌∷◌, ◌++◌, length, Some, slice_get, is_some}
 use Rattle.std.specs.FinMap as finite
 use Rattle.database_rules.specs.Databases.{Database, Mutation, do_all}
 use Rattle.database_rules.specs.Histories.{Script, Commit, History, Setting, Granted, at, conflicts, stamp_of, written}
 use Rattle.database_rules.specs.Intervals.{decided}
 use Rattle.database_rules.specs.States.{all_filled, covers}
 use Rattle.database_rules.specs.Transactions.{Transaction, write_conflicts_of, version_in, writes_of}
-use Rattle.machine_rules.specs.Worlds.{World, Transactions}
+use Rattle.step_laws.specs.Held.{AreEach}
 use Rattle.allocator_rules.specs.Counters.{counter_key, recent_key, is_recent}
 use Rattle.prefix_laws.specs.Prefixes.{IsGranting, grants_in}
 
@@ -82,31 +82,19 @@ pub record IsFitCommit (before : History) (space : List ℕ) (commit : Commit) :
   pub distinct : AreDistinct (grants_in space commit.script)
   pub judged : conflicts before commit.version commit.read_ranges ≡ false
 
--- each of these commits, where such commits came before them
-abbrev pub AreSound : (before : History) → List Commit → Type 0
-AreSound before [] = ⊤
-AreSound before (commit ∷ commits) =
-    ((space : List ℕ) → IsGranting (stamp_of (length before + 1)) space commit.script → IsFitCommit before space commit)
-    × AreSound (before ++ commit ∷ []) commits
+-- a commit among those before it is fit for each subspace on which its allocator alone wrote
+abbrev pub IsSound : (before : History) → Commit → Type 0
+IsSound before commit =
+    (space : List ℕ) → IsGranting (stamp_of (length before + 1)) space commit.script → IsFitCommit before space commit
 
--- ---- worlds
-
--- each named transaction is held among these commits
-abbrev pub AreHeld : History → Transactions → Type 0
-AreHeld history transactions =
-    (name : List ℕ) (transaction : Transaction) → finite.get transactions name ≡ Some transaction → IsHeld history transaction
+-- ---- histories
 
 -- a first commit, and sound ones after it
 pub record IsGrown (history : History) : Type 0 where
   pub first : Commit
   pub later : List Commit
   pub is : history ≡ first ∷ later
-  pub sound : AreSound (first ∷ []) later
-
--- what holds of the world after each deed
-pub record IsReached (world : World) : Type 0 where
-  pub grown : IsGrown world.setting.history
-  pub held : AreHeld world.setting.history world.transactions
+  pub sound : AreEach IsSound (first ∷ []) later
 
 -- ---- calls
 

@@ -1,5 +1,5 @@
 use Rattle.history_laws.proofs.Legal.{reached_legal}
-use Rattle.history_laws.proofs.Reaching.{begun_reached, step_reached}
+use Rattle.history_laws.proofs.Worlds.{begun_reached, step_reached}
 use Rattle.history_laws.proofs.steps_are_legal.Goals as goal
 
 pub returns-clause-begins : goal.returns-clause-begins

@@ -1,4 +1,4 @@
-use Rattle.prefix_laws.proofs.Reaching.{prefixes_apart, runs_apart}
+use Rattle.prefix_laws.proofs.Worlds.{prefixes_apart, runs_apart}
 use Rattle.prefix_laws.proofs.prefixes_are_apart.Goals as goal
 
 pub returns-clause-requests : goal.returns-clause-requests
