@@ -32,7 +32,7 @@ struct Place {
     pairs: usize,
 }
 
-// The first line of bytes that aren't empty, and what is left behind it. It takes no memory.
+// The first line of bytes that aren't empty, and what is left behind it.
 fn first_line(number: u32, bytes: &[u8]) -> (DumpLine<'_>, &[u8])
     requires { 0 < length bytes.now }
     ensures number { result.0.number ≡ number }
@@ -63,7 +63,7 @@ fn first_line(number: u32, bytes: &[u8]) -> (DumpLine<'_>, &[u8])
     }
 }
 
-// Whether a line passes the limits of a dump. It takes no memory.
+// Whether a line passes the limits of a dump.
 fn is_too_many(place: Place, line: &DumpLine<'_>) -> bool
     requires { place.bytes + size_of (line_is line.now) < 2 ^ 64 }
     ensures { result ≡ is_too_many (place_is line.now.number place) (line_is line.now) }
@@ -72,7 +72,7 @@ fn is_too_many(place: Place, line: &DumpLine<'_>) -> bool
     end > INPUT_LIMIT || place.pairs >= PAIRS_LIMIT && line.is_pair()
 }
 
-// The place behind a line. It takes no memory.
+// The place behind a line.
 fn place_behind(place: Place, line: &DumpLine<'_>) -> Place
     requires bytes { place.bytes + size_of (line_is line.now) < 2 ^ 64 }
     requires pairs { place.pairs + 1 < 2 ^ 64 }

@@ -42,7 +42,7 @@ impl<T: Drop> From<AllocFailed<T>> for FieldFault {
     }
 }
 
-// What stands behind a word. It takes no memory.
+// What stands behind a word.
 fn behind<'a>(word: &[u8], bytes: &'a [u8]) -> Result<&'a [u8], FieldFault>
     ensures { Gives (λ rest. rest.now) result (behind word.now bytes.now) }
 {
@@ -56,21 +56,21 @@ fn behind<'a>(word: &[u8], bytes: &'a [u8]) -> Result<&'a [u8], FieldFault>
     Ok(&bytes[i..])
 }
 
-// What stands behind a space. It takes no memory.
+// What stands behind a space.
 fn behind_space(bytes: &[u8]) -> Result<&[u8], FieldFault>
     ensures { Gives (λ rest. rest.now) result (behind (32 ∷ []) bytes.now) }
 {
     behind(b" ", bytes)
 }
 
-// Whether a byte is a decimal digit. It takes no memory.
+// Whether a byte is a decimal digit.
 fn is_digit(byte: u8) -> bool
     ensures { result ≡ is_digit byte }
 {
     byte >= b'0' && byte <= b'9'
 }
 
-// How many digits stand at the front. It takes no memory.
+// How many digits stand at the front.
 fn digits_len(bytes: &[u8]) -> usize
     ensures value { result ≡ prefix_len is_digit bytes.now }
     ensures within { result ≤ length bytes.now }
@@ -82,7 +82,7 @@ fn digits_len(bytes: &[u8]) -> usize
     i
 }
 
-// The number that digits write, where it is less than 2^64. It takes no memory.
+// The number that digits write, where it is less than 2^64.
 fn value_of(digits: &[u8]) -> Option<u64>
     ensures { result ≡ (if nat_lt (value_after 0 digits.now) (2 ^ 64) then Some (value_after 0 digits.now) else None) }
 {
@@ -97,7 +97,7 @@ fn value_of(digits: &[u8]) -> Option<u64>
     Some(value)
 }
 
-// A number of at most `most`. It takes no memory.
+// A number of at most `most`.
 #[tactic(auto, unfolding(crate::specs::Fields::number_at))]
 fn number_of(most: u64, bytes: &[u8]) -> Result<(u64, &[u8]), FieldFault>
     ensures value { Gives (λ x. (x.0, x.1.now)) result (number_at most bytes.now) }
@@ -116,7 +116,7 @@ fn number_of(most: u64, bytes: &[u8]) -> Result<(u64, &[u8]), FieldFault>
     }
 }
 
-// A space and a number of at most `most`. It takes no memory.
+// A space and a number of at most `most`.
 #[tactic(auto, unfolding(crate::specs::Fields::number_field))]
 fn number_up_to(most: u64, bytes: &[u8]) -> Result<(u64, &[u8]), FieldFault>
     ensures value { Gives (λ x. (x.0, x.1.now)) result (number_field most bytes.now) }
@@ -149,7 +149,7 @@ pub fn ordered_machine_field(bytes: &[u8]) -> Result<(u16, &[u8]), FieldFault>
     Ok((number as u16, rest))
 }
 
-// The end whose word begins with a byte. It takes no memory.
+// The end whose word begins with a byte.
 fn end_of(byte: u8) -> Option<EndWord>
     ensures { result ≡ end_of byte }
 {
@@ -163,7 +163,7 @@ fn end_of(byte: u8) -> Option<EndWord>
     }
 }
 
-// The end whose word stands at the front. It takes no memory.
+// The end whose word stands at the front.
 #[tactic(auto, unfolding(crate::specs::Fields::end_at))]
 fn end_word_of(bytes: &[u8]) -> Result<(EndWord, &[u8]), FieldFault>
     ensures { Gives (λ x. (x.0, x.1.now)) result (end_at bytes.now) }
@@ -187,14 +187,14 @@ pub fn end_field(bytes: &[u8]) -> Result<(EndWord, &[u8]), FieldFault>
     end_word_of(rest)
 }
 
-// Whether a byte is a letter or a digit. It takes no memory.
+// Whether a byte is a letter or a digit.
 fn is_word(byte: u8) -> bool
     ensures { result ≡ is_word byte }
 {
     matches!(byte, b'0'..=b'9' | b'A'..=b'Z' | b'a'..=b'z')
 }
 
-// How many letters and digits stand at the front. It takes no memory.
+// How many letters and digits stand at the front.
 fn word_len(bytes: &[u8]) -> usize
     ensures value { result ≡ prefix_len is_word bytes.now }
     ensures within { result ≤ length bytes.now }

@@ -108,7 +108,7 @@ fn error_fields(alloc: Global, bytes: &[u8]) -> Result<Line, FieldFault>
     })
 }
 
-// The field of a place of the order. It takes no memory.
+// The field of a place of the order.
 #[tactic(auto, unfolding(crate::specs::Dumps::order_fields))]
 fn order_fields(bytes: &[u8]) -> Result<Line, FieldFault>
     ensures { fields.Gives (λ value. value) result (order_fields bytes.now) }

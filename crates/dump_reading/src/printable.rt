@@ -21,14 +21,14 @@ pub enum Spelling<'a> {
     Unfit,
 }
 
-// Whether a byte stands for itself where no byte more is spelled by its digits. It takes no memory.
+// Whether a byte stands for itself where no byte more is spelled by its digits.
 fn is_plain(byte: u8) -> bool
     ensures { result ≡ is_plain byte }
 {
     byte >= 0x20 && byte < 0x7f && byte != b'\\'
 }
 
-// The value of a hexadecimal digit, 16 for any other byte. It takes no memory.
+// The value of a hexadecimal digit, 16 for any other byte.
 fn digit_of(byte: u8) -> u8
     ensures value { result ≡ digit_of byte }
     ensures small { result ≤ 16 }
@@ -40,7 +40,7 @@ fn digit_of(byte: u8) -> u8
     }
 }
 
-// Whether a byte is spelled by its digits. It takes no memory.
+// Whether a byte is spelled by its digits.
 fn is_by_digits(escaped: Option<u8>, byte: u8) -> bool
     ensures { result ≡ is_by_digits escaped byte }
 {
@@ -50,7 +50,7 @@ fn is_by_digits(escaped: Option<u8>, byte: u8) -> bool
     }
 }
 
-// The byte of the two digits at the front, where it is spelled by them. It takes no memory.
+// The byte of the two digits at the front, where it is spelled by them.
 fn digits_of(escaped: Option<u8>, bytes: &[u8]) -> Spelling<'_>
     ensures { spelling_is result ≡ digits_at escaped bytes.now }
 {
@@ -65,7 +65,7 @@ fn digits_of(escaped: Option<u8>, bytes: &[u8]) -> Spelling<'_>
     Spelling::Byte(16 * high + low, rest)
 }
 
-// The byte that is spelled behind a backslash. It takes no memory.
+// The byte that is spelled behind a backslash.
 fn escape_of(escaped: Option<u8>, bytes: &[u8]) -> Spelling<'_>
     ensures { spelling_is result ≡ escape_at escaped bytes.now }
 {
@@ -76,7 +76,7 @@ fn escape_of(escaped: Option<u8>, bytes: &[u8]) -> Spelling<'_>
     }
 }
 
-// The byte that is spelled at the front. It takes no memory.
+// The byte that is spelled at the front.
 #[tactic(auto, unfolding(crate::specs::Spellings::byte_at))]
 fn spelling_of(escaped: Option<u8>, bytes: &[u8]) -> Spelling<'_>
     ensures { spelling_is result ≡ byte_at escaped bytes.now }

@@ -31,7 +31,7 @@ struct Place {
     pairs: usize,
 }
 
-// The first line of bytes that aren't empty, and what is left behind it. It takes no memory.
+// The first line of bytes that aren't empty, and what is left behind it.
 fn first_line(number: u32, bytes: &[u8]) -> (InputLine<'_>, &[u8])
     requires { 0 < length bytes.now }
     ensures number { result.0.number ≡ number }
@@ -59,7 +59,7 @@ fn first_line(number: u32, bytes: &[u8]) -> (InputLine<'_>, &[u8])
     }
 }
 
-// Whether the first line that is left has three bytes and its line feed. It takes no memory.
+// Whether the first line that is left has three bytes and its line feed.
 #[inline(always)]
 fn has_three(left: &[u8]) -> bool
     ensures { result ≡ has_three left.now }
@@ -68,7 +68,7 @@ fn has_three(left: &[u8]) -> bool
 }
 
 // The first line of bytes that aren't empty, and what is left behind it. The line of a machine of one digit has three bytes,
-// which is seen without a search. It takes no memory.
+// which is seen without a search.
 #[inline(always)]
 fn first_of_order(number: u32, bytes: &[u8]) -> (InputLine<'_>, &[u8])
     requires { 0 < length bytes.now }
@@ -88,7 +88,7 @@ fn first_of_order(number: u32, bytes: &[u8]) -> (InputLine<'_>, &[u8])
     (line, &bytes[4..])
 }
 
-// Whether a line passes the limits of an input. It takes no memory.
+// Whether a line passes the limits of an input.
 fn is_too_many(place: Place, line: &InputLine<'_>) -> bool
     requires { place.bytes + size_of (line_is line.now) < 2 ^ 64 }
     ensures { result ≡ is_too_many (place_is line.now.number place) (line_is line.now) }
@@ -132,7 +132,7 @@ fn read_machine(place: Place, line: &InputLine<'_>) -> Result<u16, LineFault>
     machine_of(line)
 }
 
-// Whether the first line that is left is of an order, which its first byte tells. It takes no memory.
+// Whether the first line that is left is of an order, which its first byte tells.
 fn is_of_order(left: &[u8]) -> bool
     ensures { result ≡ is_of_order left.now }
 {

@@ -26,7 +26,7 @@ pub fn machine_of(line: &InputLine<'_>) -> Result<u16, LineFault>
     }
 }
 
-// The number that the digits spell, without a leading zero. It takes no memory.
+// The number that the digits spell, without a leading zero.
 fn number_of(line: &InputLine<'_>, digits: &[u8]) -> Result<u16, LineFault>
     requires { length line.now.bytes.now ≤ line_limit }
     ensures { Gives (λ machine. machine) result
@@ -44,7 +44,7 @@ fn number_of(line: &InputLine<'_>, digits: &[u8]) -> Result<u16, LineFault>
 }
 
 // A number of two digits, and what stands behind them: one that is too great, or has more digits, is a fault at its first
-// byte. It takes no memory.
+// byte.
 fn two_digits(line: &InputLine<'_>, number: u16, rest: &[u8]) -> Result<u16, LineFault>
     requires { length line.now.bytes.now ≤ line_limit }
     ensures { Gives (λ machine. machine) result
@@ -58,7 +58,7 @@ fn two_digits(line: &InputLine<'_>, number: u16, rest: &[u8]) -> Result<u16, Lin
     }
 }
 
-// The number, where the line feed stands behind it. It takes no memory.
+// The number, where the line feed stands behind it.
 fn whole_number(line: &InputLine<'_>, number: u16) -> Result<u16, LineFault>
     requires { length line.now.bytes.now ≤ line_limit }
     ensures { Gives (λ machine. machine) result

@@ -51,7 +51,7 @@ impl InputLine<'_> {
     }
 }
 
-// Whether a key is less than `FF`, which its first byte tells. It takes no memory.
+// Whether a key is less than `FF`, which its first byte tells.
 fn is_below_top(key: &[u8]) -> bool
     ensures { result ≡ key_lt key.now top }
 {
@@ -124,7 +124,7 @@ fn read_value(
     }
 }
 
-// The pair, where key and value are within their limits. It takes no memory.
+// The pair, where key and value are within their limits.
 fn pair_within(line: &InputLine<'_>, key: Bytes, value: Bytes) -> Result<Pair, LineFault>
     ensures { Gives entry_of result (judged line.now.number (pair_within key value)) }
 {

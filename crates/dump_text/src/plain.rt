@@ -16,7 +16,7 @@ pub fn is_plain(byte: u8) -> bool
     byte >= 0x20 && byte < 0x7f && byte != b'\\'
 }
 
-// The bits of the places of the bytes that don't stand for themselves. It takes no memory.
+// The bits of the places of the bytes that don't stand for themselves.
 #[inline(always)]
 fn stops_8(bytes: u8x8) -> u64
     ensures { result ≡ mask_l (map is_stop bytes) }
@@ -62,7 +62,7 @@ pub fn plain_in_8(bytes: &[u8]) -> usize
     found.trailing_zeros() as usize
 }
 
-// Where the run ends that goes on from `from`, one byte at a time. It takes no memory.
+// Where the run ends that goes on from `from`, one byte at a time.
 #[inline(always)]
 fn plain_end_slowly(bytes: &[u8], from: usize) -> usize
     requires { from ≤ length bytes.now }
@@ -91,7 +91,7 @@ fn plain_end_8(bytes: &[u8], from: usize) -> usize
     plain_end_slowly(bytes, from + 8)
 }
 
-// How many bytes at the front stand for themselves. It takes no memory.
+// How many bytes at the front stand for themselves.
 #[inline]
 fn plain_len(bytes: &[u8]) -> usize
     ensures value { result ≡ prefix_len is_plain bytes.now }

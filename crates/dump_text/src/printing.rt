@@ -14,7 +14,7 @@ use std::alloc::AllocError;
 // The digits.
 const DIGITS: &[u8; 16] = b"0123456789abcdef";
 
-// The digit of a number below 16. It takes no memory.
+// The digit of a number below 16.
 #[inline(always)]
 fn hexadecimal_digit(n: u8) -> u8
     requires { n < 16 }
@@ -50,7 +50,7 @@ fn add_digits(to: &mut Vec<u8>, byte: u8) -> Result<(), AllocError>
     Ok(())
 }
 
-// The end of a room behind `len` bytes that has four bytes for each of `count`. It takes no memory.
+// The end of a room behind `len` bytes that has four bytes for each of `count`.
 #[inline(always)]
 fn end_of_room(len: usize, count: usize) -> Result<usize, AllocError>
     ensures { IfOk result (λ end. end ≡ len + 4 * count) }

@@ -88,7 +88,7 @@ pub fn put_plain(room: &mut [u8], at: usize, bytes: &[u8]) -> usize
     0
 }
 
-// Puts the printable form of a byte at a place, and answers where it ends. It takes no memory.
+// Puts the printable form of a byte at a place, and answers where it ends.
 #[inline(always)]
 fn put_form(room: &mut [u8], at: usize, byte: u8) -> usize
     requires { at + 4 ≤ length room.old }
@@ -100,7 +100,7 @@ fn put_form(room: &mut [u8], at: usize, byte: u8) -> usize
     at + usize::from(LENGTHS[usize::from(byte)])
 }
 
-// Puts the printable form of bytes at a place, byte by byte, and answers where it ends. It takes no memory.
+// Puts the printable form of bytes at a place, byte by byte, and answers where it ends.
 #[inline(always)]
 fn put_forms(room: &mut [u8], at: usize, bytes: &[u8]) -> usize
     requires { at + 4 * length bytes.now ≤ length room.old }
@@ -118,7 +118,7 @@ fn put_forms(room: &mut [u8], at: usize, bytes: &[u8]) -> usize
 }
 
 // Puts the printable form of the bytes at the front of sixteen or more: of up to sixteen that stand for themselves, and of
-// the one behind them. Where it ends, and what is left. It takes no memory.
+// the one behind them. Where it ends, and what is left.
 #[inline(always)]
 fn put_front<'a>(room: &mut [u8], at: usize, bytes: &'a [u8]) -> (usize, &'a [u8])
     requires many { 16 ≤ length bytes.now }

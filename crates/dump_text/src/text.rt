@@ -59,7 +59,7 @@ pub(crate) const DIGITS: [u8; 256] = [
     16, 16, 16, 16, 16, 16, 16, 16, 16, 16, 16, 16, 16, 16,
 ];
 
-// The value of a hexadecimal digit, 16 for any other byte. It takes no memory.
+// The value of a hexadecimal digit, 16 for any other byte.
 #[inline(always)]
 fn digit_of(byte: u8) -> u8
     ensures value { result ≡ digit_of byte }
@@ -68,7 +68,7 @@ fn digit_of(byte: u8) -> u8
     DIGITS[usize::from(byte)]
 }
 
-// A byte that has no shorter spelling, by its two digits. It takes no memory.
+// A byte that has no shorter spelling, by its two digits.
 #[inline(always)]
 fn hexadecimal_piece(high: u8, low: u8, rest: &[u8]) -> Piece<'_>
     ensures { piece_is result ≡ hexadecimal_piece (high ∷ low ∷ rest.now) }
@@ -85,7 +85,7 @@ fn hexadecimal_piece(high: u8, low: u8, rest: &[u8]) -> Piece<'_>
     Piece::Spelled(byte, rest)
 }
 
-// What stands behind a backslash. It takes no memory.
+// What stands behind a backslash.
 #[inline(always)]
 fn escaped_piece(bytes: &[u8]) -> Piece<'_>
     ensures { piece_is result ≡ escaped_piece bytes.now }
@@ -98,7 +98,7 @@ fn escaped_piece(bytes: &[u8]) -> Piece<'_>
     }
 }
 
-// What `bytes` begins with. It takes no memory.
+// What `bytes` begins with.
 #[inline]
 #[tactic(auto, unfolding(line_rules::specs::Reading::piece_at))]
 fn piece_of(bytes: &[u8]) -> Piece<'_>
@@ -140,7 +140,7 @@ fn make_room(scratch: &mut Vec<u8>, len: usize) -> Result<(), AllocError>
 
 // Puts bytes at a place that stand for themselves: those that `bytes` begins with, sixteen at a time, but not always all of
 // them. Where they end, and what is left. No run is looked for among fewer than eight bytes, nor where a backslash stands
-// at the front. It takes no memory.
+// at the front.
 #[inline(always)]
 fn put_run<'a>(room: &mut [u8], at: usize, bytes: &'a [u8]) -> (usize, &'a [u8])
     requires { at + length bytes.now ≤ length room.old }
@@ -195,7 +195,7 @@ fn read_on<'a>(
 }
 
 // The bytes at the front that stand for themselves, and all from the first that does not. No run is looked for where a
-// backslash stands at the front. It takes no memory.
+// backslash stands at the front.
 #[inline(always)]
 fn split_run(bytes: &[u8]) -> (&[u8], &[u8])
     ensures front { result.0.now ≡ take_while is_plain bytes.now }

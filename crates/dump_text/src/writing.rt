@@ -134,7 +134,7 @@ fn add_short_order_line(to: &mut Vec<u8>, machine: u16) -> Result<(), AllocError
 }
 
 // Whether the line of a pair is put into one room: of a short one whose key begins with a byte below 20, as most packed
-// tuples do, and so has an escape. It takes no memory.
+// tuples do, and so has an escape.
 #[inline(always)]
 fn fits_one_room(key: &[u8], value: &[u8]) -> bool
     ensures { result ≡ true → length key.now + length value.now ≤ 256 }

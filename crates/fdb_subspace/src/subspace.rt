@@ -5,6 +5,7 @@ ghost use Rattle.key_bytes.specs.Keys.{begins_with};
 ghost use Rattle.fdb_tuple.specs.Tuples.{IsTuple};
 ghost use Rattle.fdb_tuple.specs.Spelling.{spelling};
 
+use crate::behind::range_behind;
 use crate::fault::SubFault;
 use fdb_tuple::{Tuple, UnpackFault, pack_into, unpack};
 use key_bytes::{Bytes, KeyRange};
@@ -47,11 +48,7 @@ impl Subspace {
         ensures begin { IfOk result (λ range. range.begin ≡ self.now.prefix ++ spelling tuple.now ++ 0 ∷ []) }
         ensures end { IfOk result (λ range. range.end ≡ self.now.prefix ++ spelling tuple.now ++ 255 ∷ []) }
     {
-        let mut begin = self.pack(tuple)?;
-        let mut end = begin.copy()?;
-        begin.extend(&[0x00])?;
-        end.extend(&[0xFF])?;
-        Ok(KeyRange { begin, end })
+        range_behind(&self.pack(tuple)?)
     }
 
     /// Tells whether a key begins with the prefix.

@@ -33,7 +33,7 @@ impl Text {
         })
     }
 
-    // The text with these bytes, if they are UTF-8. It takes no memory.
+    // The text with these bytes, if they are UTF-8.
     pub(crate) fn from_utf8(content: Bytes) -> Option<Text>
         ensures { MatchOption result (IsFalse (is_utf8 content)) (λ text. (text ≡ content) × IsTrue (is_utf8 content)) }
     {

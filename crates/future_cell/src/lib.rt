@@ -15,7 +15,8 @@
 //! let settled = settle(receipt, waiter);
 //! ```
 //!
-//! `tests.rt` has this caller whole, as `doubled`, with the clause that the answer is the one that was computed.
+//! `thread_trials/src/tests/cells.rt` has this caller whole, as `doubled`, with the clause that the answer is the one that was
+//! computed.
 //!
 //! The contracts speak in the words of `specs/Cells.antt`:
 //!
@@ -65,6 +66,3 @@ pub use settling::{Settled, pair, settle, settle_in_place};
 pub use waiter::Waiter;
 pub use wake::{Sleeper, Wake, wakes};
 pub use word::{EMPTY, PARKED, SET};
-
-#[cfg(test)]
-mod tests;

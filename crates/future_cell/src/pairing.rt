@@ -1,5 +1,6 @@
 //! A cell's table from its making to its end.
 ghost use Rattle.std.specs.Prelude.{◌≡◌, Bool, true, [], Some, IfOk};
+ghost use Rattle.std.specs.Arc.{arc_value};
 ghost use Rattle.future_cell.specs.declared.stage.SetterStage.TheVariants.{Unset, Finished};
 ghost use Rattle.future_cell.specs.declared.stage.View.TheVariants.{Sets, Waits, Meets, Over};
 ghost use Rattle.future_cell.specs.Rule.{IsSized};
@@ -12,7 +13,6 @@ use crate::slot::{expect_empty, value_of};
 use crate::word::EMPTY;
 use atomic_table::Table;
 use std::alloc::{AllocError, AllocFailed, Global};
-use std::mem::forget;
 use std::sync::Arc;
 
 // Gives the memory of a table back whose slots are empty.
@@ -89,14 +89,14 @@ impl<V, C> Half<V, C> {
         }
     }
 
-    /// Joins the setter's half and the waiter's, which kept the value if it saw it, and gives the cell's memory back.
-    pub fn settle(self, other: Half<V, C>, kept: Option<V>) -> V
+    /// Joins the setter's half and the waiter's, which kept the value if it saw it. Returns the value, and the cell that is left.
+    pub fn join(self, other: Half<V, C>, kept: Option<V>) -> (V, Spent<V, C>)
         requires cell { cell_of self ≡ cell_of other }
         requires set { (v : V) × ((ran : Bool) × (place_of self ≡ (Sets (Finished v ran), []))) }
         requires waits { place_of other ≡ (Waits (waiter_in (place_of other).0), []) }
         requires known { (waiter_in (place_of other).0).known ≡ known_of kept }
         requires settled { is_settled (waiter_in (place_of other).0).callback ≡ true }
-        ensures value { value_out (setter_in (place_of self).0) ≡ Some result }
+        ensures value { value_out (setter_in (place_of self).0) ≡ Some result.0 }
         ensures agrees { Settles (setter_in (place_of self).0) (waiter_in (place_of other).0) }
     {
         let Half { cell, mut seat } = self;
@@ -107,41 +107,7 @@ impl<V, C> Half<V, C> {
         cell.shared.join_seat::<Meet>(&mut seat, other);
         let mut joined = Half { cell, seat };
         let value = joined.empty(kept);
-        let second = joined.split_over();
-        joined.free();
-        Half {
-            cell: twin,
-            seat: second,
-        }
-        .free();
-        value
-    }
-
-    /// Settles a cell as `settle` does, but leaves its memory taken, so that no block of it has to be looked
-    /// for.
-    pub fn settle_in_place(self, other: Half<V, C>, kept: Option<V>) -> V
-    where
-        V: Drop,
-        C: Drop,
-        requires cell { cell_of self ≡ cell_of other }
-        requires set { (v : V) × ((ran : Bool) × (place_of self ≡ (Sets (Finished v ran), []))) }
-        requires waits { place_of other ≡ (Waits (waiter_in (place_of other).0), []) }
-        requires known { (waiter_in (place_of other).0).known ≡ known_of kept }
-        requires settled { is_settled (waiter_in (place_of other).0).callback ≡ true }
-        ensures value { value_out (setter_in (place_of self).0) ≡ Some result }
-        ensures agrees { Settles (setter_in (place_of self).0) (waiter_in (place_of other).0) }
-    {
-        let Half { cell, mut seat } = self;
-        let Half {
-            cell: twin,
-            seat: other,
-        } = other;
-        cell.shared.join_seat::<Meet>(&mut seat, other);
-        let mut joined = Half { cell, seat };
-        let value = joined.empty(kept);
-        forget(joined);
-        forget(twin);
-        value
+        (value, Spent { joined, twin })
     }
 
     // A further seat at a table whose slots are empty for good.
@@ -152,5 +118,25 @@ impl<V, C> Half<V, C> {
     {
         let shared = &self.cell.shared;
         shared.split_seat::<Double>(&mut self.seat)
+    }
+}
+
+/// A cell whose value was taken, and whose memory is still there: both halves' holds on it, and the one seat that is left.
+#[derive(Drop)]
+pub struct Spent<V, C> {
+    joined: Half<V, C>,
+    twin: Arc<Cell<V, C>, Global>,
+    ghost over: { place_of joined ≡ (Over, []) },
+    ghost sized: { IsSized (arc_value twin).shared.table_id },
+    ghost same: { cell_of joined ≡ (arc_value twin).shared.table_id },
+}
+
+impl<V, C> Spent<V, C> {
+    /// Gives the cell's memory back.
+    pub fn free(self) {
+        let Spent { mut joined, twin } = self;
+        let seat = joined.split_over();
+        joined.free();
+        Half { cell: twin, seat }.free();
     }
 }

@@ -30,7 +30,7 @@ impl<V, C> Setter<V, C> {
     ghost use Rattle.future_cell.specs.Halves.{place_of};
     ghost use Rattle.future_cell.specs.Cells.{setter_cell, receipt_cell, value_set};
 
-    /// The setter of a new cell, from its half. It takes no memory.
+    /// Makes the setter of a new cell from its half.
     pub(crate) fn of(half: Half<V, C>) -> Setter<V, C>
         requires { place_of half ≡ (Sets Unset, []) }
         ensures { result.half ≡ half }

@@ -6,10 +6,11 @@ ghost use Rattle.future_cell.specs.Registering.{was_parked, run_count};
 ghost use Rattle.future_cell.specs.Cells.{setter_cell, receipt_cell, waiter_cell, value_set, has_run, shown, registration, looks, last_found, settled_value, settled_runs};
 
 use crate::callback::{Call, Registered};
-use crate::pairing::two_halves;
+use crate::pairing::{Spent, two_halves};
 use crate::setter::{Receipt, Setter};
 use crate::waiter::Waiter;
 use std::alloc::{AllocError, Global};
+use std::mem::forget;
 
 /// The value of a cell that was settled, and how many callbacks ran.
 #[derive(Drop)]
@@ -28,7 +29,7 @@ pub fn pair<V, C: Call>(alloc: Global) -> Result<(Setter<V, C>, Waiter<V, C>), A
     Ok((Setter::of(sets), Waiter::of(waits)))
 }
 
-/// Ends a cell, and gives its memory back. It takes none.
+/// Ends a cell: returns the value that was set and how many callbacks ran, and gives the cell's memory back.
 pub fn settle<V, C>(receipt: Receipt<V, C>, waiter: Waiter<V, C>) -> Settled<V>
     requires { receipt_cell receipt ≡ waiter_cell waiter }
     ensures value { value_set receipt ≡ Some (settled_value result) }
@@ -36,26 +37,31 @@ pub fn settle<V, C>(receipt: Receipt<V, C>, waiter: Waiter<V, C>) -> Settled<V>
     ensures ran { settled_runs result ≡ run_count (registration waiter) }
     ensures receipt { has_run receipt ≡ was_parked (registration waiter) }
 {
-    let Receipt { half: sets, ran: _ } = receipt;
-    let Waiter {
-        half: waits,
-        value,
-        registered,
-    } = waiter;
-    let value = sets.settle(waits, value);
-    Settled {
-        value,
-        ran: count_of(registered),
-    }
+    let (settled, spent) = join(receipt, waiter);
+    spent.free();
+    settled
 }
 
-/// Ends a cell as `settle` does, but keeps its memory taken: for a program that settles many cells and is about to end. It takes
-/// no more.
+/// Ends a cell as `settle` does, but leaves its memory taken, so that no block of it has to be looked for: for a program that
+/// settles many cells and is about to end.
 pub fn settle_in_place<V: Drop, C: Drop>(receipt: Receipt<V, C>, waiter: Waiter<V, C>) -> Settled<V>
     requires { receipt_cell receipt ≡ waiter_cell waiter }
     ensures value { value_set receipt ≡ Some (settled_value result) }
     ensures shown { IfSome (shown waiter) (λ v. v ≡ settled_value result) }
     ensures ran { settled_runs result ≡ run_count (registration waiter) }
+    ensures receipt { has_run receipt ≡ was_parked (registration waiter) }
+{
+    let (settled, spent) = join(receipt, waiter);
+    forget(spent);
+    settled
+}
+
+// Joins the halves of a cell, and takes its value.
+fn join<V, C>(receipt: Receipt<V, C>, waiter: Waiter<V, C>) -> (Settled<V>, Spent<V, C>)
+    requires { receipt_cell receipt ≡ waiter_cell waiter }
+    ensures value { value_set receipt ≡ Some (settled_value result.0) }
+    ensures shown { IfSome (shown waiter) (λ v. v ≡ settled_value result.0) }
+    ensures ran { settled_runs result.0 ≡ run_count (registration waiter) }
     ensures receipt { has_run receipt ≡ was_parked (registration waiter) }
 {
     let Receipt { half: sets, ran: _ } = receipt;
@@ -64,11 +70,12 @@ pub fn settle_in_place<V: Drop, C: Drop>(receipt: Receipt<V, C>, waiter: Waiter<
         value,
         registered,
     } = waiter;
-    let value = sets.settle_in_place(waits, value);
-    Settled {
+    let (value, spent) = sets.join(waits, value);
+    let settled = Settled {
         value,
         ran: count_of(registered),
-    }
+    };
+    (settled, spent)
 }
 
 // How many callbacks ran.

@@ -32,7 +32,7 @@ impl<V, C> Waiter<V, C> {
     ghost use Rattle.future_cell.specs.Halves.{place_of};
     ghost use Rattle.future_cell.specs.Cells.{waiter_cell, shown, registration, looks, last_found, Peeked, NotYet};
 
-    /// The waiter of a new cell, from its half: it has shown no value and registered no callback. It takes no memory.
+    /// Makes the waiter of a new cell from its half: it has shown no value and registered no callback.
     pub(crate) fn of(half: Half<V, C>) -> Waiter<V, C>
         requires { place_of half ≡ (Waits fresh, []) }
         ensures { (result.half ≡ half) × (result.value ≡ None) × (result.registered ≡ No) }
@@ -53,8 +53,7 @@ impl<V, C> Waiter<V, C> {
         self.value.as_ref()
     }
 
-    /// Looks for the value, if it was not shown yet: from then on it is shown, or this look at the word did not find `SET`. It
-    /// takes no memory.
+    /// Looks for the value, if it was not shown yet: from then on it is shown, or this look at the word did not find `SET`.
     pub(crate) fn look(&mut self)
         ensures peeked { Peeked self.old self.new }
         ensures missed { IfNone (shown self.new) (NotYet self.old self.new) }

@@ -155,7 +155,7 @@ fn settle_each(
     Ok(suspended_machines)
 }
 
-// Settles each waiter of a machine against its receipt, in place: the run is about to end. It takes no memory.
+// Settles each waiter of a machine against its receipt, in place: the run is about to end.
 fn settle_all(receipts: Vec<Receipt<Reply, Wake>>, waiters: Vec<Waiter<Reply, Wake>>)
     requires { cells_of receipts.items ≡ map waiter_cell waiters.items }
     ensures { (replies : List Reply) → shown_by waiters.items ≡ map Some replies → replies_of receipts.items ≡ map Some replies }

@@ -33,7 +33,7 @@ impl Places {
         Ok(Places { first, second })
     }
 
-    /// Joins two crews. It takes no memory.
+    /// Joins two crews.
     pub(crate) fn keep(self, own: Crew, others: Crew) -> Crew
         ensures { machines_in result ≡ machines_in own ++ machines_in others }
     {

@@ -128,7 +128,7 @@ impl ThreadedMachine {
         started
     }
 
-    /// Posts that the machine is over, which has stopped. It takes no memory.
+    /// Posts that the machine is over, which has stopped.
     pub(crate) fn end<R: Wait>(&mut self, rt: &R)
         requires running { IsRunning self.old }
         requires stopped { self.old.suspended.asks ≡ None }
@@ -142,7 +142,7 @@ impl ThreadedMachine {
         self.client.over(rt, number);
     }
 
-    /// Posts that the machine is over, which can't go on, and before it the Over that it owes, if it owes one. It takes no memory.
+    /// Posts that the machine is over, which can't go on, and before it the Over that it owes, if it owes one.
     pub(crate) fn give_up<R: Wait>(&mut self, rt: &R, refused: Refused)
         ensures overs { overs_of self.new ≡ overs_of self.old + 1 + owed_of refused }
         ensures starts { starts_to self.new ≡ starts_to self.old }

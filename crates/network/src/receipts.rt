@@ -27,7 +27,7 @@ impl Model for Receipts {
 }
 
 impl Receipts {
-    /// These receipts, in this order. It takes no memory.
+    /// These receipts, in this order.
     pub(crate) fn of(items: Vec<Receipt<Reply, Wake>>) -> Receipts
         ensures { result ≡ items.items }
     {

@@ -33,7 +33,7 @@ impl BytesLeft {
         })
     }
 
-    /// Gives at most `piece` bytes into the front of `buf`, and answers how many. It takes no memory.
+    /// Gives at most `piece` bytes into the front of `buf`, and answers how many.
     pub(crate) fn give(&mut self, piece: usize, buf: &mut [u8]) -> usize
         ensures count { result ≡ min (length self.old) (min piece (length buf.new)) }
         ensures bytes { self.old ≡ take result buf.new ++ self.new }

@@ -5,7 +5,7 @@ ghost use Rattle.fdb_tuple.specs.Spelling.{least_bytes};
 ghost use Rattle.allocator_rules.specs.Counters.{packed, counters_prefix, recent_prefix, counter_key, recent_key};
 ghost use Rattle.allocator_rules.specs.Counters.{counters_begin, counters_end};
 
-use fdb_subspace::Subspace;
+use fdb_subspace::{Subspace, range_behind};
 use key_bytes::{Bytes, Key, KeyRange};
 use std::alloc::{AllocError, Global};
 
@@ -61,12 +61,8 @@ impl AllocatorKeys {
     pub(crate) fn digits_in<'a>(&self, key: &'a Key) -> &'a [u8]
         ensures { result.now ≡ drop (length (counters_prefix self.now.space) + 1) key.now }
     {
-        let bytes = key.as_slice();
         let place = self.counters.as_slice().len() + 1;
-        if bytes.len() < place {
-            return &[];
-        }
-        &bytes[place..]
+        key.as_slice().get(place..).unwrap_or(&[])
     }
 
     /// The range that has the keys of all counters.
@@ -74,9 +70,7 @@ impl AllocatorKeys {
         ensures begin { IfOk result (λ range. range.begin ≡ counters_begin self.now.space) }
         ensures end { IfOk result (λ range. range.end ≡ counters_end self.now.space) }
     {
-        let begin = joined(&self.counters, &[0x00])?;
-        let end = joined(&self.counters, &[0xFF])?;
-        Ok(KeyRange { begin, end })
+        range_behind(&self.counters)
     }
 
     /// The range from the prefix of counters to the counter of the window that begins at a number.

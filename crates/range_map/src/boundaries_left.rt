@@ -14,12 +14,12 @@ use std::slice::Iter;
 /// Contracts see the list of them.
 #[derive(Drop)]
 pub struct BoundariesLeft<'a, T> {
-    form: Form<'a, T>,
+    rest: Rest<'a, T>,
 }
 
 // Where the boundaries lie.
 #[derive(Drop)]
-pub(crate) enum Form<'a, T> {
+pub(crate) enum Rest<'a, T> {
     Row(Iter<'a, (Bytes, T)>),
     Tree(TreeLeft<'a, T>),
 }
@@ -30,7 +30,7 @@ impl<'a, T> Model for BoundariesLeft<'a, T> {
 
     ghost Value = { List (List ℕ × T) };
 
-    ghost view = { λ left. left_of left.form };
+    ghost view = { λ left. left_of left.rest };
 }
 
 impl<'a, T> BoundariesLeft<'a, T> {
@@ -39,7 +39,7 @@ impl<'a, T> BoundariesLeft<'a, T> {
         ensures { result ≡ boundaries.now }
     {
         BoundariesLeft {
-            form: Form::Row(boundaries.iter()),
+            rest: Rest::Row(boundaries.iter()),
         }
     }
 
@@ -48,7 +48,7 @@ impl<'a, T> BoundariesLeft<'a, T> {
         ensures { result ≡ boundaries.entry }
     {
         BoundariesLeft {
-            form: Form::Tree(boundaries),
+            rest: Rest::Tree(boundaries),
         }
     }
 }
@@ -62,12 +62,12 @@ impl<'a, T> Iterator for BoundariesLeft<'a, T> {
 
     /// Takes the first boundary that is left, and returns it with its value.
     fn next(&mut self) -> Option<(&'a Key, &'a T)> {
-        match &mut self.form {
-            Form::Row(left) => match left.next() {
+        match &mut self.rest {
+            Rest::Row(left) => match left.next() {
                 Some((boundary, level)) => Some((boundary, level)),
                 None => None,
             },
-            Form::Tree(left) => left.next(),
+            Rest::Tree(left) => left.next(),
         }
     }
 }

@@ -74,7 +74,7 @@ fn change_boundaries<T, C: Change<T>>(
 }
 
 impl<T> Row<T> {
-    // No boundaries. It takes no memory.
+    // No boundaries.
     pub(crate) fn new(alloc: Global) -> Row<T>
         ensures { result ≡ [] }
     {

@@ -79,7 +79,7 @@ impl<T> Tree<T> {
     ghost use Rattle.range_map.specs.FirstTwo.{are_first_two};
     ghost use Rattle.range_map.specs.Halves.{is_nil};
 
-    // The map without a boundary: each key has `base`. It takes no memory.
+    // The map without a boundary: each key has `base`.
     pub(crate) fn new(alloc: Global, base: T) -> Tree<T>
         ensures { result ≡ record { base = base; entries = [] } }
     {
@@ -90,21 +90,21 @@ impl<T> Tree<T> {
         }
     }
 
-    // What the keys below the first boundary have. It takes no memory.
+    // What the keys below the first boundary have.
     pub(crate) fn base(&self) -> &T
         ensures { result.now ≡ self.now.base }
     {
         &self.base
     }
 
-    // Whether there is no boundary. It takes no memory.
+    // Whether there is no boundary.
     pub(crate) fn is_empty(&self) -> bool
         ensures { result ≡ is_nil self.now.entries }
     {
         self.places.len() == 0
     }
 
-    // What a key has: what the last boundary that isn't above it has. It takes no memory.
+    // What a key has: what the last boundary that isn't above it has.
     pub(crate) fn at(&self, key: &Key) -> &T
         ensures { result.now ≡ held self.now key.now }
     {
@@ -114,15 +114,15 @@ impl<T> Tree<T> {
         }
     }
 
-    // Whether a key is a boundary. It takes no memory.
+    // Whether a key is a boundary.
     pub(crate) fn has_boundary(&self, key: &Key) -> bool
         ensures { result ≡ is_boundary key.now self.now }
     {
         self.places.contains_key(key)
     }
 
-    // Whether `begin` is a boundary and `end` is the next one: that the first two boundaries from `begin` on are these two. One
-    // search of the boundaries; it takes no memory.
+    // Whether `begin` is a boundary and `end` is the next one: that the first two boundaries from `begin` on are these two. It
+    // takes one search of the boundaries.
     pub(crate) fn has_neighbours(&self, begin: &Key, end: &Key) -> bool
         ensures { result ≡ are_first_two begin.now end.now (filter (λ e. key_le begin.now e.0) self.now.entries) }
     {
@@ -139,7 +139,7 @@ impl<T> Tree<T> {
         }
     }
 
-    // The first boundary above a key, if there is one. It takes no memory.
+    // The first boundary above a key, if there is one.
     pub(crate) fn next(&self, key: &Key) -> Option<&Key>
         ensures { option_map (λ boundary. boundary.now) result
             ≡ first (filter (key_lt key.now) (boundaries_of self.now)) }
@@ -151,7 +151,7 @@ impl<T> Tree<T> {
         }
     }
 
-    // The last boundary below a key, if there is one. It takes no memory.
+    // The last boundary below a key, if there is one.
     pub(crate) fn prev(&self, key: &Key) -> Option<&Key>
         ensures { option_map (λ boundary. boundary.now) result
             ≡ last (filter (λ boundary. key_lt boundary key.now) (boundaries_of self.now)) }
@@ -163,7 +163,7 @@ impl<T> Tree<T> {
     }
 
     // What a key has, and the first boundary above it, if there is one: one search of the boundaries where the key is a boundary
-    // itself, and else one more. It takes no memory.
+    // itself, and else one more.
     pub(crate) fn around(&self, key: &Key) -> (&T, Option<&Key>)
         ensures at { result.0.now ≡ held self.now key.now }
         ensures next { option_map (λ boundary. boundary.now) result.1
@@ -181,7 +181,7 @@ impl<T> Tree<T> {
     }
 
     // The boundaries from `begin` on that are less than `end`, each with what it has, in the order of keys, for a loop over them:
-    // one search for all of them. It takes no memory.
+    // one search for all of them.
     pub(crate) fn boundaries_between(&self, begin: &Key, end: &Key) -> TreeLeft<'_, T>
         requires { IsTrue (key_lt begin.now end.now) }
         ensures { result ≡ filter (λ e. within begin.now end.now e.0) self.now.entries }
@@ -189,8 +189,7 @@ impl<T> Tree<T> {
         TreeLeft::new(&self.base, &self.levels, self.places.range(begin..end))
     }
 
-    // The boundaries above a key, each with what it has, in the order of keys, for a loop over them: one search for all of them. It
-    // takes no memory.
+    // The boundaries above a key, each with what it has, in the order of keys, for a loop over them: one search for all of them.
     pub(crate) fn boundaries_above(&self, key: &Key) -> TreeLeft<'_, T>
         ensures { result ≡ filter (λ e. key_lt key.now e.0) self.now.entries }
     {
@@ -231,7 +230,7 @@ impl<T> Tree<T> {
         Ok(true)
     }
 
-    // Takes a boundary away again that was none before. It takes no memory.
+    // Takes a boundary away again that was none before.
     fn join(&mut self, key: &Key, is_new: bool)
     where
         T: Drop,
@@ -282,7 +281,7 @@ impl<T> Tree<T> {
         Ok(self.replace(key, level))
     }
 
-    // Takes a boundary away: keys from it on have what those before it have. It takes no memory.
+    // Takes a boundary away: keys from it on have what those before it have.
     pub(crate) fn remove_boundary(&mut self, key: &Key)
     where
         T: Drop,
@@ -293,7 +292,7 @@ impl<T> Tree<T> {
         }
     }
 
-    // Takes all boundaries away, and gives their room back. It takes no memory.
+    // Takes all boundaries away, and gives their room back.
     pub(crate) fn clear(&mut self)
     where
         T: Drop,
@@ -304,7 +303,7 @@ impl<T> Tree<T> {
         self.levels = Vec::new(alloc);
     }
 
-    // Gives a boundary something else, and answers what it had. It takes no memory.
+    // Gives a boundary something else, and answers what it had.
     pub(crate) fn replace(&mut self, key: &Key, level: T) -> T
         requires { IsTrue (is_boundary key.now self.old) }
         ensures before { result ≡ held self.old key.now }
@@ -314,8 +313,8 @@ impl<T> Tree<T> {
         mem::replace(&mut self.levels[place], level)
     }
 
-    // Changes what each boundary from `begin` on has that is less than `end`. It takes no memory, one search, and one write for
-    // each such boundary.
+    // Changes what each boundary from `begin` on has that is less than `end`. It takes one search, and one write for each such
+    // boundary.
     pub(crate) fn change<C: Change<T>>(&mut self, begin: &Key, end: &Key, change: &C)
         ensures { self.new
             ≡ changed (within begin.now end.now) (C.changed change.now) self.old }

@@ -50,7 +50,7 @@ impl<'a, T> Iterator for TreeLeft<'a, T> {
 
     ghost remaining = { λ left. at_most (length left) };
 
-    // The first boundary that is left, which it takes, and what it has. It takes no memory.
+    // The first boundary that is left, which it takes, and what it has.
     fn next(&mut self) -> Option<(&'a Key, &'a T)> {
         match self.span.next() {
             Some((boundary, place)) => Some((boundary, &self.levels[*place])),

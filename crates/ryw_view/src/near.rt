@@ -159,7 +159,7 @@ impl<'a> NearView<'a> {
         }
     }
 
-    // The first pair from a remembered key on, where its own key is remembered. It takes no memory.
+    // The first pair from a remembered key on, where its own key is remembered.
     fn next_near(&self, key: &Key) -> Option<(&'a Key, &'a Bytes)>
         ensures { IfSome (option_map deref_pair result) (MeetsFirst (seen_of self.now.view) key.now false) }
     {
@@ -174,7 +174,7 @@ impl<'a> NearView<'a> {
         }
     }
 
-    // Whether a key is one that it remembers. It takes no memory.
+    // Whether a key is one that it remembers.
     fn remembers(&self, key: &Key) -> bool
         ensures { result ≡ true → AreBare self.now.view.edits.now.mutations key.now false self.now.high
             × (is_inside self.now.high false key.now ≡ true) }
@@ -212,7 +212,7 @@ impl<'a> NearView<'a> {
         Ok(taken)
     }
 
-    // The last pair below a key, where the keys below it are remembered, and that of the pair is. It takes no memory.
+    // The last pair below a key, where the keys below it are remembered, and that of the pair is.
     fn prev_near(&self, key: &Key) -> Option<(&'a Key, &'a Bytes)>
         ensures { IfSome (option_map deref_pair result) (MeetsFirst (seen_of self.now.view) key.now true) }
     {

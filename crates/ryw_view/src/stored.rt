@@ -40,7 +40,7 @@ impl<'a> View<'a> {
         }
     }
 
-    // The first stored pair from a key on, up to the boundary of a segment. It takes no memory.
+    // The first stored pair from a key on, up to the boundary of a segment.
     pub(crate) fn first_stored(
         &self,
         from: &Key,
@@ -52,7 +52,7 @@ impl<'a> View<'a> {
         self.stored_from(from, boundary).next()
     }
 
-    // The last stored pair below a key, down to the boundary of a segment. It takes no memory.
+    // The last stored pair below a key, down to the boundary of a segment.
     pub(crate) fn last_stored(
         &self,
         until: &Key,

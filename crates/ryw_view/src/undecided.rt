@@ -14,7 +14,7 @@ use std::alloc::AllocError;
 use write_map::{KeyState, WriteMap};
 
 /// Returns what the mutations make of a key, and how far all keys from it on are alike: up to a boundary below the end of a range,
-/// or, where no boundary is given, up to that end. It takes no memory, and one search.
+/// or, where no boundary is given, up to that end. It takes one search.
 pub fn around_below<'a>(
     edits: &'a WriteMap,
     from: &Key,

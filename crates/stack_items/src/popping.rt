@@ -25,7 +25,7 @@ impl Stack {
     }
 
     /// Takes so many items off, those that a look at operands came past, where the operands were found or refused; where
-    /// the look came to an item that waits, all items stay. It answers what the look has come to, and takes no memory.
+    /// the look came to an item that waits, all items stay. It answers what the look has come to.
     pub fn settle<T>(
         &mut self,
         popped: usize,

@@ -38,7 +38,7 @@ impl Model for Stack {
 }
 
 impl Stack {
-    /// Makes the empty stack. It takes no memory, and keeps the allocator for what is pushed later.
+    /// Makes the empty stack, and keeps the allocator for what is pushed later.
     pub fn new(alloc: Global) -> Stack
         ensures { result ≡ [] }
     {

@@ -44,7 +44,7 @@ pub fn instruction_of(alloc: Global, value: &[u8]) -> Result<Option<Instruction>
 }
 
 // The instruction where the value is that of one of those that most transactions have: one comparison each, and no look at the
-// bytes of the name. It takes no memory.
+// bytes of the name.
 fn usual_instruction(value: &[u8]) -> Option<Instruction>
     ensures instruction { IfSome result (λ instruction. instruction_of value.now ≡ Some instruction) }
     ensures element { PushesAnElement result }
@@ -66,8 +66,7 @@ fn usual_instruction(value: &[u8]) -> Option<Instruction>
     }
 }
 
-// The string that the value packs alone under this code, where no zero stands in it, so that it is packed as it stands. It takes no
-// memory.
+// The string that the value packs alone under this code, where no zero stands in it, so that it is packed as it stands.
 fn lone_string(value: &[u8], code: u8) -> Option<&[u8]>
     ensures packed { IfSome result (λ string. value.now ≡ code ∷ string.now ++ 0 ∷ []) }
     ensures whole { IfSome result (λ string. HasNoZero string.now) }
@@ -79,7 +78,7 @@ fn lone_string(value: &[u8], code: u8) -> Option<&[u8]>
     Some(string)
 }
 
-// The name where the value packs a Unicode string alone, without a zero in it, as most instructions do. It takes no memory.
+// The name where the value packs a Unicode string alone, without a zero in it, as most instructions do.
 fn lone_name(value: &[u8]) -> Option<&[u8]>
     ensures { IfSome result (λ name. read_tuple value.now ≡ Ok (Single (Text name.now) Empty)) }
 {

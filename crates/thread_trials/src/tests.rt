@@ -1,3 +1,4 @@
+mod cells;
 mod line;
 mod machines;
 mod serving;

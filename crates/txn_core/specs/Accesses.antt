@@ -89,7 +89,7 @@ early_code kept outside lacks = first_failing (after_phase kept.phase
     ((outside, KEY_OUTSIDE_LEGAL_RANGE) ∷ (lacks, EXACT_MODE_WITHOUT_LIMITS) ∷ []))
 
 -- A read is let through to its answer: no earlier check refuses it, and its version isn't above the last one. It is refused by
--- an earlier check, and all is as before; or since its version is above the last one, and has it taken. It takes no memory.
+-- an earlier check, and all is as before; or since its version is above the last one, and has it taken.
 abbrev pub Admits : {A : Type 0} → Result A TrFault → (old new : Kept) → Versions → (outside lacks : Bool) → Type 0
 Admits (Ok _) old new store outside lacks =
     (early_code old outside lacks ≡ None) × (is_ahead_of old store ≡ false) × (new ≡ old)

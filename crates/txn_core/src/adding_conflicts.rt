@@ -97,8 +97,7 @@ impl Txn {
         }
     }
 
-    // The one key of the commit's write conflict ranges, where its only mutation sets it, and there is no other range. It takes no
-    // memory.
+    // The one key of the commit's write conflict ranges, where its only mutation sets it, and there is no other range.
     fn only_write_conflicts(&self) -> Option<&Key>
         ensures { IfSome result (λ key. (stamp : List ℕ) → write_conflicts_in stamp self.now ≡ one key.now ∷ []) }
     {

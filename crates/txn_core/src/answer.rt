@@ -120,7 +120,7 @@ impl Answer {
         Answer::new(Reply::Version(version))
     }
 
-    // What a call for a versionstamp was answered. It takes no memory.
+    // What a call for a versionstamp was answered.
     pub(crate) fn of_promise(promise: Result<u64, Code>) -> Answer
         ensures { TellsOf promise result }
     {

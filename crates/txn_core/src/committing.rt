@@ -24,15 +24,15 @@ use std::alloc::AllocError;
 use version_store::Store;
 
 impl Txn {
-    // Whether its commit makes no version: it has no mutation, and no write conflict range was added. It takes no memory.
+    // Whether its commit makes no version: it has no mutation, and no write conflict range was added.
     fn is_read_only(&self) -> bool
         ensures { result ≡ is_bare self.now }
     {
         self.edits.is_empty() && self.write_ranges.is_empty()
     }
 
-    // Whether a commit after a version wrote a key of the transaction's read conflict ranges. It takes no memory, and no search
-    // where no commit came after that version.
+    // Whether a commit after a version wrote a key of the transaction's read conflict ranges. It takes no search where no commit
+    // came after that version.
     fn has_conflict(&self, index: &WriteIndex, version: u64) -> bool
         ensures { (store : Versions) (setting : Setting) → Keeps store index.now setting
             → result ≡ conflicts setting.history version self.now.read_ranges }
@@ -48,7 +48,7 @@ impl Txn {
         false
     }
 
-    // The code of the first check of a commit at its version that fails. It takes no memory.
+    // The code of the first check of a commit at its version that fails.
     fn conflict_code(&self, store: &Store, index: &WriteIndex) -> Option<Code>
         ensures { (setting : Setting) (t : rules.Transaction) → StandsFor self.now t → Keeps store.now index.now setting
             → option_map rules.number_of result ≡ conflict_refusal setting t }
@@ -82,7 +82,7 @@ impl Txn {
         Ok(Verdict::Commits)
     }
 
-    // Notes what became of a commit. It takes no memory.
+    // Notes what became of a commit.
     pub(crate) fn tried(&mut self, tried: Tried)
         requires { IsLow tried }
         ensures { (t : rules.Transaction) → StandsFor self.old t → StandsFor self.new (rules.with_phase t (phase.Tried tried)) }
@@ -90,7 +90,7 @@ impl Txn {
         self.phase = Phase::Tried(tried);
     }
 
-    // Notes a refusal of a commit that the phase let through. It takes no memory.
+    // Notes a refusal of a commit that the phase let through.
     fn refuse(&mut self, code: Code)
         ensures { (t : rules.Transaction) → StandsFor self.old t → StandsFor self.new (commit_refused t.phase code.0 t).transaction }
     {
@@ -144,7 +144,7 @@ impl Txn {
         }
     }
 
-    // A commit that a check refuses. It takes no memory.
+    // A commit that a check refuses.
     fn answer_refusal(&mut self, code: Code) -> Answer
         ensures { (t : rules.Transaction) (store : Versions) (index : Index) (setting : Setting)
             → Judged (Err (fault.Code code)) (StandsFor self.old) setting t

@@ -171,7 +171,7 @@ fn is_unused(nodes: &Slab<Node>, place: u32) -> bool
     }
 }
 
-// Writes over the node of a place, which is unused. It takes no memory.
+// Writes over the node of a place, which is unused.
 fn fill_at(nodes: &mut Slab<Node>, place: u32, version: u64, value: Option<Bytes>)
     requires unused { IsSomeAnd (slab.get nodes.old place) IsUnused }
     ensures fills { Fills nodes.old.slots nodes.new.slots place version value }
@@ -183,7 +183,7 @@ fn fill_at(nodes: &mut Slab<Node>, place: u32, version: u64, value: Option<Bytes
     node.value = value;
 }
 
-// Moves the node of a place to a vacant slot, and puts a new one before it, at the place. It takes no memory.
+// Moves the node of a place to a vacant slot, and puts a new one before it, at the place.
 fn put_before(nodes: &mut Slab<Node>, place: u32, version: u64, value: Option<Bytes>)
     requires room { HasRoomFor nodes.old 1 }
     requires small { nodes.old.capacity < 2 ^ 32 }
@@ -205,7 +205,7 @@ fn put_before(nodes: &mut Slab<Node>, place: u32, version: u64, value: Option<By
     nodes.get_mut(place as usize).unwrap().older = older as u32;
 }
 
-// Gives the key of a place a value at a version. It takes no memory.
+// Gives the key of a place a value at a version.
 fn put_at(nodes: &mut Slab<Node>, place: u32, version: u64, value: Option<Bytes>)
     requires room { 1 ≤ room_of nodes.old }
     requires there { IsSomeAnd (slab.get nodes.old place) (λ node. node.left ≤ slab_len nodes.old) }
@@ -222,7 +222,7 @@ fn put_at(nodes: &mut Slab<Node>, place: u32, version: u64, value: Option<Bytes>
 }
 
 // Gives each change's key its value at the place that was noted for it, with no search: the body doesn't look at the tree, which
-// tells contracts whose places they are. It takes no memory.
+// tells contracts whose places they are.
 pub(crate) fn put_changes(
     _tree: &BTreeMap<Bytes, u32>,
     nodes: &mut Slab<Node>,

@@ -255,8 +255,7 @@ impl Store {
         self.last = version;
     }
 
-    /// Returns the pairs at the last version, in the order of their keys, for a loop over them. It copies none,
-    /// and takes no memory.
+    /// Returns the pairs at the last version, in the order of their keys, for a loop over them. It copies none.
     pub fn pairs_left(&self) -> PairsLeft<'_>
         ensures { result ≡ finite.entries (at self.now (last_of self.now)) }
     {

@@ -1,6 +1,6 @@
 use Rattle.std.proofs.Common.{sym, ap, ◌∙◌}
 use Rattle.future_cell.proofs.Steps.{fits, meets}
-use Rattle.future_cell.proofs.half.Half.settle.Goals as goal
+use Rattle.future_cell.proofs.half.Half.join.Goals as goal
 
 pub join_seat-requires : goal.join_seat-requires
 join_seat-requires g c =
