@@ -1,0 +1,167 @@
+-- What a call answers, by what its steps did.
+use Rattle.std.proofs.Common.{◌≡◌, ℕ, zero, suc, Bool, false, List, [], ◌∷◌, take, Option, Some, None, Result, Ok, Err, refl, sym, ap, ◌∙◌, subst}
+use Rattle.std.specs.FinMap as finite
+use Rattle.database_rules.specs.declared.Code.{Code}
+use Rattle.database_rules.specs.Databases.{Mutation, Set, Clear}
+use Rattle.database_rules.specs.Histories.{Setting}
+use Rattle.database_rules.specs.Reads.{Read, Get, GetKeyRange}
+use Rattle.database_rules.specs.Slices.{Entries, slice}
+use Rattle.database_rules.specs.Transactions.{Transaction, view}
+use Rattle.fdb_calls.specs.declared.Reply.{Reply}
+use Rattle.fdb_calls.specs.declared.Reply.TheVariants as reply
+use Rattle.fdb_calls.specs.declared.fault.TrFault.{TrFault}
+use Rattle.fdb_calls.specs.declared.fault.TrFault.TheVariants as tr
+use Rattle.fdb_calls.specs.Answers.{Answered}
+use Rattle.allocator_rules.specs.Acts.{Act, Reads, Writes, act_called, all_acted, refusal}
+use Rattle.allocator_rules.proofs.Reading.{value_read, pairs_read}
+use Rattle.recipe_rules.specs.declared.fault.RecipeFault.{RecipeFault}
+use Rattle.recipe_rules.specs.declared.fault.RecipeFault.TheVariants as fault
+use Rattle.recipe_rules.specs.Faults.{from_tr}
+use Rattle.recipe_rules.specs.Turns.{Turn, Call, acts, acts_behind, ending, written, EndsIn, StopsIn, IsAnswered}
+use Rattle.recipe_rules.proofs.Calling.{behind_through, refused_first, none_acted}
+use Rattle.recipe_layers.specs.Steps.{IsRead, Tells, IsWritten}
+
+-- ---- memory ran out
+
+-- before the first act
+pub stops_first : (setting : Setting) (stands : Transaction → Type 0) (acts : List Act) (t : Transaction) → stands t → StopsIn setting stands acts t
+stops_first setting stands acts t is = record {
+  count = 0;
+  let_through = (none_acted setting t).0;
+  left = subst stands (sym (none_acted setting t).1) is;
+}
+
+-- among the acts behind one that was let through
+pub stops_behind : (setting : Setting) (stands : Transaction → Type 0) (act : Act) (acts : List Act) (t : Transaction)
+    → refusal (act_called setting t act).reply ≡ None → StopsIn setting stands acts (act_called setting t act).transaction
+    → StopsIn setting stands (act ∷ acts) t
+stops_behind setting stands act acts t passed stops =
+    let one = behind_through setting act (take stops.count acts) t passed in
+    record {
+      count = suc stops.count;
+      let_through = one.refused ∙ stops.let_through;
+      left = subst stands (sym one.left) stops.left;
+    }
+
+-- ---- the read
+
+-- a fault of the read is the call's
+pub read_stopped : {A X : Type 0} (good : A → Type 0) (f : RecipeFault) (setting : Setting) (stands : Transaction → Type 0) (call : Call X)
+    (t : Transaction) → IsRead good (Err f) setting stands call.read t → IsAnswered {X = X} (Err f) setting stands call t
+read_stopped good (fault.Tr code) setting stands call t is =
+    let one = refused_first setting (Reads call.read false) (acts_behind call.turn) t code is.0 in
+    (one.0, subst stands (sym one.1) is.1)
+read_stopped good fault.NoMemory setting stands call t is = stops_first setting stands (acts call) t is
+read_stopped good (fault.BadKey key) setting stands call t is = absurd is
+read_stopped good fault.IndexEnd setting stands call t is = absurd is
+read_stopped good (fault.PastEnd size) setting stands call t is = absurd is
+
+-- the pairs of a range that were answered
+pub pairs_are_read : (result : Result Entries TrFault) (setting : Setting) (stands : Transaction → Type 0) (begin end : List ℕ) (limit : ℕ)
+    (backward : Bool) (t : Transaction)
+    → Answered reply.PairsAre result stands t (act_called setting t (Reads (GetKeyRange begin end limit backward) false))
+    → IsRead (λ pairs. pairs ≡ slice (view setting t) begin end limit backward) (from_tr result) setting stands
+    (GetKeyRange begin end limit backward) t
+pairs_are_read (Ok pairs) setting stands begin end limit backward t (is, after) =
+    (ap refusal (sym is), pairs_read setting t false backward begin end limit pairs is, after)
+pairs_are_read (Err (tr.Code code)) setting stands begin end limit backward t (is, after) = (ap refusal (sym is), after)
+pairs_are_read (Err tr.NoMemory) setting stands begin end limit backward t is = is
+
+-- the value of a key that was answered
+pub value_is_read : (result : Result (Option (List ℕ)) TrFault) (setting : Setting) (stands : Transaction → Type 0) (key : List ℕ) (t : Transaction)
+    → Answered reply.Value result stands t (act_called setting t (Reads (Get key) false))
+    → IsRead (λ value. value ≡ finite.get (view setting t) key) (from_tr result) setting stands (Get key) t
+value_is_read (Ok value) setting stands key t (is, after) = (ap refusal (sym is), value_read setting t false key value is, after)
+value_is_read (Err (tr.Code code)) setting stands key t (is, after) = (ap refusal (sym is), after)
+value_is_read (Err tr.NoMemory) setting stands key t is = is
+
+-- ---- what was found out
+
+-- a fault of its own ends the call behind its read
+ended_behind : {X : Type 0} (f : RecipeFault) (setting : Setting) (stands : Transaction → Type 0) (call : Call X) (t : Transaction)
+    → refusal (act_called setting t (Reads call.read false)).reply ≡ None → stands (act_called setting t (Reads call.read false)).transaction
+    → call.turn ≡ Err f → EndsIn (Err f) stands call (all_acted setting (acts call) t)
+ended_behind f setting stands call t passed after turn =
+    let one = behind_through setting (Reads call.read false) (acts_behind call.turn) t passed in
+    let u = (act_called setting t (Reads call.read false)).transaction in
+    let none = ap (λ turn. (all_acted setting (acts_behind turn) u).refused) turn ∙ (none_acted setting u).0 in
+    let left = ap (λ turn. (all_acted setting (acts_behind turn) u).transaction) turn ∙ (none_acted setting u).1 in
+    (one.refused ∙ none, ap ending turn, subst stands (sym (one.left ∙ left)) after)
+
+pub told_fault : {A B X : Type 0} (good : A → Type 0) (value : A) (f : RecipeFault) (said : Result B RecipeFault) (setting : Setting)
+    (stands : Transaction → Type 0) (call : Call X) (t : Transaction) → IsRead good (Ok value) setting stands call.read t
+    → Tells (Err f) said → ((f : RecipeFault) → said ≡ Err f → call.turn ≡ Err f) → IsAnswered {X = X} (Err f) setting stands call t
+told_fault good value (fault.BadKey key) said setting stands call t read told turn =
+    ended_behind (fault.BadKey key) setting stands call t read.0 read.2 (turn (fault.BadKey key) told)
+told_fault good value fault.IndexEnd said setting stands call t read told turn =
+    ended_behind fault.IndexEnd setting stands call t read.0 read.2 (turn fault.IndexEnd told)
+told_fault good value (fault.PastEnd size) said setting stands call t read told turn =
+    ended_behind (fault.PastEnd size) setting stands call t read.0 read.2 (turn (fault.PastEnd size) told)
+told_fault good value (fault.Tr code) said setting stands call t read told turn = absurd told
+told_fault good value fault.NoMemory said setting stands call t read told turn =
+    stops_behind setting stands (Reads call.read false) (acts_behind call.turn) t read.0
+    (stops_first setting stands (acts_behind call.turn) (act_called setting t (Reads call.read false)).transaction read.2)
+
+-- ---- the writes
+
+-- one write that was answered
+pub one_written : (result : Result (Unit {0}) TrFault) (setting : Setting) (stands : Transaction → Type 0) (mutation : Mutation) (t : Transaction)
+    → Answered (λ (done : Unit {0}). reply.Done) result stands t (act_called setting t (Writes mutation))
+    → IsWritten (from_tr result) setting stands (mutation ∷ []) t
+one_written (Ok done) setting stands mutation t (is, after) =
+    let one = behind_through setting (Writes mutation) [] t (ap refusal (sym is)) in
+    let u = (act_called setting t (Writes mutation)).transaction in
+    (one.refused ∙ (none_acted setting u).0, subst stands (sym (one.left ∙ (none_acted setting u).1)) after)
+one_written (Err (tr.Code code)) setting stands mutation t (is, after) =
+    let one = refused_first setting (Writes mutation) [] t code (ap refusal (sym is)) in
+    (one.0, subst stands (sym one.1) after)
+one_written (Err tr.NoMemory) setting stands mutation t is = stops_first setting stands (Writes mutation ∷ []) t is
+
+-- no write
+pub none_written : (setting : Setting) (stands : Transaction → Type 0) (t : Transaction) → stands t → IsWritten (Ok tt) setting stands [] t
+none_written setting stands t is = ((none_acted setting t).0, subst stands (sym (none_acted setting t).1) is)
+
+-- the reply behind the writes
+pub replied : {A X : Type 0} (good : A → Type 0) (value : A) (turn : Turn X) (setting : Setting) (first stands : Transaction → Type 0) (call : Call X)
+    (t : Transaction) → IsRead good (Ok value) setting first call.read t → call.turn ≡ Ok turn
+    → ((u : Transaction) → first u → IsWritten (Ok tt) setting stands turn.writes u) → IsAnswered (Ok turn.reply) setting stands call t
+replied good value turn setting first stands call t read turn_is writes =
+    let one = behind_through setting (Reads call.read false) (acts_behind call.turn) t read.0 in
+    let u = (act_called setting t (Reads call.read false)).transaction in
+    let done = writes u read.2 in
+    let refused = ap (λ turn. (all_acted setting (acts_behind turn) u).refused) turn_is in
+    let left = ap (λ turn. (all_acted setting (acts_behind turn) u).transaction) turn_is in
+    (one.refused ∙ refused ∙ done.0, ap ending turn_is, subst stands (sym (one.left ∙ left)) done.1)
+
+-- a fault of a write is the call's
+pub write_stopped : {A X : Type 0} (good : A → Type 0) (value : A) (f : RecipeFault) (turn : Turn X) (setting : Setting)
+    (first stands : Transaction → Type 0) (call : Call X)
+    (t : Transaction) → IsRead good (Ok value) setting first call.read t → call.turn ≡ Ok turn
+    → ((u : Transaction) → first u → IsWritten (Err f) setting stands turn.writes u) → IsAnswered {X = X} (Err f) setting stands call t
+write_stopped good value (fault.Tr code) turn setting first stands call t read turn_is writes =
+    let one = behind_through setting (Reads call.read false) (acts_behind call.turn) t read.0 in
+    let u = (act_called setting t (Reads call.read false)).transaction in
+    let done = writes u read.2 in
+    let refused = ap (λ turn. (all_acted setting (acts_behind turn) u).refused) turn_is in
+    let left = ap (λ turn. (all_acted setting (acts_behind turn) u).transaction) turn_is in
+    (one.refused ∙ refused ∙ done.0, subst stands (sym (one.left ∙ left)) done.1)
+write_stopped good value fault.NoMemory turn setting first stands call t read turn_is writes =
+    stops_behind setting stands (Reads call.read false) (acts_behind call.turn) t read.0
+    (subst (λ turn. StopsIn setting stands (acts_behind turn) (act_called setting t (Reads call.read false)).transaction) (sym turn_is)
+    (writes (act_called setting t (Reads call.read false)).transaction read.2))
+write_stopped good value (fault.BadKey key) turn setting first stands call t read turn_is writes =
+    absurd (writes (act_called setting t (Reads call.read false)).transaction read.2)
+write_stopped good value fault.IndexEnd turn setting first stands call t read turn_is writes =
+    absurd (writes (act_called setting t (Reads call.read false)).transaction read.2)
+write_stopped good value (fault.PastEnd size) turn setting first stands call t read turn_is writes =
+    absurd (writes (act_called setting t (Reads call.read false)).transaction read.2)
+
+-- a call without a reply of its own answers what its writes do
+pub written_all : {A : Type 0} (good : A → Type 0) (value : A) (result : Result (Unit {0}) RecipeFault) (turn : Turn (Unit {0})) (setting : Setting)
+    (first stands : Transaction → Type 0) (call : Call (Unit {0})) (t : Transaction) → IsRead good (Ok value) setting first call.read t
+    → call.turn ≡ Ok turn → ((u : Transaction) → first u → IsWritten result setting stands turn.writes u)
+    → IsAnswered result setting stands call t
+written_all good value (Ok done) turn setting first stands call t read turn_is writes =
+    replied good value turn setting first stands call t read turn_is writes
+written_all good value (Err f) turn setting first stands call t read turn_is writes =
+    write_stopped good value f turn setting first stands call t read turn_is writes

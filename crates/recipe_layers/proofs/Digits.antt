@@ -1,0 +1,87 @@
+-- How the key of an index is read.
+use Rattle.std.proofs.Common.{◌≡◌, ℕ, ◌+◌, ◌*◌, ◌^◌, ◌<◌, ◌≤◌, true, false, cond, ◌&&◌, List, [], ◌++◌, length, get_or, take, drop, reverse, Option, Some, None, refl, sym, ap, ◌∙◌, arith}
+use Rattle.std.specs.Prelude.{bytes_eq, nat_le, pos}
+use Rattle.std.proofs.Math.Bool.{and-false}
+use Rattle.std.proofs.lemmas.Bool.{and_from, le-leb, lt-leb}
+use Rattle.std.proofs.lemmas.List.{append-nil, length-append, length-drop, length-reverse, length-take}
+use Rattle.key_bytes.specs.Numbers.{number_low}
+use Rattle.fdb_tuple.specs.Spelling.{least_bytes, low_first, int_spelled}
+use Rattle.fdb_tuple.proofs.ByteLists.{AreBytes, AreBytes-take, number_high_below, number_more}
+use Rattle.fdb_tuple.proofs.Digits.{length-low_first_le, with_sign-false}
+use Rattle.allocator_rules.proofs.Codes.{number_spelled}
+use Rattle.recipe_rules.specs.declared.TheConstants.{GREATEST_INDEX}
+use Rattle.recipe_rules.specs.Queues.{index_key, index_in}
+use Rattle.recipe_rules.proofs.Indexes.{index_in_is}
+
+-- ---- the number of digits
+
+-- up to seven digits there is room for one more
+pub digits_fit : (digits : List ℕ) (i : ℕ) → i < length digits → length digits ≤ 8 → AreBytes digits
+    → number_low (reverse (take i digits)) < 256 ^ 7
+digits_fit digits i lt le bytes =
+    number_high_below 7 (take i digits) (omega (arith, length-take i digits)) (AreBytes-take i digits bytes)
+
+-- one more digit
+pub digits_more : (digits : List ℕ) (i : ℕ) → i < length digits
+    → number_low (reverse (take (i + 1) digits)) ≡ 256 * number_low (reverse (take i digits)) + get_or digits i 0
+digits_more digits i lt =
+    ap (λ bytes. number_low (reverse bytes)) (sym (with_sign-false (take (i + 1) digits)))
+    ∙ number_more false digits i lt
+    ∙ ap (λ bytes. 256 * number_low (reverse bytes) + get_or digits i 0) (with_sign-false (take i digits))
+
+-- ---- the digits of a key
+
+-- those behind the code of an index
+abbrev pub digits_in : (space key : List ℕ) → List ℕ
+digits_in space key = drop (length space + 1) key
+
+index_length : (index : ℕ) → index ≤ GREATEST_INDEX → length (int_spelled (pos index)) ≤ 9
+unfolding least_bytes
+index_length index small = rw (number_spelled index (omega arith))
+    (omega (arith, length-reverse (low_first 16 index), length-low_first_le 16 8 index (omega arith)))
+
+-- the key of an index has at most eight
+few_digits : (space : List ℕ) (index : ℕ) → index ≤ GREATEST_INDEX → length (digits_in space (index_key space index)) ≤ 8
+few_digits space index small =
+    let key = length-append space (int_spelled (pos index) ++ []) in
+    let one = ap length (append-nil (int_spelled (pos index))) in
+    let left = length-drop (length space + 1) (index_key space index) in
+    omega (arith, key, one, left, index_length index small)
+
+-- so a key with more is none
+pub many_digits : (space key : List ℕ) → 8 < length (digits_in space key) → None ≡ index_in space key
+many_digits space key many = by (index_in space key) refl
+  where
+    by : (index : Option ℕ) → index_in space key ≡ index → None ≡ index
+    by None is = refl
+    by (Some index) is = absurd
+        (let parts = index_in_is space key index is in
+        let few = few_digits space index parts.1 in
+        let same = ap (λ key. length (digits_in space key)) parts.0 in
+        omega (arith, few, same, many))
+
+-- ---- the number of a key
+
+-- the number that its digits say
+abbrev pub said : (space key : List ℕ) → ℕ
+said space key = number_low (reverse (digits_in space key))
+
+-- a key that is that of this number is an index's, where the number is small enough
+pub said_index : (space key : List ℕ) → bytes_eq key (index_key space (said space key)) ≡ true → said space key ≤ GREATEST_INDEX
+    → Some (said space key) ≡ index_in space key
+unfolding index_in
+said_index space key equal small =
+    sym (ap (λ b. cond b (Some (said space key)) None) (and_from _ _ equal (le-leb (said space key) GREATEST_INDEX small)))
+
+-- a key that is another, or that of a greater number, isn't
+pub another_key : (space key : List ℕ) → bytes_eq key (index_key space (said space key)) ≡ false → None ≡ index_in space key
+unfolding index_in
+another_key space key differs =
+    sym (ap (λ b. cond (b && nat_le (said space key) GREATEST_INDEX) (Some (said space key)) None) differs)
+
+pub great_number : (space key : List ℕ) → GREATEST_INDEX < said space key → None ≡ index_in space key
+unfolding index_in
+great_number space key great =
+    let equal = bytes_eq key (index_key space (said space key)) in
+    sym (ap (λ b. cond (equal && b) (Some (said space key)) None) (lt-leb (said space key) GREATEST_INDEX great)
+    ∙ ap (λ b. cond b (Some (said space key)) None) (and-false equal))

@@ -1,0 +1,15 @@
+//! Three layers over any transaction that answers as the definitions say (`Tr`), each in a subspace of its own: a queue
+//! (`push`, `pop`), a map from pairs to counts (`add`, `subtract`, `values`) and a byte string in chunks (`size`, `read`,
+//! `write`).
+//!
+//! Each call makes exactly the reads and writes that its definition lists (`recipe_rules`), all of them ordinary, and its
+//! contract says what they make of the queue, the counts or the bytes, and that every key outside the subspace is seen as
+//! before. So calls of transactions that commit are those of the list, the map or the string in the order of the commits.
+#![tactic(auto)]
+
+mod keys;
+mod queue;
+mod reading;
+
+pub use queue::{pop, push};
+pub use recipe_rules::{Count, Counts, RecipeFault};

@@ -1,0 +1,65 @@
+//! The read of a call.
+
+ghost use Rattle.std.specs.Prelude.{◌≡◌, true, false};
+ghost use Rattle.database_rules.specs.Histories.{Setting};
+ghost use Rattle.database_rules.specs.Reads.{GetKeyRange};
+ghost use Rattle.database_rules.specs.Slices.{slice};
+ghost use Rattle.database_rules.specs.Transactions.{Transaction, view};
+ghost use Rattle.recipe_rules.specs.Turns.{space_begin, space_end, first_pair};
+ghost use Rattle.recipe_rules.specs.Faults.{from_tr};
+ghost use Rattle.recipe_layers.specs.Steps.{IsRead, pair_of};
+
+use crate::keys::range_behind;
+use fdb_calls::{Tr, TrFault};
+use fdb_subspace::Subspace;
+use key_bytes::{KeyRange, Pair, Pairs};
+use recipe_rules::RecipeFault;
+
+/// What a call of the transaction answered, with the fault of a call of a layer.
+pub(crate) fn from_tr<X>(answer: Result<X, TrFault>) -> Result<X, RecipeFault>
+    ensures { result ≡ from_tr answer }
+{
+    match answer {
+        Ok(value) => Ok(value),
+        Err(TrFault::Code(code)) => Err(RecipeFault::Tr(code)),
+        Err(TrFault::NoMemory) => Err(RecipeFault::NoMemory),
+    }
+}
+
+/// Reads the pairs of a range, up to a limit, or all where it is 0, in the order of their keys, or in the other order.
+pub(crate) fn read_range<T: Tr>(
+    tr: &mut T,
+    range: &KeyRange,
+    limit: u32,
+    reverse: bool,
+) -> Result<Pairs, RecipeFault>
+    ensures read { (setting : Setting) (t : Transaction) → T.Tr.stands tr.old setting t
+        → IsRead (λ pairs. pairs ≡ slice (view setting t) range.now.begin range.now.end limit reverse) result setting (T.Tr.stands tr.new setting)
+        (GetKeyRange range.now.begin range.now.end limit reverse) t }
+    ensures same { T.Tr.same tr.old tr.new }
+{
+    from_tr(tr.range(range, limit, reverse, false))
+}
+
+/// Reads the pairs of a subspace, in the same way.
+pub(crate) fn read_pairs<T: Tr>(
+    tr: &mut T,
+    s: &Subspace,
+    limit: u32,
+    reverse: bool,
+) -> Result<Pairs, RecipeFault>
+    ensures read { (setting : Setting) (t : Transaction) → T.Tr.stands tr.old setting t
+        → IsRead (λ pairs. pairs ≡ slice (view setting t) (space_begin s.now.prefix) (space_end s.now.prefix) limit reverse) result setting
+        (T.Tr.stands tr.new setting) (GetKeyRange (space_begin s.now.prefix) (space_end s.now.prefix) limit reverse) t }
+    ensures same { T.Tr.same tr.old tr.new }
+{
+    let range = range_behind(&s.prefix)?;
+    read_range(tr, &range, limit, reverse)
+}
+
+/// Returns the first of some pairs, where there is one.
+pub(crate) fn first_of(pairs: Pairs) -> Option<Pair>
+    ensures { pair_of result ≡ first_pair pairs }
+{
+    pairs.into_vec().into_iter().next()
+}

@@ -1,0 +1,5 @@
+pub mod Seeing
+pub mod Pairs
+pub mod Calling
+pub mod Indexes
+pub mod Queueing
