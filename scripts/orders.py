@@ -62,7 +62,7 @@ class Replays:
         """
         probe = bytes([machine])
         asked = order[: places[0]]
-        for place, end in itertools.pairwise([*places, places[-1]]):
+        for place, end in zip(places, [*places[1:], places[-1]]):
             asked += probe + order[place:end]
         asked += probe
         refusals = [self.ask(asked, len(places) + more).refused for more in (0, 1)]
@@ -188,19 +188,27 @@ class Walk:
 
     def count_more(self, order):
         """Finds a machine that has more requests than it was thought to have, in an order that ends early."""
-        for place in range(len(self.branch.front), len(order) + 1):
+        front = len(self.branch.front)
+        for place in range(front, len(order) + 1):
             machine = order[place - 1] if place else 0
-            if machine not in order[place:]:
-                more = self.replays.run_of(order[:place], machine)
-                if more:
-                    self.counts[machine] = order[:place].count(machine) + more
-                    return
+            if machine not in order[place:] and self.counts_more(order[:place], machine):
+                return
         for machine in range(MACHINES):
-            more = self.replays.run_of(order, machine)
-            if more:
-                self.counts[machine] = order.count(machine) + more
+            is_looked_at = order.rfind(machine) >= max(front - 1, 0)
+            if not is_looked_at and self.counts_more(order, machine):
                 return
         raise ReplayFault("the order ends early, and no machine has a request")
+
+    def counts_more(self, places, machine):
+        """Counts the requests that a machine has behind the places, and tells whether there are any."""
+        if machine in self.lacking.get(places, ()):
+            return False
+        more = self.replays.run_of(places, machine)
+        if more:
+            self.counts[machine] = places.count(machine) + more
+        else:
+            self.lacking[places].add(machine)
+        return more > 0
 
     def starts(self, order):
         """Returns the place from which on each machine of the order has a request."""

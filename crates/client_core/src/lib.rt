@@ -6,6 +6,17 @@
 //! of each life, each name has a transaction that stands for the world's, and the same machines were started (`specs/Stands.antt`).
 //! `load` stands for the beginning, and for every world for which a core stands before `apply`, the reply is that of the step, and
 //! the core stands for the world of the step.
+//!
+//! # Choices
+//!
+//! - A core stands for a world by a relation (`StandsFor`), and keeps no history: a later commit is judged by the newest
+//!   commit of each key alone.
+//! - After want of memory nothing is said of a core, and the run ends with status 6.
+//! - What became of a life is kept to the end, in a list with a place of 16 bytes at most for each life that was drawn: an
+//!   item may wait for any of them. A `_DATABASE` call and a batch of LOG_STACK draw a life too.
+//! - The machines that were started are kept by their prefixes, in a list by their numbers, in the world as in the core.
+//! - A request is handed to `apply` by reference. A set, a clear and an atomic operation copy their key and their value or
+//!   operand once; what is kept of a range shares a long key's memory.
 #![tactic(auto)]
 
 mod contents;

@@ -7,6 +7,12 @@
 //! the steps.
 //!
 //! A contract of a single function here says that it makes the steps of a course, which is one of the definitions' (`specs/Runs.antt`).
+//!
+//! # Choices
+//!
+//! - Functions say which course they follow, for every setting and transaction at once (`Follows`), so that no function
+//!   between the public calls and the transaction's speaks of a view or of a script.
+//! - Each call takes the allocator of memory first.
 #![tactic(auto)]
 
 ghost use Rattle.database_rules.specs.Histories.{Setting};

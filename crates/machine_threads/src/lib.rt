@@ -13,6 +13,24 @@
 //! A machine that can't go on, mostly for want of memory, posts its Over too, and that of a machine that a reply to it said was
 //! started and that isn't run. So all that ran have posted as many Overs as the service's thread awaits: one for the first machine,
 //! and one for each that a reply said was started (`AreOver` in `specs/Crews.antt`). Nothing is refused between a post and its reply.
+//!
+//! # Choices
+//!
+//! - The bound of the recursion is the newest machine number that a branch has seen, which rises with each machine that is
+//!   started. A reply that names no higher number, which no core gives, has a cause of its own (`Cause::StrayStart`): both
+//!   Overs are posted.
+//! - Each Over that is owed is posted on every way out, so that the thread of the core ends: a machine's own, and that of a
+//!   machine that a reply to it said was started and that can't run. A refusal names the machine whose Over is owed
+//!   (`Refused`). Nothing is refused between the post of a request and the use of its reply: what can be taken before is
+//!   taken before.
+//! - Machines come back at a refusal too, kept by boxes that were taken before the fork (`Crew`): a refusal that dropped them
+//!   could say nothing of what they have posted.
+//! - Machines come back in the order of the joins and are sorted by their numbers before their senders are closed. Where
+//!   these are not the numbers from 0 on, which no core gives, the cause is `Cause::StrayNumbers`.
+//! - `AreSettled` says that what was taken is of one of these machines (`of_these`), since the spans of all senders cover all
+//!   numbers. Without it nothing would say that the core answered these machines alone.
+//! - No test of this crate calls `settle_machines`, whose conditions are what `serve` and the machines' threads say. Each
+//!   test of `tester_run` that runs machines calls it.
 #![tactic(auto)]
 
 mod closing;

@@ -4,6 +4,10 @@
 //! itself, and that all that was taken is theirs. `CoreService` is the core as such a service. Here is the law that joins these: the
 //! order in which the core answered leads from the start to a complete run, whose machines are those that came back
 //! (`specs/Gathering.antt`).
+//!
+//! That the order is a run is one law over all that came back, and no clause of a thread: a thread sees its own machine
+//! alone. `run_threaded` of `tester_run` calls it, where its premises are the clauses of `serve`, `run_machine` and
+//! `settle_machines`.
 #![tactic(auto)]
 
 ghost use Rattle.threaded_run_laws.specs.Gathering.{GatherToARun};

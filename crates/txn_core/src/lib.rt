@@ -7,6 +7,36 @@
 //! transaction after the call. Reads are answered from a view (`ryw_view`) of the store under the pending mutations, and
 //! commits are judged by the index (`conflict_ranges`). `TxnOn` has the calls by their names (`Tr`), and the parts of a
 //! commit; `Txn::call` takes a call of a request.
+//!
+//! # Choices
+//!
+//! - What the code keeps of a transaction stands for one of the definitions by a relation: under their mutations the same
+//!   keys are unreadable and each key has the same state. That mutations act alike on every map would not do: adding an empty
+//!   operand leaves the empty value on every map, as a set of it does, and yet it decides nothing.
+//! - A transaction's calls stand twice: `Txn::call` takes a call as a request has it and commits, and `TxnOn` has the calls
+//!   by their names, for layers over any `Tr`. Both use the same functions.
+//! - A read is answered before it is asked whether it may be: an unreadable key has no value then, and the answer is dropped
+//!   where the interval that it gives has an unreadable key. So one walk along the mutations tells that and finds the   undecided
+//!   keys. A read by snapshot asks `hides` alone, which looks at nothing where no mutation has a versionstamp; an   ordinary read
+//!   between two boundaries of the mutations takes one search (`lies_open`).
+//! - Whether a mutation declares its keys stands beside the mutations, in a list of its own of the same length, so that
+//!   `write_map` knows nothing of conflicts.
+//! - That a commit is read-only is compared as one fact, and not apart whether there is a mutation and whether a range was
+//!   declared: no check asks for more. `judge` says beside its verdict that the life is active where no check fails, which
+//!   `tried` asks for.
+//! - A read version of 2^63 or more, which no memory reaches, is answered as want of memory: a reply has a version of 64 bits
+//!   with a sign.
+//! - A commit with a versionstamp makes a second map of its mutations, each filled in (`WriteMap::filled`), since a key that
+//!   is filled in has its place among the others only then.
+//! - A commit takes all its memory before any answer changes (`Txn::make_version`). The changes are made apart;
+//!   `Store::reserve` takes what `install` needs; the last call that can be refused is `WriteIndex::install_all` or
+//!   `install_key`. What follows takes no memory. So after a refusal the transaction stands as before, and the store and the
+//!   index keep what they kept (clause `err`).
+//! - A commit makes a list of what it declares, the ranges of its mutations and then those that it was told to declare, and
+//!   gives it to the index. The ranges may meet: no answer of the index is another where a key is given the same version
+//!   twice. A commit that declares one key alone makes no list (`only_write_conflicts`).
+//! - A reset keeps the room of up to sixteen mutations for the next life, and gives back that of more (`Txn::reset`). No
+//!   clause says what room is kept.
 #![tactic(auto)]
 
 mod adding_conflicts;
