@@ -15,7 +15,7 @@ use Rattle.database_rules.specs.Transactions.{Transaction, fresh, writes_of, ver
 use Rattle.database_rules.proofs.AddingConflicts.{written_wrote, written_read, written_granted}
 use Rattle.database_rules.proofs.Ranges.{covers_with_range}
 use Rattle.database_rules.proofs.States.{covers-append}
-use Rattle.step_laws.proofs.Chains.{at_before}
+use Rattle.machine_rules.proofs.Chains.{at_before}
 use Rattle.history_laws.specs.Small.{is_small, are_small}
 use Rattle.history_laws.specs.Whole.{EachRead}
 use Rattle.history_laws.specs.Held.{IsAnsweredAt, IsHeld}

@@ -13,9 +13,9 @@ use Rattle.database_rules.specs.Transactions.{Transaction, conflict_checks, firs
 use Rattle.database_rules.proofs.States.{covers-append}
 use Rattle.fdb_calls.specs.Calling.{commit_of, next_version}
 use Rattle.allocator_rules.proofs.Keeping.{allocated_keeps}
-use Rattle.step_laws.proofs.Chains.{one_more}
-use Rattle.step_laws.proofs.Premises.{AreActsKept, AreCallsKept, IsKept, write_code}
-use Rattle.step_laws.proofs.Calls.{act_quiet, passed}
+use Rattle.machine_rules.proofs.Chains.{one_more}
+use Rattle.machine_rules.proofs.Keeping.{AreActsKept, AreCallsKept, IsKept, write_code}
+use Rattle.machine_rules.proofs.Calls.{act_quiet, passed}
 use Rattle.history_laws.specs.Small.{is_small}
 use Rattle.history_laws.specs.Held.{IsGrown, IsHeld, IsSound}
 use Rattle.history_laws.proofs.Smallness.{set_small, op_small, filled_small}

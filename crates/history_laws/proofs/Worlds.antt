@@ -9,9 +9,9 @@ use Rattle.database_rules.specs.Histories.{last, loaded, set_of}
 use Rattle.fdb_calls.specs.declared.Request.{Request}
 use Rattle.machine_rules.specs.Worlds.{World, begun, step}
 use Rattle.machine_rules.specs.Runs.{Run, run_from, start}
-use Rattle.step_laws.specs.Held.{HoldsIn}
-use Rattle.step_laws.proofs.Requests.{begun_holds, request_keeps}
-use Rattle.step_laws.proofs.Runs.{run_keeps}
+use Rattle.machine_rules.specs.Held.{HoldsIn}
+use Rattle.machine_rules.proofs.Requests.{begun_holds, request_keeps}
+use Rattle.machine_rules.proofs.Runs.{run_keeps}
 use Rattle.history_laws.specs.Small.{are_small}
 use Rattle.history_laws.specs.Held.{IsGrown, IsHeld, IsReached}
 use Rattle.history_laws.proofs.Kept.{IsGrownInRange, law_kept}

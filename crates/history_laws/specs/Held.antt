@@ -10,7 +10,7 @@ use Rattle.database_rules.specs.Reads.{Read, Answer, answer}
 use Rattle.database_rules.specs.States.{covers, seen, touches}
 use Rattle.database_rules.specs.Transactions.{Transaction, writes_of}
 use Rattle.machine_rules.specs.Worlds.{World}
-use Rattle.step_laws.specs.Held.{AreEach, HoldsIn}
+use Rattle.machine_rules.specs.Held.{AreEach, HoldsIn}
 use Rattle.history_laws.specs.Small.{are_small}
 use Rattle.history_laws.specs.Whole.{EachRead}
 

@@ -1,5 +1,5 @@
 -- How a value of the database is an instruction (bindingApiTester.md, "Overview").
-use Rattle.std.specs.Prelude.{ℕ, if◌then◌else◌, List, [], ◌∷◌, Option, Some, None, Result, Ok, Err, option_and_then, option_map, codes, bytes_eq}
+use Rattle.std.specs.Prelude.{ℕ, ◌++◌, if◌then◌else◌, List, [], ◌∷◌, Option, Some, None, Result, Ok, Err, option_and_then, option_map, codes, bytes_eq}
 use Rattle.fdb_tuple.specs.declared.tuple.Elem.{Elem}
 use Rattle.fdb_tuple.specs.declared.fault.UnpackFault.{UnpackFault}
 use Rattle.fdb_tuple.specs.Tuples.{Elements}
@@ -59,78 +59,111 @@ transaction_operation name =
     else if bytes_eq name (codes "GET_VERSIONSTAMP") then Some on_transaction.GetVersionstamp
     else None
 
--- the call of a name, with its form
-abbrev pub database_operation : List ℕ → Option (DatabaseOperation × Scope)
-database_operation name =
-    if bytes_eq name (codes "GET") then Some (on_database.Get, scope.Transaction)
-    else if bytes_eq name (codes "GET_SNAPSHOT") then Some (on_database.Get, scope.Snapshot)
-    else if bytes_eq name (codes "GET_DATABASE") then Some (on_database.Get, scope.Database)
-    else if bytes_eq name (codes "GET_KEY") then Some (on_database.GetKey, scope.Transaction)
-    else if bytes_eq name (codes "GET_KEY_SNAPSHOT") then Some (on_database.GetKey, scope.Snapshot)
-    else if bytes_eq name (codes "GET_KEY_DATABASE") then Some (on_database.GetKey, scope.Database)
-    else if bytes_eq name (codes "GET_RANGE") then Some (on_database.GetRange, scope.Transaction)
-    else if bytes_eq name (codes "GET_RANGE_SNAPSHOT") then Some (on_database.GetRange, scope.Snapshot)
-    else if bytes_eq name (codes "GET_RANGE_DATABASE") then Some (on_database.GetRange, scope.Database)
-    else if bytes_eq name (codes "GET_RANGE_STARTS_WITH") then Some (on_database.GetRangeStartsWith, scope.Transaction)
-    else if bytes_eq name (codes "GET_RANGE_STARTS_WITH_SNAPSHOT") then Some (on_database.GetRangeStartsWith, scope.Snapshot)
-    else if bytes_eq name (codes "GET_RANGE_STARTS_WITH_DATABASE") then Some (on_database.GetRangeStartsWith, scope.Database)
-    else if bytes_eq name (codes "GET_RANGE_SELECTOR") then Some (on_database.GetRangeSelector, scope.Transaction)
-    else if bytes_eq name (codes "GET_RANGE_SELECTOR_SNAPSHOT") then Some (on_database.GetRangeSelector, scope.Snapshot)
-    else if bytes_eq name (codes "GET_RANGE_SELECTOR_DATABASE") then Some (on_database.GetRangeSelector, scope.Database)
-    else if bytes_eq name (codes "SET") then Some (on_database.Set, scope.Transaction)
-    else if bytes_eq name (codes "SET_DATABASE") then Some (on_database.Set, scope.Database)
-    else if bytes_eq name (codes "CLEAR") then Some (on_database.Clear, scope.Transaction)
-    else if bytes_eq name (codes "CLEAR_DATABASE") then Some (on_database.Clear, scope.Database)
-    else if bytes_eq name (codes "CLEAR_RANGE") then Some (on_database.ClearRange, scope.Transaction)
-    else if bytes_eq name (codes "CLEAR_RANGE_DATABASE") then Some (on_database.ClearRange, scope.Database)
-    else if bytes_eq name (codes "CLEAR_RANGE_STARTS_WITH") then Some (on_database.ClearRangeStartsWith, scope.Transaction)
-    else if bytes_eq name (codes "CLEAR_RANGE_STARTS_WITH_DATABASE") then Some (on_database.ClearRangeStartsWith, scope.Database)
-    else if bytes_eq name (codes "ATOMIC_OP") then Some (on_database.AtomicOp, scope.Transaction)
-    else if bytes_eq name (codes "ATOMIC_OP_DATABASE") then Some (on_database.AtomicOp, scope.Database)
+-- in which scopes an operation stands: that of the transaction alone, also that of the database, or also that of a read by snapshot
+pub data Scopes : Type 0 where
+  Alone : Scopes
+  Writes : Scopes
+  Reads : Scopes
+
+-- names of operations, each with its scopes
+abbrev pub Names : Type 0 → Type 0
+Names A = List (List ℕ × Scopes × A)
+
+-- the scope of a name, where it is that of an operation that reads, alone or with an ending
+abbrev pub read_scope : (name operation : List ℕ) → Option Scope
+read_scope name operation =
+    if bytes_eq name operation then Some scope.Transaction
+    else if bytes_eq name (operation ++ codes "_SNAPSHOT") then Some scope.Snapshot
+    else if bytes_eq name (operation ++ codes "_DATABASE") then Some scope.Database
     else None
 
--- the operation on the directories of a name, with its form
-abbrev pub directory_operation : List ℕ → Option (DirectoryOperation × Scope)
-directory_operation name =
-    if bytes_eq name (codes "DIRECTORY_CREATE_SUBSPACE") then Some (on_directories.CreateSubspace, scope.Transaction)
-    else if bytes_eq name (codes "DIRECTORY_CREATE_LAYER") then Some (on_directories.CreateLayer, scope.Transaction)
-    else if bytes_eq name (codes "DIRECTORY_CREATE_OR_OPEN") then Some (on_directories.CreateOrOpen, scope.Transaction)
-    else if bytes_eq name (codes "DIRECTORY_CREATE_OR_OPEN_DATABASE") then Some (on_directories.CreateOrOpen, scope.Database)
-    else if bytes_eq name (codes "DIRECTORY_CREATE") then Some (on_directories.Create, scope.Transaction)
-    else if bytes_eq name (codes "DIRECTORY_CREATE_DATABASE") then Some (on_directories.Create, scope.Database)
-    else if bytes_eq name (codes "DIRECTORY_OPEN") then Some (on_directories.Open, scope.Transaction)
-    else if bytes_eq name (codes "DIRECTORY_OPEN_SNAPSHOT") then Some (on_directories.Open, scope.Snapshot)
-    else if bytes_eq name (codes "DIRECTORY_OPEN_DATABASE") then Some (on_directories.Open, scope.Database)
-    else if bytes_eq name (codes "DIRECTORY_CHANGE") then Some (on_directories.Change, scope.Transaction)
-    else if bytes_eq name (codes "DIRECTORY_SET_ERROR_INDEX") then Some (on_directories.SetErrorIndex, scope.Transaction)
-    else if bytes_eq name (codes "DIRECTORY_MOVE") then Some (on_directories.Move, scope.Transaction)
-    else if bytes_eq name (codes "DIRECTORY_MOVE_DATABASE") then Some (on_directories.Move, scope.Database)
-    else if bytes_eq name (codes "DIRECTORY_MOVE_TO") then Some (on_directories.MoveTo, scope.Transaction)
-    else if bytes_eq name (codes "DIRECTORY_MOVE_TO_DATABASE") then Some (on_directories.MoveTo, scope.Database)
-    else if bytes_eq name (codes "DIRECTORY_REMOVE") then Some (on_directories.Remove, scope.Transaction)
-    else if bytes_eq name (codes "DIRECTORY_REMOVE_DATABASE") then Some (on_directories.Remove, scope.Database)
-    else if bytes_eq name (codes "DIRECTORY_REMOVE_IF_EXISTS") then Some (on_directories.RemoveIfExists, scope.Transaction)
-    else if bytes_eq name (codes "DIRECTORY_REMOVE_IF_EXISTS_DATABASE") then Some (on_directories.RemoveIfExists, scope.Database)
-    else if bytes_eq name (codes "DIRECTORY_LIST") then Some (on_directories.List, scope.Transaction)
-    else if bytes_eq name (codes "DIRECTORY_LIST_SNAPSHOT") then Some (on_directories.List, scope.Snapshot)
-    else if bytes_eq name (codes "DIRECTORY_LIST_DATABASE") then Some (on_directories.List, scope.Database)
-    else if bytes_eq name (codes "DIRECTORY_EXISTS") then Some (on_directories.Exists, scope.Transaction)
-    else if bytes_eq name (codes "DIRECTORY_EXISTS_SNAPSHOT") then Some (on_directories.Exists, scope.Snapshot)
-    else if bytes_eq name (codes "DIRECTORY_EXISTS_DATABASE") then Some (on_directories.Exists, scope.Database)
-    else if bytes_eq name (codes "DIRECTORY_PACK_KEY") then Some (on_directories.PackKey, scope.Transaction)
-    else if bytes_eq name (codes "DIRECTORY_UNPACK_KEY") then Some (on_directories.UnpackKey, scope.Transaction)
-    else if bytes_eq name (codes "DIRECTORY_RANGE") then Some (on_directories.Range, scope.Transaction)
-    else if bytes_eq name (codes "DIRECTORY_CONTAINS") then Some (on_directories.Contains, scope.Transaction)
-    else if bytes_eq name (codes "DIRECTORY_OPEN_SUBSPACE") then Some (on_directories.OpenSubspace, scope.Transaction)
-    else if bytes_eq name (codes "DIRECTORY_LOG_SUBSPACE") then Some (on_directories.LogSubspace, scope.Transaction)
-    else if bytes_eq name (codes "DIRECTORY_LOG_DIRECTORY") then Some (on_directories.LogDirectory, scope.Transaction)
-    else if bytes_eq name (codes "DIRECTORY_STRIP_PREFIX") then Some (on_directories.StripPrefix, scope.Transaction)
+-- the same of one that writes, which isn't done by snapshot
+abbrev pub write_scope : (name operation : List ℕ) → Option Scope
+write_scope name operation =
+    if bytes_eq name operation then Some scope.Transaction
+    else if bytes_eq name (operation ++ codes "_DATABASE") then Some scope.Database
     else None
+
+abbrev pub scope_in : Scopes → (name operation : List ℕ) → Option Scope
+scope_in Alone name operation = if bytes_eq name operation then Some scope.Transaction else None
+scope_in Writes name operation = write_scope name operation
+scope_in Reads name operation = read_scope name operation
+
+-- the operation that has this scope, if it has one, or else the one that others have
+abbrev pub or_others : {A : Type 0} → A → Option Scope → Option (A × Scope) → Option (A × Scope)
+or_others operation (Some scope) others = Some (operation, scope)
+or_others operation None others = others
+
+-- the operation of a name, with its scope
+abbrev pub operation_in : {A : Type 0} → Names A → (name : List ℕ) → Option (A × Scope)
+operation_in [] name = None
+operation_in (row ∷ rows) name = or_others row.2 (scope_in row.1 name row.0) (operation_in rows name)
+
+-- the calls on a transaction or the database
+abbrev pub database_names : Names DatabaseOperation
+database_names =
+    (codes "GET", Reads, on_database.Get)
+    ∷ (codes "GET_KEY", Reads, on_database.GetKey)
+    ∷ (codes "GET_RANGE", Reads, on_database.GetRange)
+    ∷ (codes "GET_RANGE_STARTS_WITH", Reads, on_database.GetRangeStartsWith)
+    ∷ (codes "GET_RANGE_SELECTOR", Reads, on_database.GetRangeSelector)
+    ∷ (codes "SET", Writes, on_database.Set)
+    ∷ (codes "CLEAR", Writes, on_database.Clear)
+    ∷ (codes "CLEAR_RANGE", Writes, on_database.ClearRange)
+    ∷ (codes "CLEAR_RANGE_STARTS_WITH", Writes, on_database.ClearRangeStartsWith)
+    ∷ (codes "ATOMIC_OP", Writes, on_database.AtomicOp)
+    ∷ []
+
+-- the operations on directories: those that make or open one, or choose one
+abbrev pub creation_names : Names DirectoryOperation
+creation_names =
+    (codes "DIRECTORY_CREATE_SUBSPACE", Alone, on_directories.CreateSubspace)
+    ∷ (codes "DIRECTORY_CREATE_LAYER", Alone, on_directories.CreateLayer)
+    ∷ (codes "DIRECTORY_CREATE_OR_OPEN", Writes, on_directories.CreateOrOpen)
+    ∷ (codes "DIRECTORY_CREATE", Writes, on_directories.Create)
+    ∷ (codes "DIRECTORY_OPEN", Reads, on_directories.Open)
+    ∷ (codes "DIRECTORY_CHANGE", Alone, on_directories.Change)
+    ∷ (codes "DIRECTORY_SET_ERROR_INDEX", Alone, on_directories.SetErrorIndex)
+    ∷ []
+
+-- those that move or remove
+abbrev pub removal_names : Names DirectoryOperation
+removal_names =
+    (codes "DIRECTORY_MOVE", Writes, on_directories.Move)
+    ∷ (codes "DIRECTORY_MOVE_TO", Writes, on_directories.MoveTo)
+    ∷ (codes "DIRECTORY_REMOVE", Writes, on_directories.Remove)
+    ∷ (codes "DIRECTORY_REMOVE_IF_EXISTS", Writes, on_directories.RemoveIfExists)
+    ∷ []
+
+-- those that list or find
+abbrev pub listing_names : Names DirectoryOperation
+listing_names =
+    (codes "DIRECTORY_LIST", Reads, on_directories.List)
+    ∷ (codes "DIRECTORY_EXISTS", Reads, on_directories.Exists)
+    ∷ []
+
+-- those on subspaces, and logs
+abbrev pub subspace_names : Names DirectoryOperation
+subspace_names =
+    (codes "DIRECTORY_PACK_KEY", Alone, on_directories.PackKey)
+    ∷ (codes "DIRECTORY_UNPACK_KEY", Alone, on_directories.UnpackKey)
+    ∷ (codes "DIRECTORY_RANGE", Alone, on_directories.Range)
+    ∷ (codes "DIRECTORY_CONTAINS", Alone, on_directories.Contains)
+    ∷ (codes "DIRECTORY_OPEN_SUBSPACE", Alone, on_directories.OpenSubspace)
+    ∷ (codes "DIRECTORY_LOG_SUBSPACE", Alone, on_directories.LogSubspace)
+    ∷ (codes "DIRECTORY_LOG_DIRECTORY", Alone, on_directories.LogDirectory)
+    ∷ (codes "DIRECTORY_STRIP_PREFIX", Alone, on_directories.StripPrefix)
+    ∷ []
 
 -- the first that is there
 abbrev pub or_else : {A : Type 0} → Option A → Option A → Option A
 or_else (Some x) other = Some x
 or_else None other = other
+
+abbrev pub directory_operation : List ℕ → Option (DirectoryOperation × Scope)
+directory_operation name =
+    or_else (operation_in creation_names name)
+    (or_else (operation_in removal_names name) (or_else (operation_in listing_names name) (operation_in subspace_names name)))
 
 -- the instruction of a name that stands alone
 abbrev pub bare_instruction : List ℕ → Option Instruction
@@ -140,7 +173,7 @@ bare_instruction name =
     else if bytes_eq name (codes "START_THREAD") then Some instruction.StartThread
     else if bytes_eq name (codes "WAIT_EMPTY") then Some instruction.WaitEmpty
     else or_else (option_map (λ found. instruction.OnTransaction found) (transaction_operation name))
-    (or_else (option_map (λ found. instruction.OnDatabase found.0 found.1) (database_operation name))
+    (or_else (option_map (λ found. instruction.OnDatabase found.0 found.1) (operation_in database_names name))
     (or_else (option_map (λ found. instruction.OnDirectories found.0 found.1) (directory_operation name))
     (option_map (λ found. instruction.OnStack found) (stack_operation name))))
 

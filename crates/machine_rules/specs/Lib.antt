@@ -9,3 +9,4 @@ pub mod Waits
 pub mod WaitLaws
 pub mod Runs
 pub mod Laws
+pub mod Held

@@ -5,8 +5,10 @@
 //! `specs/StackOperations.antt` what the operations on a stack do, `specs/Calls.antt` what an operation asks of the database and
 //! makes of the reply, `specs/Waits.antt` what waits and for what, `specs/Instructions.antt` how a value is an instruction,
 //! `specs/Machines.antt` a machine, and `specs/Runs.antt` a run and its dump. `specs/WaitLaws.antt` and `specs/Laws.antt` show that
-//! a machine comes to rest and that waits end. `src/` has the types that the machine and its definitions share: operations by kind,
-//! what a machine awaits, its ends.
+//! a machine comes to rest and that waits end. `proofs/` has the induction that each law over all worlds uses: what each change of
+//! an open transaction keeps (`Keeping.antt`), each call (`Calls.antt`), each request (`Requests.antt`) and each run keep
+//! (`Runs.antt`). `src/` has the types that the machine and its definitions share: operations by kind, what a machine awaits, its
+//! ends.
 #![tactic(auto)]
 
 mod directories;

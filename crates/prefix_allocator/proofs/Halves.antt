@@ -1,20 +1,9 @@
 -- 8 bytes as a count.
-use Rattle.std.proofs.Common.{◌≡◌, ℕ, zero, suc, ◌+◌, ◌*◌, ◌^◌, ◌<◌, Bool, true, false, List, [], ◌∷◌, length, refl, sym, ap, ◌∙◌, arith}
+use Rattle.std.proofs.Common.{◌≡◌, ℕ, ◌*◌, ◌^◌, ◌<◌, Bool, true, false, List, sym, ap, ◌∙◌}
 use Rattle.std.specs.Prelude.{◌&&◌, nat_lt, nat_le}
 use Rattle.std.proofs.lemmas.Bool.{lt-ltb}
 use Rattle.key_bytes.specs.Numbers.{number_low}
-use Rattle.byteorder.specs.Endian.{little_number}
-use Rattle.byteorder.specs.Numbers.{little_from-cons}
 use Rattle.allocator_rules.specs.Counters.{window, counts_half}
-
--- so many bytes as they have, read the lowest first, write the number that they all write
-pub little_is_low : (n : ℕ) (bytes : List ℕ) → length bytes ≡ n → little_number n bytes ≡ number_low bytes
-unfolding number_low
-little_is_low zero [] is = refl
-little_is_low (suc n) (byte ∷ bytes) is =
-    ap (λ rest. byte + 256 * rest) (little_from-cons 0 n byte bytes ∙ little_is_low n bytes (omega (arith, is)))
-little_is_low zero (byte ∷ bytes) is = absurd (omega (arith, is))
-little_is_low (suc n) [] is = absurd (omega (arith, is))
 
 pub half_where_positive : (start : ℕ) (count : List ℕ) (number wide : ℕ) → number ≡ number_low count → number < 2 ^ 63 → wide ≡ window start
     → nat_le wide (2 * number) ≡ counts_half start count

@@ -15,7 +15,7 @@ use Rattle.allocator_rules.specs.Counters.{recent_key}
 use Rattle.allocator_rules.proofs.Codes.{packed_apart}
 use Rattle.prefix_laws.specs.Prefixes.{AreApart, AreGranting, all_grants, grants_in}
 use Rattle.prefix_laws.specs.Held.{AreDistinct, AreFit, AreSpending, IsFitCommit, IsGrantIn, IsGrown, IsSound, IsSpent}
-use Rattle.step_laws.specs.Held.{AreEach}
+use Rattle.machine_rules.specs.Held.{AreEach}
 use Rattle.prefix_laws.proofs.Listed.{distinct_append, get_parts}
 
 -- ---- commits that are fit for a subspace

@@ -12,7 +12,7 @@ use Rattle.database_rules.specs.Transactions.{Transaction, write_conflicts_of, f
 use Rattle.database_rules.proofs.AddingConflicts.{write_conflicts-append, written-append, written_granted}
 use Rattle.database_rules.proofs.States.{covers-append, filled-append}
 use Rattle.allocator_rules.specs.Counters.{recent_key}
-use Rattle.step_laws.proofs.Chains.{at_before}
+use Rattle.machine_rules.proofs.Chains.{at_before}
 use Rattle.prefix_laws.specs.Prefixes.{IsGranting, granted_by, grants_in}
 use Rattle.prefix_laws.specs.Held.{AreDistinct, AreFit, AreSpending, HasGranted, HasGrown, IsFit, IsGrantOf, IsHeld, IsSpent}
 use Rattle.prefix_laws.proofs.Leaving.{leaving_fit}

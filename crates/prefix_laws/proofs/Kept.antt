@@ -7,9 +7,9 @@ use Rattle.database_rules.specs.Histories.{Commit, History, Setting, at, conflic
 use Rattle.database_rules.specs.Transactions.{Transaction, conflict_checks, first_failing, is_ahead, version_in, with_version}
 use Rattle.fdb_calls.specs.Calling.{commit_of, next_version}
 use Rattle.allocator_rules.specs.Granting.{Ending, Grants, IsFull, IsNoCounter, IsRefused, allocated}
-use Rattle.step_laws.proofs.Chains.{one_more}
-use Rattle.step_laws.proofs.Premises.{AreCallsKept, IsKept}
-use Rattle.step_laws.proofs.Calls.{passed}
+use Rattle.machine_rules.proofs.Chains.{one_more}
+use Rattle.machine_rules.proofs.Keeping.{AreCallsKept, IsKept}
+use Rattle.machine_rules.proofs.Calls.{passed}
 use Rattle.prefix_laws.specs.Prefixes.{IsGranting}
 use Rattle.prefix_laws.specs.Held.{IsFitCommit, IsGrantIn, IsGrantOf, IsGrown, IsHeld, IsSound, IsSpent}
 use Rattle.prefix_laws.proofs.Granting.{granted_has, other_grown}

@@ -16,8 +16,8 @@ use Rattle.database_rules.specs.Transactions.{Transaction, with_write_conflict_d
 use Rattle.database_rules.proofs.Ranges.{covers_with_range}
 use Rattle.database_rules.proofs.States.{covers-append}
 use Rattle.allocator_rules.specs.Acts.{Act, act_called}
-use Rattle.step_laws.proofs.Premises.{AreActsKept}
-use Rattle.step_laws.proofs.Calls.{act_quiet}
+use Rattle.machine_rules.proofs.Keeping.{AreActsKept}
+use Rattle.machine_rules.proofs.Calls.{act_quiet}
 use Rattle.prefix_laws.specs.Prefixes.{grants_in, granted_by}
 use Rattle.prefix_laws.specs.Held.{HasGrown}
 

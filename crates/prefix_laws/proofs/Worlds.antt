@@ -5,9 +5,9 @@ use Rattle.database_rules.specs.Histories.{loaded}
 use Rattle.fdb_calls.specs.declared.Request.{Request}
 use Rattle.machine_rules.specs.Worlds.{World, begun, step}
 use Rattle.machine_rules.specs.Runs.{start}
-use Rattle.step_laws.specs.Held.{HoldsIn}
-use Rattle.step_laws.proofs.Requests.{begun_holds, request_keeps}
-use Rattle.step_laws.proofs.Runs.{run_keeps}
+use Rattle.machine_rules.specs.Held.{HoldsIn}
+use Rattle.machine_rules.proofs.Requests.{begun_holds, request_keeps}
+use Rattle.machine_rules.proofs.Runs.{run_keeps}
 use Rattle.prefix_laws.specs.Worlds.{all_taken, world_after}
 use Rattle.prefix_laws.specs.Prefixes.{ArePrefixesApart, RunsArePrefixesApart}
 use Rattle.prefix_laws.specs.Held.{IsGrown, IsHeld}

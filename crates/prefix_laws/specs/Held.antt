@@ -6,7 +6,7 @@ use Rattle.database_rules.specs.Histories.{Script, Commit, History, Setting, Gra
 use Rattle.database_rules.specs.Intervals.{decided}
 use Rattle.database_rules.specs.States.{all_filled, covers}
 use Rattle.database_rules.specs.Transactions.{Transaction, write_conflicts_of, version_in, writes_of}
-use Rattle.step_laws.specs.Held.{AreEach}
+use Rattle.machine_rules.specs.Held.{AreEach}
 use Rattle.allocator_rules.specs.Counters.{counter_key, recent_key, is_recent}
 use Rattle.prefix_laws.specs.Prefixes.{IsGranting, grants_in}
 

@@ -1,5 +1,5 @@
 pub mod Names
 pub mod Again
-pub mod Forms
+pub mod Scopes
 pub mod Within
 pub mod Replied

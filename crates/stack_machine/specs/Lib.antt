@@ -1,5 +1,4 @@
 pub mod Acts
-pub mod Forms
 pub mod MachineModel
 pub mod Packed
 pub mod Ranges

@@ -4,9 +4,9 @@ ghost use Rattle.std.specs.Prelude.{◌≡◌, [], ◌∷◌, ◌++◌, Some, Ok
 ghost use Rattle.fdb_tuple.specs.Reading.{read_tuple};
 ghost use Rattle.fdb_tuple.specs.Tuples.{Empty, Single, Text};
 ghost use Rattle.machine_rules.specs.Operands.{bytes_of};
-ghost use Rattle.machine_rules.specs.Instructions.{stack_operation, transaction_operation, database_operation, directory_operation};
+ghost use Rattle.machine_rules.specs.Instructions.{stack_operation, transaction_operation, directory_operation, operation_in, read_scope, write_scope};
+ghost use Rattle.machine_rules.specs.Instructions.{database_names, creation_names, removal_names, listing_names, subspace_names};
 ghost use Rattle.machine_rules.specs.Instructions.{bare_instruction, named_instruction, instruction_in, instruction_of};
-ghost use Rattle.stack_machine.specs.Forms.{read_form, write_form, removal_operation, listing_operation, subspace_operation};
 ghost use Rattle.stack_machine.specs.Pushes.{PushesAnElement};
 ghost use Rattle.fdb_tuple.specs.Listed.{IsElement};
 ghost use Rattle.fdb_tuple.specs.Zeros.{HasNoZero};
@@ -214,27 +214,27 @@ fn transaction_operation(name: &[u8]) -> Option<TransactionOperation>
 }
 
 fn database_operation(name: &[u8]) -> Option<(DatabaseOperation, Scope)>
-    ensures { result ≡ database_operation name.now }
+    ensures { result ≡ operation_in database_names name.now }
 {
-    if let Some(scope) = read_form(name, b"GET") {
+    if let Some(scope) = read_scope(name, b"GET") {
         Some((DatabaseOperation::Get, scope))
-    } else if let Some(scope) = read_form(name, b"GET_KEY") {
+    } else if let Some(scope) = read_scope(name, b"GET_KEY") {
         Some((DatabaseOperation::GetKey, scope))
-    } else if let Some(scope) = read_form(name, b"GET_RANGE") {
+    } else if let Some(scope) = read_scope(name, b"GET_RANGE") {
         Some((DatabaseOperation::GetRange, scope))
-    } else if let Some(scope) = read_form(name, b"GET_RANGE_STARTS_WITH") {
+    } else if let Some(scope) = read_scope(name, b"GET_RANGE_STARTS_WITH") {
         Some((DatabaseOperation::GetRangeStartsWith, scope))
-    } else if let Some(scope) = read_form(name, b"GET_RANGE_SELECTOR") {
+    } else if let Some(scope) = read_scope(name, b"GET_RANGE_SELECTOR") {
         Some((DatabaseOperation::GetRangeSelector, scope))
-    } else if let Some(scope) = write_form(name, b"SET") {
+    } else if let Some(scope) = write_scope(name, b"SET") {
         Some((DatabaseOperation::Set, scope))
-    } else if let Some(scope) = write_form(name, b"CLEAR") {
+    } else if let Some(scope) = write_scope(name, b"CLEAR") {
         Some((DatabaseOperation::Clear, scope))
-    } else if let Some(scope) = write_form(name, b"CLEAR_RANGE") {
+    } else if let Some(scope) = write_scope(name, b"CLEAR_RANGE") {
         Some((DatabaseOperation::ClearRange, scope))
-    } else if let Some(scope) = write_form(name, b"CLEAR_RANGE_STARTS_WITH") {
+    } else if let Some(scope) = write_scope(name, b"CLEAR_RANGE_STARTS_WITH") {
         Some((DatabaseOperation::ClearRangeStartsWith, scope))
-    } else if let Some(scope) = write_form(name, b"ATOMIC_OP") {
+    } else if let Some(scope) = write_scope(name, b"ATOMIC_OP") {
         Some((DatabaseOperation::AtomicOp, scope))
     } else {
         None
@@ -244,58 +244,74 @@ fn database_operation(name: &[u8]) -> Option<(DatabaseOperation, Scope)>
 fn directory_operation(name: &[u8]) -> Option<(DirectoryOperation, Scope)>
     ensures { result ≡ directory_operation name.now }
 {
+    if let Some(found) = creation_operation(name) {
+        return Some(found);
+    }
+    if let Some(found) = removal_operation(name) {
+        return Some(found);
+    }
+    if let Some(found) = listing_operation(name) {
+        return Some(found);
+    }
+    subspace_operation(name)
+}
+
+// The operation of a name of those that make or open a directory, or choose one.
+fn creation_operation(name: &[u8]) -> Option<(DirectoryOperation, Scope)>
+    ensures { result ≡ operation_in creation_names name.now }
+{
     if name == b"DIRECTORY_CREATE_SUBSPACE".as_slice() {
         Some((DirectoryOperation::CreateSubspace, Scope::Transaction))
     } else if name == b"DIRECTORY_CREATE_LAYER".as_slice() {
         Some((DirectoryOperation::CreateLayer, Scope::Transaction))
-    } else if let Some(scope) = write_form(name, b"DIRECTORY_CREATE_OR_OPEN") {
+    } else if let Some(scope) = write_scope(name, b"DIRECTORY_CREATE_OR_OPEN") {
         Some((DirectoryOperation::CreateOrOpen, scope))
-    } else if let Some(scope) = write_form(name, b"DIRECTORY_CREATE") {
+    } else if let Some(scope) = write_scope(name, b"DIRECTORY_CREATE") {
         Some((DirectoryOperation::Create, scope))
-    } else if let Some(scope) = read_form(name, b"DIRECTORY_OPEN") {
+    } else if let Some(scope) = read_scope(name, b"DIRECTORY_OPEN") {
         Some((DirectoryOperation::Open, scope))
     } else if name == b"DIRECTORY_CHANGE".as_slice() {
         Some((DirectoryOperation::Change, Scope::Transaction))
     } else if name == b"DIRECTORY_SET_ERROR_INDEX".as_slice() {
         Some((DirectoryOperation::SetErrorIndex, Scope::Transaction))
     } else {
-        removal_operation(name)
+        None
     }
 }
 
-// The operation of a name of those that move or remove, and of those behind them.
+// The operation of a name of those that move or remove.
 fn removal_operation(name: &[u8]) -> Option<(DirectoryOperation, Scope)>
-    ensures { result ≡ removal_operation name.now }
+    ensures { result ≡ operation_in removal_names name.now }
 {
-    if let Some(scope) = write_form(name, b"DIRECTORY_MOVE") {
+    if let Some(scope) = write_scope(name, b"DIRECTORY_MOVE") {
         Some((DirectoryOperation::Move, scope))
-    } else if let Some(scope) = write_form(name, b"DIRECTORY_MOVE_TO") {
+    } else if let Some(scope) = write_scope(name, b"DIRECTORY_MOVE_TO") {
         Some((DirectoryOperation::MoveTo, scope))
-    } else if let Some(scope) = write_form(name, b"DIRECTORY_REMOVE") {
+    } else if let Some(scope) = write_scope(name, b"DIRECTORY_REMOVE") {
         Some((DirectoryOperation::Remove, scope))
-    } else if let Some(scope) = write_form(name, b"DIRECTORY_REMOVE_IF_EXISTS") {
+    } else if let Some(scope) = write_scope(name, b"DIRECTORY_REMOVE_IF_EXISTS") {
         Some((DirectoryOperation::RemoveIfExists, scope))
     } else {
-        listing_operation(name)
+        None
     }
 }
 
-// The operation of a name of those that list or find, and of those behind them.
+// The operation of a name of those that list or find.
 fn listing_operation(name: &[u8]) -> Option<(DirectoryOperation, Scope)>
-    ensures { result ≡ listing_operation name.now }
+    ensures { result ≡ operation_in listing_names name.now }
 {
-    if let Some(scope) = read_form(name, b"DIRECTORY_LIST") {
+    if let Some(scope) = read_scope(name, b"DIRECTORY_LIST") {
         Some((DirectoryOperation::List, scope))
-    } else if let Some(scope) = read_form(name, b"DIRECTORY_EXISTS") {
+    } else if let Some(scope) = read_scope(name, b"DIRECTORY_EXISTS") {
         Some((DirectoryOperation::Exists, scope))
     } else {
-        subspace_operation(name)
+        None
     }
 }
 
 // The operation of a name of those on subspaces and logs.
 fn subspace_operation(name: &[u8]) -> Option<(DirectoryOperation, Scope)>
-    ensures { result ≡ subspace_operation name.now }
+    ensures { result ≡ operation_in subspace_names name.now }
 {
     if name == b"DIRECTORY_PACK_KEY".as_slice() {
         Some((DirectoryOperation::PackKey, Scope::Transaction))
@@ -318,30 +334,30 @@ fn subspace_operation(name: &[u8]) -> Option<(DirectoryOperation, Scope)>
     }
 }
 
-// The form of a name of a call that reads: alone, or with an ending.
-#[tactic(auto, using(crate::proofs::Forms::forms))]
-fn read_form(name: &[u8], call: &[u8]) -> Option<Scope>
-    ensures { result ≡ read_form name.now call.now }
+// The scope of a name of an operation that reads: alone, or with an ending.
+#[tactic(auto, using(crate::proofs::Scopes::scopes))]
+fn read_scope(name: &[u8], operation: &[u8]) -> Option<Scope>
+    ensures { result ≡ read_scope name.now operation.now }
 {
-    let ending = name.strip_prefix(call)?;
+    let ending = name.strip_prefix(operation)?;
     if ending == b"_SNAPSHOT".as_slice() {
         Some(Scope::Snapshot)
     } else {
-        form_by(ending)
+        scope_by(ending)
     }
 }
 
-// The form of a name of a call that writes.
-#[tactic(auto, using(crate::proofs::Forms::forms))]
-fn write_form(name: &[u8], call: &[u8]) -> Option<Scope>
-    ensures { result ≡ write_form name.now call.now }
+// The scope of a name of an operation that writes.
+#[tactic(auto, using(crate::proofs::Scopes::scopes))]
+fn write_scope(name: &[u8], operation: &[u8]) -> Option<Scope>
+    ensures { result ≡ write_scope name.now operation.now }
 {
-    form_by(name.strip_prefix(call)?)
+    scope_by(name.strip_prefix(operation)?)
 }
 
-// The form that every call has with this ending.
-fn form_by(ending: &[u8]) -> Option<Scope>
-    ensures { result ≡ write_form ending.now [] }
+// The scope that every operation has with this ending.
+fn scope_by(ending: &[u8]) -> Option<Scope>
+    ensures { result ≡ write_scope ending.now [] }
 {
     if ending.is_empty() {
         Some(Scope::Transaction)

@@ -1,6 +1,7 @@
 use Rattle.std.proofs.Common.{◌∙◌, ◌^◌, refl}
 use Rattle.std.proofs.lemmas.Bool.{le-ltb}
-use Rattle.prefix_allocator.proofs.Halves.{little_is_low, half_where_positive, no_half_where_negative}
+use Rattle.atomic_ops.proofs.Stamps.{little_is_low}
+use Rattle.prefix_allocator.proofs.Halves.{half_where_positive, no_half_where_negative}
 use Rattle.prefix_allocator.proofs.windows.is_half.Goals as goal
 
 pub returns-then-count-lt-LEAST_NEGATIVE : goal.returns-then-count-lt-LEAST_NEGATIVE

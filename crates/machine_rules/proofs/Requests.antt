@@ -26,9 +26,9 @@ use Rattle.fdb_calls.specs.declared.TxnCall.TheVariants as call
 use Rattle.fdb_calls.specs.Calling.{Called, called, code_of, commit_allowed, commit_at_version, commit_by, commit_called, commit_refused, in_turn, is_fault, logs, next_version}
 use Rattle.machine_rules.specs.declared.TheConstants.{MACHINES}
 use Rattle.machine_rules.specs.Worlds.{World, Transactions, and_commit, begun, call_named, called_apart, database_by, directory_called, directory_step, fresh_at_last, next_life, start_by, step, stepped, transaction_of, with_drawn, with_lives, with_named, with_new}
-use Rattle.step_laws.specs.Held.{AreHeld, HoldsIn}
-use Rattle.step_laws.proofs.Premises.{IsKept}
-use Rattle.step_laws.proofs.Calls.{IsQuiet, act_quiet, called_quiet, logs_quiet}
+use Rattle.machine_rules.specs.Held.{AreHeld, HoldsIn}
+use Rattle.machine_rules.proofs.Keeping.{IsKept}
+use Rattle.machine_rules.proofs.Calls.{IsQuiet, act_quiet, called_quiet, logs_quiet}
 
 -- it holds of a world that has so many commits more at most
 pub record HoldsAfter (IsGrown : History → Type 0) (IsHeld : History → Transaction → Type 0) (before : World) (most : ℕ) (after : World) : Type 0 where

@@ -1,8 +1,8 @@
--- The forms of a name, by what is left of it behind a call's name.
+-- The scope of a name, by what is left of it behind an operation's name.
 use Rattle.std.proofs.Common.{◌≡◌, ℕ, Bool, true, false, ◌&&◌, List, [], ◌∷◌, ◌++◌, length, take, drop, nat_eq, bytes_eq, Some, None, codes, refl, sym, ap, ◌∙◌}
 use Rattle.std.proofs.lemmas.List.{append-nil}
 use Rattle.machine_rules.specs.declared.Scope.TheVariants.{Snapshot}
-use Rattle.stack_machine.specs.Forms.{read_form, write_form}
+use Rattle.machine_rules.specs.Instructions.{read_scope, write_scope}
 
 differs : (same front whole : Bool) → (front ≡ false → whole ≡ false) → (same && front) ≡ false → (same && whole) ≡ false
 differs true front whole other e = other e
@@ -32,41 +32,41 @@ other_alone call name e = ap (bytes_eq name) (sym (append-nil call)) ∙ other_n
 alone_tells : (call name : List ℕ) → bytes_eq (take (length call) name) call ≡ true → bytes_eq name call ≡ bytes_eq (drop (length call) name) []
 alone_tells call name e = ap (bytes_eq name) (sym (append-nil call)) ∙ ending_tells call name [] e
 
-pub read_form-other : (call name : List ℕ) → bytes_eq (take (length call) name) call ≡ false → read_form name call ≡ None
-read_form-other call name e =
+pub read_scope-other : (call name : List ℕ) → bytes_eq (take (length call) name) call ≡ false → read_scope name call ≡ None
+read_scope-other call name e =
     rw (other_alone call name e)
     rw (other_name call name (codes "_SNAPSHOT") e)
     rw (other_name call name (codes "_DATABASE") e)
     refl
 
-pub write_form-other : (call name : List ℕ) → bytes_eq (take (length call) name) call ≡ false → write_form name call ≡ None
-write_form-other call name e =
+pub write_scope-other : (call name : List ℕ) → bytes_eq (take (length call) name) call ≡ false → write_scope name call ≡ None
+write_scope-other call name e =
     rw (other_alone call name e)
     rw (other_name call name (codes "_DATABASE") e)
     refl
 
-pub read_form-ending : (call name : List ℕ) → bytes_eq (take (length call) name) call ≡ true
-    → read_form name call ≡ read_form (drop (length call) name) []
-read_form-ending call name e =
+pub read_scope-ending : (call name : List ℕ) → bytes_eq (take (length call) name) call ≡ true
+    → read_scope name call ≡ read_scope (drop (length call) name) []
+read_scope-ending call name e =
     rw (alone_tells call name e)
     rw (ending_tells call name (codes "_SNAPSHOT") e)
     rw (ending_tells call name (codes "_DATABASE") e)
     refl
 
-pub write_form-ending : (call name : List ℕ) → bytes_eq (take (length call) name) call ≡ true
-    → write_form name call ≡ write_form (drop (length call) name) []
-write_form-ending call name e =
+pub write_scope-ending : (call name : List ℕ) → bytes_eq (take (length call) name) call ≡ true
+    → write_scope name call ≡ write_scope (drop (length call) name) []
+write_scope-ending call name e =
     rw (alone_tells call name e)
     rw (ending_tells call name (codes "_DATABASE") e)
     refl
 
 -- the ending of a read by snapshot
-snapshot_alone : (ending : List ℕ) → bytes_eq ending (codes "_SNAPSHOT") ≡ true → read_form ending [] ≡ Some Snapshot
+snapshot_alone : (ending : List ℕ) → bytes_eq ending (codes "_SNAPSHOT") ≡ true → read_scope ending [] ≡ Some Snapshot
 snapshot_alone [] e = absurd cc
 snapshot_alone (first ∷ ending) e = rw e refl
 
-pub read_form-snapshot : (call name : List ℕ) → bytes_eq (take (length call) name) call ≡ true
-    → bytes_eq (drop (length call) name) (codes "_SNAPSHOT") ≡ true → read_form name call ≡ Some Snapshot
-read_form-snapshot call name e is = read_form-ending call name e ∙ snapshot_alone (drop (length call) name) is
+pub read_scope-snapshot : (call name : List ℕ) → bytes_eq (take (length call) name) call ≡ true
+    → bytes_eq (drop (length call) name) (codes "_SNAPSHOT") ≡ true → read_scope name call ≡ Some Snapshot
+read_scope-snapshot call name e is = read_scope-ending call name e ∙ snapshot_alone (drop (length call) name) is
 
-pub ruleset forms = (read_form-snapshot, read_form-other, write_form-other, read_form-ending, write_form-ending)
+pub ruleset scopes = (read_scope-snapshot, read_scope-other, write_scope-other, read_scope-ending, write_scope-ending)

@@ -8,9 +8,9 @@ use Rattle.fdb_calls.specs.declared.Request.{Request}
 use Rattle.machine_rules.specs.Machines.{Progress}
 use Rattle.machine_rules.specs.Runs.{Run, replied, run_from, take_place, taken}
 use Rattle.machine_rules.specs.Worlds.{step}
-use Rattle.step_laws.specs.Held.{HoldsIn}
-use Rattle.step_laws.proofs.Premises.{IsKept}
-use Rattle.step_laws.proofs.Requests.{HoldsAfter, request_keeps}
+use Rattle.machine_rules.specs.Held.{HoldsIn}
+use Rattle.machine_rules.proofs.Keeping.{IsKept}
+use Rattle.machine_rules.proofs.Requests.{HoldsAfter, request_keeps}
 
 module _ (IsGrown : History → Type 0) (IsHeld : History → Transaction → Type 0) (kept : IsKept IsGrown IsHeld) where
   -- the request of a machine

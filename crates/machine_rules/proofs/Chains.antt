@@ -3,7 +3,7 @@ use Rattle.std.proofs.Common.{◌≡◌, ℕ, ◌≤◌, List, [], ◌∷◌, �
 use Rattle.std.specs.FinMap as finite
 use Rattle.std.proofs.lemmas.List.{append_assoc, append-nil, take-append-le}
 use Rattle.database_rules.specs.Histories.{Commit, History, after_commits, at}
-use Rattle.step_laws.specs.Held.{AreEach}
+use Rattle.machine_rules.specs.Held.{AreEach}
 
 -- it holds of each of them and of one more behind them
 pub one_more : (IsSound : History → Commit → Type 0) (before commits : List Commit) (commit : Commit) → AreEach IsSound before commits
