@@ -144,6 +144,3 @@ impl AtomicOp {
         )
     }
 }
-
-#[cfg(test)]
-mod tests;

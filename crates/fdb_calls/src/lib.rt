@@ -187,6 +187,3 @@ pub enum Reply {
     /// Memory ran out.
     NoMemory,
 }
-
-#[cfg(test)]
-mod tests;

@@ -5,6 +5,3 @@
 mod list;
 
 pub use list::List;
-
-#[cfg(test)]
-mod tests;

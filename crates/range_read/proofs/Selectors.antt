@@ -10,7 +10,7 @@ use Rattle.std.proofs.lemmas.List.Sums.{length-filter}
 use Rattle.key_bytes.specs.Keys.{key_lt, key_le, after, top}
 use Rattle.database_rules.specs.Databases.{Database}
 use Rattle.database_rules.specs.declared.selector.Selector.{Selector}
-use Rattle.range_read.specs.Courses.{start_of}
+use Rattle.database_rules.specs.Intervals.{start_of}
 use Rattle.database_rules.specs.Selecting.{select, key_at, sorted_keys, stands_before}
 use Rattle.database_rules.specs.Slices.{Entries}
 use Rattle.range_read.specs.Walks.{onward}

@@ -2,7 +2,8 @@
 
 ghost use Rattle.std.specs.Prelude.{◌≡◌, IfOk, slice_get, slice_index_or};
 ghost use Rattle.std.specs.Map.{keys_of};
-ghost use Rattle.range_read.specs.Courses.{start_of, IsCourse};
+ghost use Rattle.range_read.specs.Courses.{IsCourse};
+ghost use Rattle.database_rules.specs.Intervals.{start_of};
 ghost use Rattle.database_rules.specs.Selecting.{select};
 ghost use Rattle.range_read.specs.Walks.{onward};
 
@@ -69,8 +70,8 @@ fn course_of(offset: i32) -> Course
     }
 }
 
-// The least key that does not stand before a selector's place, whether the database has it or not.
-fn start_key(selector: &Selector) -> Result<Key, AllocError>
+/// Returns the least key that doesn't stand before a selector's place, whether the database has it or not.
+pub fn start_key(selector: &Selector) -> Result<Key, AllocError>
     ensures { IfOk result (λ start. start ≡ start_of selector.now) }
 {
     if selector.or_equal {

@@ -109,15 +109,24 @@ pub(crate) fn range_code(phase: Phase, range: &KeyRange) -> Option<Code>
     }
 }
 
-// The key that the checks of an atomic operation ask: of a stamped key that has room for the versionstamp, its template with
-// ten 00.
-fn key_asked(alloc: Global, op: AtomicOp, key: &[u8]) -> Result<Bytes, AllocError>
+// The code of the key and the operand of an atomic operation, where they can't be written. Of a stamped key, which has room for
+// the versionstamp, its template with ten 00 is asked.
+fn asked_code(
+    alloc: Global,
+    op: AtomicOp,
+    key: &[u8],
+    operand: &[u8],
+) -> Result<Option<Code>, AllocError>
     requires { op ≡ atomic.SetVersionstampedKey → has_room key.now ≡ true }
-    ensures { IfOk result (λ asked. asked ≡ rules.key_asked op key.now) }
+    ensures { IfOk result (λ code. option_map number_of code
+        ≡ rules.first_failing (rules.key_checks (rules.key_asked op key.now) operand.now)) }
 {
     match op {
-        AtomicOp::SetVersionstampedKey => template_of(alloc, key),
-        _ => Bytes::from_slice(alloc, key),
+        AtomicOp::SetVersionstampedKey => {
+            let template = template_of(alloc, key)?;
+            Ok(key_code(template.as_slice(), operand))
+        }
+        _ => Ok(key_code(key, operand)),
     }
 }
 
@@ -161,8 +170,7 @@ pub(crate) fn op_code(
     if lacks_room(op, key, operand) {
         return Ok(Some(Code(CLIENT_INVALID_OPERATION)));
     }
-    let asked = key_asked(alloc, op, key)?;
-    Ok(key_code(asked.as_slice(), operand))
+    asked_code(alloc, op, key, operand)
 }
 
 // The code of the first check of setting the read version that fails.

@@ -6,18 +6,8 @@ ghost use Rattle.database_rules.specs.Intervals as rules;
 use crate::reading::Manner;
 use database_rules::Selector;
 use key_bytes::{Bytes, Key, KeyRange, Pairs};
+use range_read::start_key;
 use std::alloc::{AllocError, Global};
-
-// The least key that doesn't stand before a selector's place.
-fn start_of(selector: &Selector) -> Result<Key, AllocError>
-    ensures { IfOk result (λ start. start ≡ rules.start_of selector.now) }
-{
-    if selector.or_equal {
-        selector.key.after()
-    } else {
-        selector.key.copy()
-    }
-}
 
 // Where the interval ends of a read that found this key: behind it, but at FF where it is FF.
 fn end_at(found: &Key) -> Result<Key, AllocError>
@@ -38,7 +28,7 @@ pub(crate) fn selector_interval(
 ) -> Result<KeyRange, AllocError>
     ensures { IfOk result (λ range. range ≡ rules.selector_interval selector.now found.now) }
 {
-    let start = start_of(selector)?;
+    let start = start_key(selector)?;
     if selector.offset > 0 {
         let end = end_at(found)?;
         return Ok(KeyRange { begin: start, end });

@@ -247,3 +247,16 @@ fn stamps(rt: HostRuntime) -> Result<(), Fail> {
     assert_eq!(rt; first_other_stamp(rt.alloc())?, None);
     Ok(())
 }
+
+#[test]
+fn tells_versionstamped_operations(rt: HostRuntime) -> Result<(), Fail> {
+    assert_eq!(rt;
+        [
+            AtomicOp::SetVersionstampedKey.is_versionstamped(),
+            AtomicOp::SetVersionstampedValue.is_versionstamped(),
+            AtomicOp::ByteMax.is_versionstamped(),
+        ],
+        [true, true, false]
+    );
+    Ok(())
+}

@@ -1,7 +1,7 @@
 //! Keys of a subspace.
 
 use super::packing::tuple_of;
-use fdb_subspace::{SubFault, Subspace};
+use fdb_subspace::{SubFault, Subspace, packed_behind, range_behind};
 use fdb_tuple::{Elem, Tuple, UnpackFault};
 use key_bytes::{Bytes, KeyRange};
 use std::alloc::Global;
@@ -38,9 +38,18 @@ fn is_zero(alloc: Global, key: &[u8]) -> Option<Result<bool, SubFault>> {
     })
 }
 
+// Whether the prefix `a` has the tuple (0) behind it, and the range of all tuples.
+fn packs_behind(alloc: Global) -> Option<bool> {
+    let prefix = Bytes::from_slice(alloc, b"a").ok()?;
+    let key = packed_behind(&prefix, &Elem::Int(0)).ok()?;
+    let range = range_behind(&prefix).ok()?;
+    Some(key.as_slice() == b"a\x14".as_slice() && is_range(&range, b"a\x00", b"a\xFF"))
+}
+
 #[test]
 fn keys_of_a_subspace(rt: HostRuntime) {
     let alloc = rt.alloc();
+    assert_eq!(rt; packs_behind(alloc), Some(true));
     assert_eq!(rt; packs_zero(alloc), Some(true));
     assert_eq!(rt; is_zero(alloc, b"a\x14"), Some(Ok(true)));
     assert_eq!(rt; is_zero(alloc, b"b\x14"), Some(Err(SubFault::NotInside)));

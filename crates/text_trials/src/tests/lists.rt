@@ -1,8 +1,10 @@
-use super::*;
+//! A list, call by call.
+
+use lists::List;
 use std::test::Fail;
 
 #[test]
-fn keeps_its_items_in_order(rt: HostRuntime) -> Result<(), Fail> {
+fn a_list_keeps_its_items_in_order(rt: HostRuntime) -> Result<(), Fail> {
     let mut list = List::new(rt.alloc());
     assert!(rt; list.is_empty());
     list.push(7u16)?;

@@ -1,4 +1,6 @@
-use super::*;
+//! A request in a block that threads share.
+
+use fdb_calls::{Request, SharedRequest};
 use std::alloc::{AllocError, Global};
 use std::test::Fail;
 
