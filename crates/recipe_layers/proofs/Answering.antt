@@ -17,7 +17,7 @@ use Rattle.allocator_rules.proofs.Reading.{value_read, pairs_read}
 use Rattle.recipe_rules.specs.declared.fault.RecipeFault.{RecipeFault}
 use Rattle.recipe_rules.specs.declared.fault.RecipeFault.TheVariants as fault
 use Rattle.recipe_rules.specs.Faults.{from_tr}
-use Rattle.recipe_rules.specs.Turns.{Turn, Call, acts, acts_behind, ending, written, EndsIn, StopsIn, IsAnswered}
+use Rattle.recipe_rules.specs.Turns.{Turn, Call, replying, turned_by, acts, acts_behind, ending, written, EndsIn, StopsIn, IsAnswered}
 use Rattle.recipe_rules.proofs.Calling.{behind_through, refused_first, none_acted}
 use Rattle.recipe_layers.specs.Steps.{IsRead, Tells, IsWritten}
 
@@ -165,3 +165,30 @@ written_all good value (Ok done) turn setting first stands call t read turn_is w
     replied good value turn setting first stands call t read turn_is writes
 written_all good value (Err f) turn setting first stands call t read turn_is writes =
     write_stopped good value f turn setting first stands call t read turn_is writes
+
+-- ---- a call that writes nothing
+
+-- what was found out, as a reply
+abbrev pub mapped : {B X : Type 0} → (B → X) → Result B RecipeFault → Result X RecipeFault
+mapped reply_of (Ok found) = Ok (reply_of found)
+mapped reply_of (Err fault) = Err fault
+
+-- its reply is what was found out
+pub told_reply : {A B X : Type 0} (good : A → Type 0) (value : A) (result : Result B RecipeFault) (said : Result B RecipeFault) (reply_of : B → X)
+    (setting : Setting) (stands : Transaction → Type 0) (call : Call X) (t : Transaction) → IsRead good (Ok value) setting stands call.read t
+    → Tells result said → call.turn ≡ turned_by (λ found. replying (reply_of found)) said
+    → IsAnswered (mapped reply_of result) setting stands call t
+told_reply good value (Ok found) said reply_of setting stands call t read told turn =
+    replied good value (replying (reply_of found)) setting stands stands call t read
+    (turn ∙ ap (turned_by (λ found. replying (reply_of found))) told) (λ u is. none_written setting stands u is)
+told_reply good value (Err f) said reply_of setting stands call t read told turn =
+    told_fault good value f said setting stands call t read told (λ f said. turn ∙ ap (turned_by (λ found. replying (reply_of found))) said)
+
+-- its reply is what was found out itself
+pub told_itself : {A X : Type 0} (good : A → Type 0) (value : A) (result : Result X RecipeFault) (said : Result X RecipeFault)
+    (setting : Setting) (stands : Transaction → Type 0) (call : Call X) (t : Transaction) → IsRead good (Ok value) setting stands call.read t
+    → Tells result said → call.turn ≡ turned_by (λ found. replying found) said → IsAnswered result setting stands call t
+told_itself good value (Ok found) said setting stands call t read told turn =
+    told_reply good value (Ok found) said (λ found. found) setting stands call t read told turn
+told_itself good value (Err f) said setting stands call t read told turn =
+    told_reply good value (Err f) said (λ found. found) setting stands call t read told turn

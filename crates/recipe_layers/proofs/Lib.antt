@@ -1,3 +1,4 @@
 pub mod Digits
 pub mod Answering
 pub mod Turns
+pub mod Counts

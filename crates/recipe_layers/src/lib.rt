@@ -8,8 +8,10 @@
 #![tactic(auto)]
 
 mod keys;
+mod multimap;
 mod queue;
 mod reading;
 
+pub use multimap::{add, subtract, values};
 pub use queue::{pop, push};
 pub use recipe_rules::{Count, Counts, RecipeFault};

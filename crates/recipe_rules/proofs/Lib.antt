@@ -3,3 +3,4 @@ pub mod Pairs
 pub mod Calling
 pub mod Indexes
 pub mod Queueing
+pub mod Counting
