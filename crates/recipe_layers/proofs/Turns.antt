@@ -1,5 +1,5 @@
 -- The turn of each call, by what its read was answered.
-use Rattle.std.proofs.Common.{◌≡◌, ℕ, zero, suc, ◌-◌, Bool, true, false, cond, List, Option, Result, Ok, Err, refl, sym, ap, ◌∙◌, subst, arith}
+use Rattle.std.proofs.Common.{◌≡◌, ℕ, zero, suc, ◌-◌, Bool, true, false, cond, List, length, Option, Result, Ok, Err, refl, sym, ap, ◌∙◌, subst, arith}
 use Rattle.std.specs.Prelude.{◌==◌}
 use Rattle.std.specs.FinMap as finite
 use Rattle.std.proofs.lemmas.Bool.{ne_eqb}
@@ -12,6 +12,7 @@ use Rattle.database_rules.specs.Slices.{Entries, slice}
 use Rattle.recipe_rules.specs.Turns.{Turn, writing, replying, turned_by, space_begin, space_end, first_pair}
 use Rattle.recipe_rules.specs.Queues.{next_key, push_call, popping, pop_call}
 use Rattle.recipe_rules.specs.Multimaps.{pair_key, count_at, one_more, sets_count, add_call, there, lowers, subtract_call, key_space, counts_in, values_call}
+use Rattle.recipe_rules.specs.Blobs.{bytes_in, bytes_seen, size_call, part, read_call, sets_piece, put_in, write_call}
 use Rattle.recipe_layers.specs.Steps.{IsRead}
 
 -- what a push does with the key that was found
@@ -87,3 +88,27 @@ pub same_space : {A : Type 0} (good : A → Type 0) (result : Result A RecipeFau
     → IsRead good result setting stands (GetKeyRange (space_begin space) (space_end space) limit backward) t
 same_space good result setting stands front space limit backward t is read =
     subst (λ space. IsRead good result setting stands (GetKeyRange (space_begin space) (space_end space) limit backward) t) is read
+
+-- ---- bytes
+
+pub seen_bytes : (space : List ℕ) (database : Database) (pairs : Entries) → pairs ≡ slice database (space_begin space) (space_end space) 0 false
+    → bytes_seen space database ≡ bytes_in space pairs
+seen_bytes space database pairs read = ap (bytes_in space) (sym read)
+
+pub size_turn : (space : List ℕ) (database : Database) (pairs : Entries) → pairs ≡ slice database (space_begin space) (space_end space) 0 false
+    → (size_call space database).turn ≡ turned_by (λ bytes. replying (length bytes)) (bytes_in space pairs)
+unfolding size_call
+size_turn space database pairs read = ap (turned_by (λ bytes. replying (length bytes))) (seen_bytes space database pairs read)
+
+pub read_turn : (space : List ℕ) (from most : ℕ) (database : Database) (pairs : Entries)
+    → pairs ≡ slice database (space_begin space) (space_end space) 0 false
+    → (read_call space from most database).turn ≡ turned_by (λ bytes. replying (part from most bytes)) (bytes_in space pairs)
+unfolding read_call
+read_turn space from most database pairs read = ap (turned_by (λ bytes. replying (part from most bytes))) (seen_bytes space database pairs read)
+
+pub write_turn : (space : List ℕ) (at : ℕ) (piece : List ℕ) (database : Database) (pairs : Entries)
+    → pairs ≡ slice database (space_begin space) (space_end space) 0 false
+    → (write_call space at piece database).turn ≡ turned_by (sets_piece space at (length piece)) (put_in at piece (bytes_in space pairs))
+unfolding write_call
+write_turn space at piece database pairs read =
+    ap (λ found. turned_by (sets_piece space at (length piece)) (put_in at piece found)) (seen_bytes space database pairs read)

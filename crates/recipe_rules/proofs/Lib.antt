@@ -4,3 +4,5 @@ pub mod Calling
 pub mod Indexes
 pub mod Queueing
 pub mod Counting
+pub mod Pieces
+pub mod Writing

@@ -2,3 +2,4 @@ pub mod Faults
 pub mod Turns
 pub mod Queues
 pub mod Multimaps
+pub mod Blobs
