@@ -1,5 +1,5 @@
 -- What a call answers, by what its steps did.
-use Rattle.std.proofs.Common.{◌≡◌, ℕ, zero, suc, Bool, false, List, [], ◌∷◌, take, Option, Some, None, Result, Ok, Err, refl, sym, ap, ◌∙◌, subst}
+use Rattle.std.proofs.Common.{◌≡◌, ℕ, zero, suc, Bool, false, List, [], ◌∷◌, ◌++◌, take, Option, Some, None, Result, Ok, Err, refl, sym, ap, ◌∙◌, subst}
 use Rattle.std.specs.FinMap as finite
 use Rattle.database_rules.specs.declared.Code.{Code}
 use Rattle.database_rules.specs.Databases.{Mutation, Set, Clear}
@@ -16,9 +16,9 @@ use Rattle.allocator_rules.specs.Acts.{Act, Reads, Writes, act_called, all_acted
 use Rattle.allocator_rules.proofs.Reading.{value_read, pairs_read}
 use Rattle.recipe_rules.specs.declared.fault.RecipeFault.{RecipeFault}
 use Rattle.recipe_rules.specs.declared.fault.RecipeFault.TheVariants as fault
-use Rattle.recipe_rules.specs.Faults.{from_tr}
-use Rattle.recipe_rules.specs.Turns.{Turn, Call, acts, acts_behind, ending, written, EndsIn, StopsIn, IsAnswered}
-use Rattle.recipe_rules.proofs.Calling.{behind_through, refused_first, none_acted}
+use Rattle.recipe_rules.specs.Faults.{fault_of, from_tr}
+use Rattle.recipe_rules.specs.Turns.{Turn, Call, replying, turned_by, acts, acts_behind, ending, written, EndsIn, StopsIn, IsAnswered}
+use Rattle.recipe_rules.proofs.Calling.{each_through, behind_through, refused_first, none_acted}
 use Rattle.recipe_layers.specs.Steps.{IsRead, Tells, IsWritten}
 
 -- ---- memory ran out
@@ -102,6 +102,13 @@ told_fault good value fault.NoMemory said setting stands call t read told turn =
     stops_behind setting stands (Reads call.read false) (acts_behind call.turn) t read.0
     (stops_first setting stands (acts_behind call.turn) (act_called setting t (Reads call.read false)).transaction read.2)
 
+-- memory ran out behind the read
+pub read_short : {A X : Type 0} (good : A → Type 0) (value : A) (setting : Setting) (stands : Transaction → Type 0) (call : Call X) (t : Transaction)
+    → IsRead good (Ok value) setting stands call.read t → IsAnswered {X = X} (Err fault.NoMemory) setting stands call t
+read_short good value setting stands call t read =
+    stops_behind setting stands (Reads call.read false) (acts_behind call.turn) t read.0
+    (stops_first setting stands (acts_behind call.turn) (act_called setting t (Reads call.read false)).transaction read.2)
+
 -- ---- the writes
 
 -- one write that was answered
@@ -165,3 +172,69 @@ written_all good value (Ok done) turn setting first stands call t read turn_is w
     replied good value turn setting first stands call t read turn_is writes
 written_all good value (Err f) turn setting first stands call t read turn_is writes =
     write_stopped good value f turn setting first stands call t read turn_is writes
+
+-- ---- writes one behind the other
+
+-- behind one that was let through
+write_behind : (result : Result (Unit {0}) RecipeFault) (setting : Setting) (stands : Transaction → Type 0) (mutation : Mutation)
+    (mutations : List Mutation) (t : Transaction) → refusal (act_called setting t (Writes mutation)).reply ≡ None
+    → IsWritten result setting stands mutations (act_called setting t (Writes mutation)).transaction
+    → IsWritten result setting stands (mutation ∷ mutations) t
+write_behind (Ok done) setting stands mutation mutations t passed is =
+    let one = behind_through setting (Writes mutation) (written mutations) t passed in
+    (one.refused ∙ is.0, subst stands (sym one.left) is.1)
+write_behind (Err (fault.Tr code)) setting stands mutation mutations t passed is =
+    let one = behind_through setting (Writes mutation) (written mutations) t passed in
+    (one.refused ∙ is.0, subst stands (sym one.left) is.1)
+write_behind (Err fault.NoMemory) setting stands mutation mutations t passed is =
+    stops_behind setting stands (Writes mutation) (written mutations) t passed is
+write_behind (Err (fault.BadKey key)) setting stands mutation mutations t passed is = absurd is
+write_behind (Err fault.IndexEnd) setting stands mutation mutations t passed is = absurd is
+write_behind (Err (fault.PastEnd size)) setting stands mutation mutations t passed is = absurd is
+
+-- behind some that were let through
+pub written_more : (result : Result (Unit {0}) RecipeFault) (setting : Setting) (first stands : Transaction → Type 0)
+    (mutations more : List Mutation) (t : Transaction) → IsWritten (Ok tt) setting first mutations t
+    → ((u : Transaction) → first u → IsWritten result setting stands more u) → IsWritten result setting stands (mutations ++ more) t
+written_more result setting first stands [] more t is others = others t (subst first (none_acted setting t).1 is.1)
+written_more result setting first stands (mutation ∷ mutations) more t is others =
+    let one = each_through setting (Writes mutation) (written mutations) t is.0 in
+    write_behind result setting stands mutation (mutations ++ more) t one.passed
+    (written_more result setting first stands mutations more (act_called setting t (Writes mutation)).transaction
+    (one.others, subst first one.left is.1) others)
+
+-- a write that was refused is the last
+pub first_refused : (f : TrFault) (setting : Setting) (stands : Transaction → Type 0) (mutation : Mutation) (mutations : List Mutation)
+    (t : Transaction) → Answered (λ (done : Unit {0}). reply.Done) (Err f) stands t (act_called setting t (Writes mutation))
+    → IsWritten (Err (fault_of f)) setting stands (mutation ∷ mutations) t
+first_refused (tr.Code code) setting stands mutation mutations t (is, after) =
+    let one = refused_first setting (Writes mutation) (written mutations) t code (ap refusal (sym is)) in
+    (one.0, subst stands (sym one.1) after)
+first_refused tr.NoMemory setting stands mutation mutations t is = stops_first setting stands (written (mutation ∷ mutations)) t is
+
+-- ---- a call that writes nothing
+
+-- what was found out, as a reply
+abbrev pub mapped : {B X : Type 0} → (B → X) → Result B RecipeFault → Result X RecipeFault
+mapped reply_of (Ok found) = Ok (reply_of found)
+mapped reply_of (Err fault) = Err fault
+
+-- its reply is what was found out
+pub told_reply : {A B X : Type 0} (good : A → Type 0) (value : A) (result : Result B RecipeFault) (said : Result B RecipeFault) (reply_of : B → X)
+    (setting : Setting) (stands : Transaction → Type 0) (call : Call X) (t : Transaction) → IsRead good (Ok value) setting stands call.read t
+    → Tells result said → call.turn ≡ turned_by (λ found. replying (reply_of found)) said
+    → IsAnswered (mapped reply_of result) setting stands call t
+told_reply good value (Ok found) said reply_of setting stands call t read told turn =
+    replied good value (replying (reply_of found)) setting stands stands call t read
+    (turn ∙ ap (turned_by (λ found. replying (reply_of found))) told) (λ u is. none_written setting stands u is)
+told_reply good value (Err f) said reply_of setting stands call t read told turn =
+    told_fault good value f said setting stands call t read told (λ f said. turn ∙ ap (turned_by (λ found. replying (reply_of found))) said)
+
+-- its reply is what was found out itself
+pub told_itself : {A X : Type 0} (good : A → Type 0) (value : A) (result : Result X RecipeFault) (said : Result X RecipeFault)
+    (setting : Setting) (stands : Transaction → Type 0) (call : Call X) (t : Transaction) → IsRead good (Ok value) setting stands call.read t
+    → Tells result said → call.turn ≡ turned_by (λ found. replying found) said → IsAnswered result setting stands call t
+told_itself good value (Ok found) said setting stands call t read told turn =
+    told_reply good value (Ok found) said (λ found. found) setting stands call t read told turn
+told_itself good value (Err f) said setting stands call t read told turn =
+    told_reply good value (Err f) said (λ found. found) setting stands call t read told turn

@@ -7,9 +7,13 @@
 //! before. So calls of transactions that commit are those of the list, the map or the string in the order of the commits.
 #![tactic(auto)]
 
+mod blob;
 mod keys;
+mod multimap;
 mod queue;
 mod reading;
 
+pub use blob::{read, size, write};
+pub use multimap::{add, subtract, values};
 pub use queue::{pop, push};
 pub use recipe_rules::{Count, Counts, RecipeFault};

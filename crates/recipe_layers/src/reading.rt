@@ -1,8 +1,9 @@
 //! The read of a call.
 
 ghost use Rattle.std.specs.Prelude.{◌≡◌, true, false};
+ghost use Rattle.std.specs.FinMap as finite;
 ghost use Rattle.database_rules.specs.Histories.{Setting};
-ghost use Rattle.database_rules.specs.Reads.{GetKeyRange};
+ghost use Rattle.database_rules.specs.Reads.{Get, GetKeyRange};
 ghost use Rattle.database_rules.specs.Slices.{slice};
 ghost use Rattle.database_rules.specs.Transactions.{Transaction, view};
 ghost use Rattle.recipe_rules.specs.Turns.{space_begin, space_end, first_pair};
@@ -12,7 +13,7 @@ ghost use Rattle.recipe_layers.specs.Steps.{IsRead, pair_of};
 use crate::keys::range_behind;
 use fdb_calls::{Tr, TrFault};
 use fdb_subspace::Subspace;
-use key_bytes::{KeyRange, Pair, Pairs};
+use key_bytes::{Bytes, Key, KeyRange, Pair, Pairs};
 use recipe_rules::RecipeFault;
 
 /// What a call of the transaction answered, with the fault of a call of a layer.
@@ -55,6 +56,15 @@ pub(crate) fn read_pairs<T: Tr>(
 {
     let range = range_behind(&s.prefix)?;
     read_range(tr, &range, limit, reverse)
+}
+
+/// Reads the value of a key.
+pub(crate) fn read_value<T: Tr>(tr: &mut T, key: &Key) -> Result<Option<Bytes>, RecipeFault>
+    ensures read { (setting : Setting) (t : Transaction) → T.Tr.stands tr.old setting t
+        → IsRead (λ value. value ≡ finite.get (view setting t) key.now) result setting (T.Tr.stands tr.new setting) (Get key.now) t }
+    ensures same { T.Tr.same tr.old tr.new }
+{
+    from_tr(tr.get(key.as_slice(), false))
 }
 
 /// Returns the first of some pairs, where there is one.

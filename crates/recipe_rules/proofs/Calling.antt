@@ -9,9 +9,10 @@ use Rattle.database_rules.specs.declared.Code.{Code}
 use Rattle.database_rules.specs.Histories.{Setting}
 use Rattle.database_rules.specs.Transactions.{Transaction, view}
 use Rattle.fdb_calls.specs.Calling.{Called}
-use Rattle.allocator_rules.specs.Acts.{Act, Acted, act_called, acted_by, all_acted, refusal, words_of}
-use Rattle.allocator_rules.proofs.Viewing.{spares, all_spared}
-use Rattle.recipe_rules.specs.Turns.{is_inside, KeepsOthers}
+use Rattle.database_rules.specs.Reads.{Read}
+use Rattle.allocator_rules.specs.Acts.{Act, Reads, Acted, act_called, acted_by, all_acted, refusal, words_of}
+use Rattle.allocator_rules.proofs.Viewing.{spares, all_spared, after_read}
+use Rattle.recipe_rules.specs.Turns.{is_inside, KeepsOthers, KeepsAll}
 
 -- what an act and others behind it left, where the act was let through
 pub record IsThrough (setting : Setting) (act : Act) (acts : List Act) (t : Transaction) : Type 0 where
@@ -99,3 +100,24 @@ differs space q key true is outside inside =
 -- a key outside is none inside
 pub apart : (space q key : List ℕ) → is_inside space q ≡ false → is_inside space key ≡ true → bytes_eq q key ≡ false
 apart space q key outside inside = differs space q key (bytes_eq q key) refl outside inside
+
+-- ---- a read alone
+
+alone_seen : (setting : Setting) (read : Read) (t : Transaction)
+    → view setting (all_acted setting (Reads read false ∷ []) t).transaction ≡ view setting t
+unfolding all_acted
+alone_seen setting read t =
+    by (refusal (act_called setting t (Reads read false)).reply) ∙ after_read setting t read false
+  where
+    by : (refused : Option Code)
+        → view setting (acted_by refused (act_called setting t (Reads read false)).transaction 0
+        (all_acted setting [] (act_called setting t (Reads read false)).transaction)).transaction
+        ≡ view setting (act_called setting t (Reads read false)).transaction
+    by (Some code) = refl
+    by None = refl
+
+-- it changes nothing that is seen, refused or not
+pub all_kept : (setting : Setting) (read : Read) (t : Transaction) → KeepsAll setting (Reads read false ∷ []) t
+all_kept setting read t zero = ap (view setting) (none_acted setting t).1
+all_kept setting read t (suc zero) = alone_seen setting read t
+all_kept setting read t (suc (suc count)) = alone_seen setting read t

@@ -1,3 +1,5 @@
 pub mod Faults
 pub mod Turns
 pub mod Queues
+pub mod Multimaps
+pub mod Blobs

@@ -112,3 +112,8 @@ abbrev pub KeepsOthers : (space : List ℕ) → Setting → List Act → Transac
 KeepsOthers space setting acts transaction =
     (count : ℕ) (key : List ℕ) → is_inside space key ≡ false
     → finite.get (view setting (all_acted setting (take count acts) transaction).transaction) key ≡ finite.get (view setting transaction) key
+
+-- after each so many first of these acts every key is seen as before
+abbrev pub KeepsAll : Setting → List Act → Transaction → Type 0
+KeepsAll setting acts transaction =
+    (count : ℕ) → view setting (all_acted setting (take count acts) transaction).transaction ≡ view setting transaction

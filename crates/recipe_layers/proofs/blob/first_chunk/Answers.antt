@@ -1,0 +1,7 @@
+use Rattle.std.proofs.Common.{refl}
+use Rattle.recipe_rules.specs.Blobs.{first_chunk}
+use Rattle.recipe_layers.proofs.blob.first_chunk.Goals as goal
+
+pub returns : goal.returns
+unfolding first_chunk
+returns c = refl
