@@ -1,0 +1,11 @@
+pub mod Feedless
+pub mod Gathered
+pub mod Heads
+pub mod Lawful
+pub mod Packed
+pub mod Packs
+pub mod Prefixes
+pub mod Steps
+pub mod TakingAgain
+pub mod TakingSections
+pub mod Texts
