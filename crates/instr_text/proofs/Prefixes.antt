@@ -45,7 +45,7 @@ module _ {X : Type 0} where
       by true false e = absurd cc
       by false true e = absurd cc
 
-some_came : (prefix : List ℕ) (before : List (List ℕ)) → true ≡ not (length (prefix ∷ before) == 0)
+pub some_came : (prefix : List ℕ) (before : List (List ℕ)) → true ≡ not (length (prefix ∷ before) == 0)
 some_came prefix before = rw (ne_eqb (length (prefix ∷ before)) 0 (λ e. omega arith)) refl
 
 -- the section of a prefix begins

@@ -4,8 +4,13 @@
 #![tactic(auto)]
 
 mod assembling;
+mod disassembling;
+mod fault;
 mod line;
 mod sections;
+mod taking;
 
 pub use assembling::assemble;
+pub use disassembling::disassemble;
 pub use dump_text::LineFault;
+pub use fault::DisFault;
