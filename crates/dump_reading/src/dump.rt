@@ -32,8 +32,8 @@ struct Place {
     pairs: usize,
 }
 
-// The first line of bytes that aren't empty, and what is left behind it.
-fn first_line(number: u32, bytes: &[u8]) -> (DumpLine<'_>, &[u8])
+/// Splits off the first line of bytes that aren't empty; returns it under this number, and the bytes behind it.
+pub fn first_line(number: u32, bytes: &[u8]) -> (DumpLine<'_>, &[u8])
     requires { 0 < length bytes.now }
     ensures number { result.0.number ≡ number }
     ensures lines { lines_of bytes.now ≡ line_is result.0 ∷ lines_of result.1.now }

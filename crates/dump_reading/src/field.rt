@@ -42,8 +42,8 @@ impl<T: Drop> From<AllocFailed<T>> for FieldFault {
     }
 }
 
-// What stands behind a word.
-fn behind<'a>(word: &[u8], bytes: &'a [u8]) -> Result<&'a [u8], FieldFault>
+/// Reads a word at the front; returns the bytes behind it, or the place of the first byte that isn't the word's.
+pub fn behind<'a>(word: &[u8], bytes: &'a [u8]) -> Result<&'a [u8], FieldFault>
     ensures { Gives (λ rest. rest.now) result (behind word.now bytes.now) }
 {
     let mut i = 0;
@@ -70,8 +70,8 @@ fn is_digit(byte: u8) -> bool
     byte >= b'0' && byte <= b'9'
 }
 
-// How many digits stand at the front.
-fn digits_len(bytes: &[u8]) -> usize
+/// Returns how many decimal digits stand at the front.
+pub fn digits_len(bytes: &[u8]) -> usize
     ensures value { result ≡ prefix_len is_digit bytes.now }
     ensures within { result ≤ length bytes.now }
 {

@@ -11,7 +11,9 @@ mod field;
 mod line;
 mod printable;
 
-pub use dump::{Lines, read_dump};
+pub use dump::{Lines, first_line, read_dump};
 pub use dump_text::{EndWord, Line, LineFault};
 pub use fault::PrintableFault;
-pub use printable::read_printable;
+pub use field::{FieldFault, behind, digits_len};
+pub use line::DumpLine;
+pub use printable::{Spelling, digit_of, read_printable, spelling_of};

@@ -28,8 +28,8 @@ fn is_plain(byte: u8) -> bool
     byte >= 0x20 && byte < 0x7f && byte != b'\\'
 }
 
-// The value of a hexadecimal digit, 16 for any other byte.
-fn digit_of(byte: u8) -> u8
+/// Returns the value of a lower-case hexadecimal digit, or 16 for any other byte.
+pub fn digit_of(byte: u8) -> u8
     ensures value { result ≡ digit_of byte }
     ensures small { result ≤ 16 }
 {
@@ -76,9 +76,10 @@ fn escape_of(escaped: Option<u8>, bytes: &[u8]) -> Spelling<'_>
     }
 }
 
-// The byte that is spelled at the front.
+/// Reads the byte that is spelled at the front of a printable form, in which the byte `escaped`, where one is given,
+/// is spelled by its digits too.
 #[tactic(auto, unfolding(crate::specs::Spellings::byte_at))]
-fn spelling_of(escaped: Option<u8>, bytes: &[u8]) -> Spelling<'_>
+pub fn spelling_of(escaped: Option<u8>, bytes: &[u8]) -> Spelling<'_>
     ensures { spelling_is result ≡ byte_at escaped bytes.now }
 {
     match bytes {

@@ -1,0 +1,16 @@
+pub mod Again
+pub mod Elements
+pub mod ElementsAgain
+pub mod Hexadecimal
+pub mod Instructions
+pub mod NameLists
+pub mod Operands
+pub mod Parts
+pub mod Rows
+pub mod Runs
+pub mod Scalars
+pub mod TakingRows
+pub mod Utf8
+pub mod Walks
+pub mod WideNumbers
+pub mod Written

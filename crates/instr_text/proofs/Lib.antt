@@ -1,0 +1,14 @@
+pub mod Feedless
+pub mod Gathered
+pub mod Heads
+pub mod Lawful
+pub mod Listed
+pub mod Packed
+pub mod Packs
+pub mod Prefixes
+pub mod Steps
+pub mod TakingAgain
+pub mod TakingSections
+pub mod TakingSteps
+pub mod Takings
+pub mod Texts
