@@ -44,7 +44,7 @@ acts_kept setting some = record {
   read = read_held setting;
   write = λ t mutation none held. mutation_held setting.history t mutation (write_small t.phase mutation none) held;
   write_conflict = write_range_held setting.history;
-  silence = write_conflict_disabled_held setting.history;
+  disabling = write_conflict_disabled_held setting.history;
 }
 
 calls_kept : (setting : Setting) → 1 ≤ last setting.history → AreCallsKept setting (IsHeld setting.history)

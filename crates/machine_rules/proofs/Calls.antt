@@ -14,12 +14,12 @@ use Rattle.database_rules.specs.Intervals.{one}
 use Rattle.database_rules.specs.Modes.{lacks_limit}
 use Rattle.database_rules.specs.Reads.{Read}
 use Rattle.database_rules.specs.Reads as read
-use Rattle.database_rules.specs.Transactions.{Transaction, after_phase, atomic_code, cancelled, first_failing, is_ahead, is_cancelled, is_hidden, is_positive, is_retryable, is_tried, late_checks, named_checks, op_code, phase_code, range_code, read_code, set_version_code, silenced, version_in, with_phase, with_read_range, with_version, with_write_range}
+use Rattle.database_rules.specs.Transactions.{Transaction, after_phase, atomic_code, cancelled, first_failing, is_ahead, is_cancelled, is_hidden, is_positive, is_retryable, is_tried, late_checks, named_checks, op_code, phase_code, range_code, read_code, set_version_code, with_write_conflict_disabled, version_in, with_phase, with_read_range, with_version, with_write_range}
 use Rattle.fdb_calls.specs.declared.Reply.{Reply}
 use Rattle.fdb_calls.specs.declared.TxnCall.{TxnCall}
 use Rattle.fdb_calls.specs.declared.TxnCall.TheVariants as call
 use Rattle.fdb_calls.specs.Calling.{Called, answers, atomic_by, called, does_by, error_handled, in_turn, is_fault, logs, on_error_by, read_at_version, read_by, read_called, set_called, write_by}
-use Rattle.allocator_rules.specs.Acts.{Act, Draws, Reads, Writes, Silences, AddsWriteConflict, act_called}
+use Rattle.allocator_rules.specs.Acts.{Act, Draws, Reads, Writes, DisablesWriteConflict, AddsWriteConflict, act_called}
 use Rattle.machine_rules.proofs.Keeping.{AreActsKept, AreCallsKept, write_code}
 
 -- ---- checks that passed
@@ -122,7 +122,7 @@ module _ (setting : Setting) (Holds : Transaction → Type 0) (acts : AreActsKep
   act_quiet t (Writes (Clear key)) holds = write_quiet t (Clear key) holds
   act_quiet t (Writes (ClearRange begin end)) holds = write_quiet t (ClearRange begin end) holds
   act_quiet t (Writes (Atomic op key operand)) holds = write_quiet t (Atomic op key operand) holds
-  act_quiet t Silences holds = does_quiet Holds (phase_code t.phase) t (silenced t) _ holds (λ none. acts.silence t holds)
+  act_quiet t DisablesWriteConflict holds = does_quiet Holds (phase_code t.phase) t (with_write_conflict_disabled t) _ holds (λ none. acts.disabling t holds)
   act_quiet t (AddsWriteConflict key) holds =
       does_quiet Holds (range_code t.phase (one key).begin (one key).end) t (with_write_range t (one key)) _ holds
       (λ none. acts.write_conflict t (one key) holds)
@@ -177,7 +177,7 @@ module _ (setting : Setting) (Holds : Transaction → Type 0) (calls : AreCallsK
       inl (does_quiet Holds (range_code t.phase range.begin range.end) t (with_write_range t range) _ holds
       (λ none. calls.acts.write_conflict t range holds))
   called_quiet life t call.NoWriteConflict holds =
-      inl (does_quiet Holds (phase_code t.phase) t (silenced t) _ holds (λ none. calls.acts.silence t holds))
+      inl (does_quiet Holds (phase_code t.phase) t (with_write_conflict_disabled t) _ holds (λ none. calls.acts.disabling t holds))
   called_quiet life t call.ReadVersion holds =
       inl (does_quiet Holds (phase_code t.phase) t (with_version setting t) _ holds (λ none. calls.acts.taken t holds))
   called_quiet life t (call.SetReadVersion version) holds =

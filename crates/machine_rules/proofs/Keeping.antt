@@ -8,7 +8,7 @@ use Rattle.database_rules.specs.Databases.{Mutation, Set, Clear, ClearRange, Ato
 use Rattle.database_rules.specs.Histories.{Commit, History, Setting, last, stamp_of}
 use Rattle.database_rules.specs.Intervals.{added}
 use Rattle.database_rules.specs.Reads.{Read, answer}
-use Rattle.database_rules.specs.Transactions.{Transaction, fresh, clear_code, conflict_checks, first_failing, map_below, op_code, range_code, set_code, silenced, version_in, view, with_mutation, with_phase, with_read, with_read_range, with_version, with_write_range, writes_of}
+use Rattle.database_rules.specs.Transactions.{Transaction, fresh, clear_code, conflict_checks, first_failing, map_below, op_code, range_code, set_code, with_write_conflict_disabled, version_in, view, with_mutation, with_phase, with_read, with_read_range, with_version, with_write_range, writes_of}
 use Rattle.fdb_calls.specs.Calling.{commit_of, next_version}
 use Rattle.directory_rules.proofs.Keeping.{AllocatorsKeep}
 
@@ -31,7 +31,7 @@ pub record AreActsKept (setting : Setting) (Holds : Transaction → Type 0) : Ty
   -- a write conflict range is added
   pub write_conflict : (t : Transaction) (range : KeyRange) → Holds t → Holds (with_write_range t range)
   -- the next write is to declare nothing
-  pub silence : (t : Transaction) → Holds t → Holds (silenced t)
+  pub disabling : (t : Transaction) → Holds t → Holds (with_write_conflict_disabled t)
 
 -- and so does each other change that a call makes of it
 pub record AreCallsKept (setting : Setting) (Holds : Transaction → Type 0) : Type 0 where

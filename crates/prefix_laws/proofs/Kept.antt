@@ -26,7 +26,7 @@ calls_kept setting = record {
         grown_held setting.history (with_version setting t) _ (answered_grown snapshot read _ _ (with_version setting t)) held;
     write = λ t mutation none held. grown_held setting.history t _ (mutation_grown t mutation) held;
     write_conflict = λ t range held. grown_held setting.history t _ (write_range_grown t range) held;
-    silence = λ t held. grown_held setting.history t _ (write_conflict_disabled_grown t) held;
+    disabling = λ t held. grown_held setting.history t _ (write_conflict_disabled_grown t) held;
   };
   begun = fresh_held setting.history;
   set_version = λ t version none above held. grown_held setting.history t _ (set_version_grown t version none) held;

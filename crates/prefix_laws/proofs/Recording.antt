@@ -170,5 +170,5 @@ act_grown setting transaction act = (act_quiet setting (HasGrown transaction) ch
       read = λ t snapshot read reached grown. grown_twice transaction (with_version setting t) _ grown (answered_grown snapshot read _ _ (with_version setting t));
       write = λ t mutation none grown. grown_twice transaction t _ grown (mutation_grown t mutation);
       write_conflict = λ t range grown. grown_twice transaction t _ grown (write_range_grown t range);
-      silence = λ t grown. grown_twice transaction t _ grown (write_conflict_disabled_grown t);
+      disabling = λ t grown. grown_twice transaction t _ grown (write_conflict_disabled_grown t);
     }
