@@ -1,0 +1,6 @@
+pub mod Firings
+pub mod Numbers
+pub mod Keeping
+pub mod Commits
+pub mod Closing
+pub mod Histories

@@ -1,0 +1,4 @@
+pub mod Firing
+pub mod Watching
+pub mod Watches
+pub mod Events
