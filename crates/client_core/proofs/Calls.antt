@@ -118,6 +118,44 @@ quiet_or_commit setting life transaction (call.OnError code) = inl (on_error_qui
 quiet_or_commit setting life transaction call.Reset = inl refl
 quiet_or_commit setting life transaction call.Cancel = inl refl
 
+-- a commit draws no life
+refused_draws : (phase : Phase) (code : ℕ) (transaction : Transaction) → (commit_refused phase code transaction).lives ≡ 0
+refused_draws phase.Active code transaction = refl
+refused_draws phase.Cancelled code transaction = refl
+refused_draws (phase.Tried outcome) code transaction = refl
+
+at_version_draws : (code : Option ℕ) (setting : Setting) (transaction : Transaction) → (commit_at_version code setting transaction).lives ≡ 0
+at_version_draws (Some code) setting transaction = refused_draws transaction.phase code transaction
+at_version_draws None setting transaction = refl
+
+allowed_draws : (read_only : Bool) (setting : Setting) (transaction : Transaction) → (commit_allowed read_only setting transaction).lives ≡ 0
+allowed_draws true setting transaction = refl
+allowed_draws false setting transaction =
+    at_version_draws (first_failing (conflict_checks setting (with_version setting transaction))) setting (with_version setting transaction)
+
+commit_draws : (code : Option ℕ) (setting : Setting) (transaction : Transaction) → (commit_by code setting transaction).lives ≡ 0
+commit_draws (Some code) setting transaction = refused_draws transaction.phase code transaction
+commit_draws None setting transaction = allowed_draws (is_read_only transaction) setting transaction
+
+commit_draws_none : (setting : Setting) (life : ℕ) (transaction : Transaction) → (called setting life transaction call.Commit).lives ≡ 0
+unfolding called
+commit_draws_none setting life transaction =
+    commit_draws (commit_code transaction.phase (is_read_only transaction) transaction.size) setting transaction
+
+-- a call that draws a life makes no commit
+pub drawing_quiet : (setting : Setting) (life : ℕ) (transaction : Transaction) (its_call : TxnCall)
+    → (called setting life transaction its_call).lives ≡ 1 → (called setting life transaction its_call).commits ≡ []
+drawing_quiet setting life transaction its_call drew = by_quiet (quiet_or_commit setting life transaction its_call)
+  where
+    none : (lives : ℕ) → lives ≡ 1 → lives ≡ 0 → ⊥
+    none lives one zero = omega arith
+
+    by_quiet : (IsQuiet (called setting life transaction its_call)) ⊎ (its_call ≡ call.Commit)
+        → (called setting life transaction its_call).commits ≡ []
+    by_quiet (inl is) = is
+    by_quiet (inr e) = absurd (none (called setting life transaction its_call).lives drew
+        (ap (λ c. (called setting life transaction c).lives) e ∙ commit_draws_none setting life transaction))
+
 pub few_commits : (setting : Setting) (life : ℕ) (transaction : Transaction) (its_call : TxnCall)
     → length (called setting life transaction its_call).commits ≤ 1
 few_commits setting life transaction its_call = by_quiet (quiet_or_commit setting life transaction its_call)

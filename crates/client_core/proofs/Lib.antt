@@ -1,6 +1,8 @@
 pub mod Results
 pub mod Named
 pub mod Calls
+pub mod Replies
+pub mod Kept
 pub mod Databases
 pub mod Steps
 pub mod Loads

@@ -1,5 +1,5 @@
 -- Keys that begin with a prefix stand side by side: the first key that isn't below the prefix tells whether there is one.
-use Rattle.std.proofs.Common.{◌≡◌, ℕ, ◌<◌, ◌≤◌, ◌⊎◌, inl, inr, Bool, true, false, not, cond, ◌&&◌, ◌||◌, List, [], ◌∷◌, Option, Some, None, T, refl, sym, ap, subst, ◌∙◌, true≢false, arith, eq-or-lt_of_le}
+use Rattle.std.proofs.Common.{◌≡◌, ℕ, ◌<◌, ◌⊎◌, inl, inr, Bool, true, false, ◌&&◌, List, [], ◌∷◌, T, refl, sym, ◌∙◌, true≢false, arith, eq-or-lt_of_le}
 use Rattle.std.specs.FinMap as finite
 use Rattle.std.specs.FinMap.Entries.{below_all, is_sorted}
 use Rattle.std.specs.List.{filter, list_any}

@@ -14,18 +14,19 @@ use Rattle.fdb_calls.specs.Calling.{Called, called, is_fault, in_turn, logs}
 use Rattle.version_store.specs.Versions as versions
 use Rattle.version_store.specs.Versions.{last_of}
 use Rattle.machine_rules.specs.Worlds.{World, HasWords, newest, Stepped, next_life, with_new, transaction_of, call_named, fresh_at_last, called_apart, database_by, and_commit, start_by, step}
-use Rattle.machine_rules.specs.Worlds.{with_drawn, directory_called, directory_named, directory_alone, directory_step}
+use Rattle.machine_rules.specs.Worlds.{with_drawn, directory_called, directory_named, directory_step}
 use Rattle.directory_types.specs.declared.DirArgs.{DirArgs}
 use Rattle.directory_types.specs.declared.DirKind.{DirKind}
 use Rattle.directory_types.specs.declared.Layer.{Layer}
 use Rattle.directory_rules.specs.Calls.{effect}
-use Rattle.client_core.specs.Stands.{ContentsModel, CoreModel, HasStarted, KeepsWorld, StandsFor, Answers, contents_in}
-use Rattle.client_core.specs.Sound.{IsSound, Took, TookDrawing}
+use Rattle.client_core.specs.Stands.{ContentsModel, CoreModel, HasStarted, KeepsWorld, StandsFor, Answers, contents_in, is_no_memory}
+use Rattle.client_core.specs.Sound.{IsSound, Took, TookDrawing, TookWhole}
 use Rattle.client_core.specs.Lives.{drawn_in}
 use Rattle.client_core.specs.Contents.{IsOnDatabase, TookStart}
 use Rattle.machine_rules.specs.Runs.{start_prefix}
 use Rattle.machine_rules.specs.declared.TheConstants.{MACHINES}
 use Rattle.client_core.proofs.Calls.{few_commits, first_commits, commit_commits, logs_in_place}
+use Rattle.client_core.proofs.Replies.{step_speaks}
 
 appended_counts : (first second : List Commit) → length second ≤ 1 → length (first ++ second) ≤ length first + 1
 appended_counts first second few = subst (λ n. n ≤ length first + 1) (sym (length-append first second)) (omega arith)
@@ -176,13 +177,14 @@ step_started world (request.PollStamp life) on = refl
 step_started world (request.PollEmpty prefix) on = refl
 step_started world (request.Start prefix) on = absurd on
 
--- a core that took a request of the database
-pub database_stands : (contents : ContentsModel) (core : CoreModel) (its_reply : Reply) (world : World) (given : Request)
-    → contents_in core ≡ contents → core.started ≡ world.started → IsOnDatabase given
-    → Took its_reply contents (step world given) → StandsFor core (step world given).world
-database_stands contents core its_reply world given same started on took = record {
-  contents = subst (λ (kept : ContentsModel). KeepsWorld kept (step world given).world) (sym same) took.stands;
-  started = started ∙ sym (step_started world given on);
+-- what took a request of the database took its step whole
+pub database_whole : (contents : ContentsModel) (started : List (List ℕ)) (words : ℕ → ℕ) (its_reply : Reply) (world : World)
+    (given : Request) → IsOnDatabase given → started ≡ world.started → HasWords world words → Took its_reply contents (step world given)
+    → TookWhole its_reply contents started words (step world given)
+database_whole contents started words its_reply world given on same has took = record {
+  took = took;
+  started_is = same ∙ sym (step_started world given on);
+  has_words = words_kept world given words (none_drawn given on) has;
 }
 
 -- one that took the start of a machine
@@ -191,17 +193,31 @@ started_keeps : (there_is_room : Bool) (contents : ContentsModel) (world : World
 started_keeps true contents world prefix keeps = record { keeps = keeps.keeps; transactions = keeps.transactions; lives = keeps.lives }
 started_keeps false contents world prefix keeps = keeps
 
-pub start_stands : (contents : ContentsModel) (core : CoreModel) (world : World) (prefix : List ℕ)
-    → contents_in core ≡ contents → KeepsWorld contents world
-    → core.started ≡ (start_by (nat_lt (length world.started) MACHINES) world prefix).world.started
-    → StandsFor core (start_by (nat_lt (length world.started) MACHINES) world prefix).world
-start_stands contents core world prefix same keeps started =
-    let there_is_room = nat_lt (length world.started) MACHINES in
-    record {
-      contents = subst (λ (kept : ContentsModel). KeepsWorld kept (start_by there_is_room world prefix).world) (sym same)
-          (started_keeps there_is_room contents world prefix keeps);
-      started = started;
-    }
+pub start_whole : (contents : ContentsModel) (started : List (List ℕ)) (words : ℕ → ℕ) (its_reply : Reply) (world : World)
+    (prefix : List ℕ) → KeepsWorld contents world → HasWords world words
+    → TookStart its_reply started (start_by (nat_lt (length world.started) MACHINES) world prefix)
+    → TookWhole its_reply contents started words (step world (request.Start prefix))
+unfolding step
+start_whole contents started words its_reply world prefix keeps has took = record {
+  took = record {
+    reply_is = took.reply_is;
+    stands = started_keeps (nat_lt (length world.started) MACHINES) contents world prefix keeps;
+  };
+  started_is = took.started_is;
+  has_words = words_kept world (request.Start prefix) words tt has;
+}
+
+-- one that took a call of a directory layer
+pub directory_whole : (contents : ContentsModel) (started : List (List ℕ)) (words : ℕ → ℕ) (its_reply : Reply) (world : World)
+    (name : Option (List ℕ)) (layer : Layer) (kind : DirKind) (args : DirArgs) → started ≡ world.started
+    → TookDrawing its_reply contents words (directory_step world name kind layer args)
+    → TookWhole its_reply contents started words (step world (request.Directory name layer kind args))
+unfolding step
+directory_whole contents started words its_reply world name layer kind args same drew = record {
+  took = drew.took;
+  started_is = same ∙ sym (directory_started world name layer kind args);
+  has_words = drew.has_words;
+}
 
 -- the reply and what a core stands for, as the contract says it
 pub took_answers : (its_reply : Reply) (core : CoreModel) (words : ℕ → ℕ) (stepped : Stepped) → its_reply ≡ stepped.reply
@@ -222,39 +238,46 @@ took_answers (reply.DirFault fault) core words stepped same stands has = (sym sa
 took_answers reply.NoMachine core words stepped same stands has = (sym same, stands, has)
 took_answers reply.NoMemory core words stepped same stands has = tt
 
+pub whole_answers : (its_reply : Reply) (core : CoreModel) (words : ℕ → ℕ) (stepped : Stepped)
+    → TookWhole its_reply (contents_in core) core.started words stepped → Answers its_reply core words stepped
+whole_answers its_reply core words stepped took =
+    took_answers its_reply core words stepped took.took.reply_is
+    (record { contents = took.took.stands; started = took.started_is }) took.has_words
+
 -- how many requests were taken does not matter for what a core stands for
 pub stands_counted : (core : ContentsModel) (applied : ℕ) (world : World) → KeepsWorld core world
     → KeepsWorld (record core { applied = applied }) world
 stands_counted core applied world stands = record { keeps = stands.keeps; transactions = stands.transactions; lives = stands.lives }
 
+-- what took each step whole from where it stood
+abbrev pub TakesWhole : (core after : ContentsModel) → (started left_started : List (List ℕ)) → (words left : ℕ → ℕ) → Request → Reply → Type 0
+TakesWhole core after started left_started words left given its_reply = (world : World) → KeepsWorld core world → started ≡ world.started
+    → HasWords world words → TookWhole its_reply after left_started left (step world given)
+
 -- a core that is sound takes a request, and is sound after it
-pub sound_taken : (core after : ContentsModel) (given : Request) (its_reply : Reply) (applied : ℕ)
-    → ((world : World) → KeepsWorld core world → Took its_reply after (step world given))
+pub sound_taken : (core after : ContentsModel) (started left_started : List (List ℕ)) (words left : ℕ → ℕ) (given : Request)
+    (its_reply : Reply) (applied : ℕ) → TakesWhole core after started left_started words left given its_reply
     → IsSound core (applied + 1) → IsSound after (applied + 1 + 1)
-sound_taken core after given its_reply applied took sound =
-    let few = step_few sound.world given in
+sound_taken core after started left_started words left given its_reply applied takes sound =
+    let world : World = record sound.world { started = started; words = words } in
+    let stands : KeepsWorld core world =
+    record { keeps = sound.stands.keeps; transactions = sound.stands.transactions; lives = sound.stands.lives } in
+    let few = step_few world given in
     record {
-      world = (step sound.world given).world;
-      stands = (took sound.world sound.stands).stands;
+      world = (step world given).world;
+      stands = (takes world stands refl (λ place. refl)).took.stands;
       few_commits = omega (arith, few, sound.few_commits);
     }
 
--- the same of a call of a directory layer, which may draw these random words
-pub sound_drawn : (core after : ContentsModel) (name : Option (List ℕ)) (layer : Layer) (kind : DirKind) (args : DirArgs)
-    (its_reply : Reply) (words left : ℕ → ℕ) (applied : ℕ)
-    → ((world : World) → KeepsWorld core world → HasWords world words
-    → TookDrawing its_reply after left (directory_step world name kind layer args))
-    → IsSound core (applied + 1) → IsSound after (applied + 1 + 1)
-sound_drawn core after name layer kind args its_reply words left applied took sound =
-    let world : World = record sound.world { words = words } in
+-- the reply isn't NoMemory
+pub taken_speaks : (core after : ContentsModel) (started left_started : List (List ℕ)) (words left : ℕ → ℕ) (given : Request)
+    (its_reply : Reply) (commits : ℕ) → TakesWhole core after started left_started words left given its_reply
+    → IsSound core commits → is_no_memory its_reply ≡ false
+taken_speaks core after started left_started words left given its_reply commits takes sound =
+    let world : World = record sound.world { started = started; words = words } in
     let stands : KeepsWorld core world =
     record { keeps = sound.stands.keeps; transactions = sound.stands.transactions; lives = sound.stands.lives } in
-    let few = directory_few world name layer kind args in
-    record {
-      world = (directory_step world name kind layer args).world;
-      stands = (took world stands (λ place. refl)).took.stands;
-      few_commits = omega (arith, few, sound.few_commits);
-    }
+    ap is_no_memory (takes world stands refl (λ place. refl)).took.reply_is ∙ step_speaks world given
 
 -- a core that is sound has versions to spare
 pub sound_enough : (core : ContentsModel) (applied counted : ℕ) → applied < 2 ^ 62 → IsSound core (applied + 1)
@@ -271,20 +294,7 @@ pub kept_newest : (contents : ContentsModel) (world : World) → KeepsWorld cont
 kept_newest contents world keeps =
     ap (versions.at contents.store) keeps.keeps.last_is ∙ keeps.keeps.at_is (last world.setting.history) (omega arith)
 
--- a request that is neither the start of a machine nor a call of a directory layer is one of the database
-pub on_database : (given : Request)
-    → ((name : Option (List ℕ)) (layer : Layer) (kind : DirKind) (args : DirArgs) → given ≡ request.Directory name layer kind args → ⊥)
-    → ((prefix : List ℕ) → given ≡ request.Start prefix → ⊥) → IsOnDatabase given
-on_database (request.New name) layered other = tt
-on_database (request.On name its_call) layered other = tt
-on_database (request.Database its_call) layered other = tt
-on_database (request.Directory name layer kind args) layered other = layered name layer kind args refl
-on_database (request.Log prefix entries) layered other = tt
-on_database (request.PollStamp life) layered other = tt
-on_database (request.PollEmpty prefix) layered other = tt
-on_database (request.Start prefix) layered other = other prefix refl
-
--- it starts none
+-- a request of the database starts none
 pub none_started : (given : Request) (its_reply : Reply) (old new : List (List ℕ)) → IsOnDatabase given → new ≡ old
     → HasStarted (start_prefix given) its_reply old new
 none_started (request.New name) its_reply old new on same = ap length same
@@ -295,41 +305,6 @@ none_started (request.Log prefix entries) its_reply old new on same = ap length 
 none_started (request.PollStamp life) its_reply old new on same = ap length same
 none_started (request.PollEmpty prefix) its_reply old new on same = ap length same
 none_started (request.Start prefix) its_reply old new on same = absurd on
-
--- the start of a machine is answered by its step
-pub start_answers : (contents : ContentsModel) (core : CoreModel) (words : ℕ → ℕ) (world : World) (given : Request) (prefix : List ℕ)
-    (its_reply : Reply) → given ≡ request.Start prefix → contents_in core ≡ contents → KeepsWorld contents world
-    → TookStart its_reply core.started (start_by (nat_lt (length world.started) MACHINES) world prefix) → HasWords world words
-    → Answers its_reply core words (step world given)
-unfolding step
-start_answers contents core words world given prefix its_reply is same keeps took has =
-    let stepped = start_by (nat_lt (length world.started) MACHINES) world prefix in
-    subst (λ (asked : Request). Answers its_reply core words (step world asked)) (sym is)
-    (took_answers its_reply core words stepped took.reply_is (start_stands contents core world prefix same keeps took.started_is)
-    (words_kept world (request.Start prefix) words tt has))
-
--- a call of a directory layer is answered by its step
-pub directory_answers : (contents : ContentsModel) (core : CoreModel) (words : ℕ → ℕ) (world : World) (given : Request)
-    (name : Option (List ℕ)) (layer : Layer) (kind : DirKind) (args : DirArgs) (its_reply : Reply)
-    → given ≡ request.Directory name layer kind args → contents_in core ≡ contents → core.started ≡ world.started
-    → TookDrawing its_reply contents words (directory_step world name kind layer args) → Answers its_reply core words (step world given)
-unfolding step
-directory_answers contents core words world given name layer kind args its_reply is same started drew =
-    let stepped = directory_step world name kind layer args in
-    subst (λ (asked : Request). Answers its_reply core words (step world asked)) (sym is)
-    (took_answers its_reply core words stepped drew.took.reply_is
-    (record {
-      contents = subst (λ (kept : ContentsModel). KeepsWorld kept stepped.world) (sym same) drew.took.stands;
-      started = started ∙ sym (directory_started world name layer kind args);
-    })
-    drew.has_words)
-
--- it starts no machine
-pub directory_starts_none : (given : Request) (name : Option (List ℕ)) (layer : Layer) (kind : DirKind) (args : DirArgs) (its_reply : Reply)
-    (old new : List (List ℕ)) → given ≡ request.Directory name layer kind args → new ≡ old
-    → HasStarted (start_prefix given) its_reply old new
-directory_starts_none given name layer kind args its_reply old new is same =
-    subst (λ (asked : Request). HasStarted (start_prefix asked) its_reply old new) (sym is) (ap length same)
 
 -- more commits may be than there are
 pub sound_later : (core : ContentsModel) (counted few more : ℕ) → few ≤ more → IsSound core few → IsSound (record core { applied = counted }) more

@@ -13,15 +13,16 @@ abbrev pub model_of : Contents → ContentsModel
 model_of contents =
     record { store = contents.store; index = contents.index; transactions = contents.transactions; lives = contents.lives; applied = contents.applied }
 
--- with the machines that were started
-abbrev pub core_of : Contents → List (List ℕ) → CoreModel
-core_of contents started = record {
+-- with the machines that were started, and whether memory ran out
+abbrev pub core_of : Contents → List (List ℕ) → Bool → CoreModel
+core_of contents started is_spent = record {
   store = contents.store;
   index = contents.index;
   transactions = contents.transactions;
   lives = contents.lives;
   applied = contents.applied;
   started = started;
+  is_spent = is_spent;
 }
 
 -- a request in which neither the machines nor a layer has a part

@@ -28,6 +28,22 @@ pub record Took (reply : Reply) (core : ContentsModel) (stepped : Stepped) : Typ
   pub reply_is : reply ≡ stepped.reply
   pub stands : KeepsWorld core stepped.world
 
+-- the same of a step that may start a machine or draw random words: the machines that were started, and the words still to come,
+-- are those of its world
+pub record TookWhole (reply : Reply) (core : ContentsModel) (started : List (List ℕ)) (words : ℕ → ℕ) (stepped : Stepped) : Type 0 where
+  pub took : Took reply core stepped
+  pub started_is : started ≡ stepped.world.started
+  pub has_words : HasWords stepped.world words
+
+-- the store and the index keep the history of each world for which these contents stood
+abbrev pub StillKeeps : (old new : ContentsModel) → Type 0
+StillKeeps old new = (world : World) → KeepsWorld old world → txn.Keeps new.store new.index world.setting
+
+-- the same where a transaction under no name was called, which stood so
+abbrev pub StillKeepsOf : (before : txn.Kept) → (store store_left : Versions) → (index index_left : Index) → Type 0
+StillKeepsOf before store store_left index index_left = (transaction : Transaction) (setting : Setting) → txn.StandsFor before transaction
+    → txn.Keeps store index setting → txn.Keeps store_left index_left setting
+
 -- the same of a step that may draw random words: those still to come are that world's
 pub record TookDrawing (reply : Reply) (core : ContentsModel) (words : ℕ → ℕ) (stepped : Stepped) : Type 0 where
   pub took : Took reply core stepped

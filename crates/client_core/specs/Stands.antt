@@ -1,10 +1,11 @@
 -- What a core stands for.
-use Rattle.std.specs.Prelude.{◌≡◌, ℕ, ◌+◌, ◌≤◌, ⊤, List, length, Option, Some, None}
+use Rattle.std.specs.Prelude.{◌≡◌, ℕ, ◌+◌, ◌≤◌, ⊤, Bool, true, false, List, length, Option, Some, None}
 use Rattle.std.specs.FinMap as finite
 use Rattle.fdb_calls.specs.declared.Outcome.{Outcome}
 use Rattle.fdb_calls.specs.declared.Reply.{Reply}
 use Rattle.fdb_calls.specs.declared.Reply.TheVariants as reply
 use Rattle.key_bytes.specs.Keys.{key_cmp}
+use Rattle.database_rules.specs.Histories.{Setting}
 use Rattle.database_rules.specs.Transactions.{Transaction}
 use Rattle.machine_rules.specs.Worlds.{World, Stepped, HasWords}
 use Rattle.machine_rules.specs.declared.TheConstants.{MACHINES}
@@ -25,7 +26,8 @@ pub record ContentsModel : Type 0 where
   pub lives : List (Option Outcome)
   pub applied : ℕ
 
--- the same, and the prefixes of the machines that were started, by their numbers
+-- the same, the prefixes of the machines that were started, by their numbers, and whether memory ran out: a core that is spent
+-- answers each request with NoMemory
 pub record CoreModel : Type 0 where
   pub store : Versions
   pub index : Index
@@ -33,6 +35,7 @@ pub record CoreModel : Type 0 where
   pub lives : List (Option Outcome)
   pub applied : ℕ
   pub started : List (List ℕ)
+  pub is_spent : Bool
 
 abbrev pub contents_in : CoreModel → ContentsModel
 contents_in core =
@@ -85,6 +88,16 @@ Answers (reply.DirFault fault) core words stepped =
     (stepped.reply ≡ reply.DirFault fault) × StandsFor core stepped.world × HasWords stepped.world words
 Answers reply.NoMachine core words stepped = (stepped.reply ≡ reply.NoMachine) × StandsFor core stepped.world × HasWords stepped.world words
 Answers reply.NoMemory core words stepped = ⊤
+
+-- a reply that memory ran out
+abbrev pub is_no_memory : Reply → Bool
+is_no_memory reply.NoMemory = true
+is_no_memory _ = false
+
+-- the second core keeps each history that the first one kept: its store has the same map at each version, and its index has for
+-- each key the same newest commit
+abbrev pub KeepsHistory : (old new : CoreModel) → Type 0
+KeepsHistory old new = (setting : Setting) → txn.Keeps old.store old.index setting → txn.Keeps new.store new.index setting
 
 -- how many machines were started before and after a request that starts one under this prefix, or starts none
 abbrev pub HasStarted : (prefix : Option (List ℕ)) → Reply → (old new : List (List ℕ)) → Type 0

@@ -1,6 +1,6 @@
 //! What a core keeps, and what a request does to it.
 
-ghost use Rattle.std.specs.Prelude.{◌≡◌, ◌+◌, ◌<◌, ◌^◌, ◌∷◌, [], None, unwrap_or, option_map, if◌then◌else◌, length, slice_index_or, IsSome, IfOk, OnOk};
+ghost use Rattle.std.specs.Prelude.{◌≡◌, ◌+◌, ◌<◌, ◌^◌, ◌∷◌, [], None, unwrap_or, option_map, if◌then◌else◌, length, slice_index_or, IsSome, IfOk, OnOk, OnErr};
 ghost use Rattle.std.specs.FinMap as finite;
 ghost use Rattle.std.specs.Map.Iter.{deref_pair};
 ghost use Rattle.database_rules.specs.Transactions.{Transaction};
@@ -12,12 +12,12 @@ ghost use Rattle.client_core.specs.Lives.{drawn_in, life_of};
 ghost use Rattle.version_store.specs.Versions.{at, last_of};
 ghost use Rattle.client_core.specs.Stands.{KeepsWorld};
 ghost use Rattle.txn_core.specs.Stands as txn;
-ghost use Rattle.client_core.specs.Sound.{IsSound, MadeOn, Took, TookApart, Replies};
-ghost use Rattle.client_core.specs.Contents.{first_begins, model_of, IsOnDatabase};
+ghost use Rattle.client_core.specs.Sound.{IsSound, MadeOn, StillKeeps, StillKeepsOf, Took, TookApart, Replies};
+ghost use Rattle.client_core.specs.Contents.{first_begins, model_of};
 
 use crate::lives::{Lives, outcome_after};
 use conflict_ranges::WriteIndex;
-use fdb_calls::{Outcome, Reply, Request, TrFault, TxnCall};
+use fdb_calls::{Outcome, Reply, TrFault, TxnCall};
 use key_bytes::{Bytes, Key, Pairs};
 use key_map::KeyMap;
 use std::alloc::{AllocError, Global};
@@ -49,28 +49,9 @@ impl Drop for Contents {
 }
 
 impl Contents {
-    /// Applies a request that concerns the database alone, and returns its reply: its step in the world. It is
-    /// refused for want of memory alone, and nothing is said then but how many requests were taken.
-    pub fn take(&mut self, request: &Request) -> Result<Reply, AllocError>
-        requires sound { IsSound (model_of self.old) (2 ^ 62) }
-        requires database { IsOnDatabase request.now }
-        ensures step { IfOk result (λ reply. (world : World) → KeepsWorld (model_of self.old) world
-            → Took reply (model_of self.new) (step world request.now)) }
-        ensures applied { self.new.applied ≡ self.old.applied }
-    {
-        match request {
-            Request::New { name } => self.make_new(name),
-            Request::On { name, call } => self.call_made(name, call),
-            Request::Database { call } => self.call_database(call),
-            Request::Log { prefix, entries } => self.log(prefix, entries),
-            Request::PollStamp { life } => Ok(self.poll(*life)),
-            Request::PollEmpty { prefix } => Ok(self.poll_empty(prefix)),
-            Request::Directory { .. } | Request::Start { .. } => unreachable!(),
-        }
-    }
-
-    // A transaction of a new life stands under a name, in place of the one that is there.
-    fn make_new(&mut self, name: &Bytes) -> Result<Reply, AllocError>
+    /// Makes a transaction of a new life under a name, in place of the one that is there. It is refused for want of memory
+    /// alone.
+    pub fn make_new(&mut self, name: &Bytes) -> Result<Reply, AllocError>
         ensures stands { IfOk result (λ reply. (world : World) → KeepsWorld (model_of self.old) world
             → Took reply (model_of self.new) (record { world = with_new world name.now; reply = Done })) }
         ensures there { OnOk result (IsSome (finite.get self.new.transactions name.now)) }
@@ -111,11 +92,13 @@ impl Contents {
         Ok(())
     }
 
-    // A call on the transaction of a name, which is made where the name has none.
-    fn call_made(&mut self, name: &Bytes, call: &TxnCall) -> Result<Reply, AllocError>
+    /// Makes a call on the transaction of a name, which is made where the name has none. It is refused for want of memory
+    /// alone: then the store and the index keep the history that they kept.
+    pub fn call_made(&mut self, name: &Bytes, call: &TxnCall) -> Result<Reply, AllocError>
         requires { IsSound (model_of self.old) (2 ^ 62) }
         ensures step { IfOk result (λ reply. (world : World) → KeepsWorld (model_of self.old) world
             → Took reply (model_of self.new) (call_named (with_named world name.now) name.now call.now)) }
+        ensures kept { OnErr result (StillKeeps (model_of self.old) (model_of self.new)) }
         ensures applied { self.new.applied ≡ self.old.applied }
     {
         if let Some(transaction) = self.transactions.get_mut(name) {
@@ -132,6 +115,7 @@ impl Contents {
         requires few_commits { last_of self.old.store + 1 < 2 ^ 63 }
         ensures step { IfOk result (λ reply. (world : World) → KeepsWorld (model_of self.old) world
             → Took reply (model_of self.new) (call_named world name.now call.now)) }
+        ensures kept { OnErr result (StillKeeps (model_of self.old) (model_of self.new)) }
         ensures applied { self.new.applied ≡ self.old.applied }
     {
         let transaction = self.transactions.get_mut(name).unwrap();
@@ -139,11 +123,13 @@ impl Contents {
         call_on(transaction, store, index, &mut self.lives, call)
     }
 
-    // A call on a transaction of its own at the last version, which is then committed.
-    fn call_database(&mut self, call: &TxnCall) -> Result<Reply, AllocError>
+    /// Makes a call on a transaction of its own at the last version, and commits it. It is refused for want of memory alone:
+    /// then the store and the index keep the history that they kept.
+    pub fn call_database(&mut self, call: &TxnCall) -> Result<Reply, AllocError>
         requires { IsSound (model_of self.old) (2 ^ 62) }
         ensures step { IfOk result (λ reply. (world : World) → KeepsWorld (model_of self.old) world
             → Took reply (model_of self.new) (step world (Database call.now))) }
+        ensures kept { OnErr result (StillKeeps (model_of self.old) (model_of self.new)) }
         ensures applied { self.new.applied ≡ self.old.applied }
     {
         let mut transaction = self.draw_apart()?;
@@ -151,11 +137,13 @@ impl Contents {
         self.commit_apart(transaction, reply)
     }
 
-    // Writes entries under a prefix on a transaction of its own at the last version, which is then committed.
-    fn log(&mut self, prefix: &Bytes, entries: &Pairs) -> Result<Reply, AllocError>
+    /// Writes entries under a prefix on a transaction of its own at the last version, and commits it. It is refused for want
+    /// of memory alone: then the store and the index keep the history that they kept.
+    pub fn log(&mut self, prefix: &Bytes, entries: &Pairs) -> Result<Reply, AllocError>
         requires { IsSound (model_of self.old) (2 ^ 62) }
         ensures step { IfOk result (λ reply. (world : World) → KeepsWorld (model_of self.old) world
             → Took reply (model_of self.new) (step world (Log prefix.now entries.now))) }
+        ensures kept { OnErr result (StillKeeps (model_of self.old) (model_of self.new)) }
         ensures applied { self.new.applied ≡ self.old.applied }
     {
         let mut transaction = self.draw_apart()?;
@@ -171,7 +159,8 @@ impl Contents {
     pub fn draw_apart(&mut self) -> Result<Txn, AllocError>
         ensures drawn { IfOk result (λ transaction. (world : World) → KeepsWorld (model_of self.old) world
             → txn.StandsFor transaction (fresh_at_last world) × KeepsWorld (model_of self.new) (drawn_in world)) }
-        ensures store { OnOk result (self.new.store ≡ self.old.store) }
+        ensures store { self.new.store ≡ self.old.store }
+        ensures index { self.new.index ≡ self.old.index }
         ensures applied { self.new.applied ≡ self.old.applied }
     {
         let transaction = Txn::at_last(self.alloc, self.lives.next(), &self.store);
@@ -180,11 +169,12 @@ impl Contents {
     }
 
     /// Commits a transaction that stands under no name, where its calls were not refused: their reply, or the commit's fault. It is
-    /// refused for want of memory alone.
+    /// refused for want of memory alone: then the store and the index keep the history that they kept.
     pub fn commit_apart(&mut self, mut transaction: Txn, reply: Reply) -> Result<Reply, AllocError>
         requires few_commits { last_of self.old.store + 1 < 2 ^ 63 }
         ensures step { IfOk result (λ answered. (world : World) (made : Called) → reply ≡ made.reply → txn.StandsFor transaction made.transaction
             → KeepsWorld (model_of self.old) world → Took answered (model_of self.new) (commit_made world made)) }
+        ensures kept { OnErr result (StillKeepsOf transaction self.old.store self.new.store self.old.index self.new.index) }
         ensures applied { self.new.applied ≡ self.old.applied }
     {
         if is_fault(&reply) {
@@ -200,14 +190,15 @@ impl Contents {
         ensures step { IfOk result (λ reply. (t : Transaction) (world : World) → txn.StandsFor transaction.old t
             → KeepsWorld (model_of self.old) world
             → TookApart reply transaction.new (model_of self.new) world t (called world.setting (next_life world) t call.now)) }
+        ensures kept { OnErr result (StillKeepsOf transaction.old self.old.store self.new.store self.old.index self.new.index) }
         ensures applied { self.new.applied ≡ self.old.applied }
     {
         let (store, index) = (&mut self.store, &mut self.index);
         call_on(transaction, store, index, &mut self.lives, call)
     }
 
-    // What was promised of a life.
-    fn poll(&self, life: u64) -> Reply
+    /// Returns what was promised of a life.
+    pub fn poll(&self, life: u64) -> Reply
         ensures { result ≡ promised (slice_index_or self.now.lives life None) }
     {
         match self.lives.outcome(life) {
@@ -217,8 +208,8 @@ impl Contents {
         }
     }
 
-    // Whether no key begins with a prefix at the last version.
-    fn poll_empty(&self, prefix: &Key) -> Reply
+    /// Returns whether no key begins with a prefix at the last version, as a reply.
+    pub fn poll_empty(&self, prefix: &Key) -> Reply
         ensures { result ≡ (if has_key_with prefix.now (at self.now.store (last_of self.now.store)) then NotYet else Empty) }
     {
         if self.has_key_with(prefix) {
@@ -239,7 +230,8 @@ impl Contents {
     }
 }
 
-// A call on a transaction over a store and its index, and what becomes of its life by it: the reply.
+// A call on a transaction over a store and its index, and what becomes of its life by it: the reply. After want of memory the
+// store and the index keep the history that they kept: a commit draws no life, so nothing is refused behind it.
 fn call_on(
     transaction: &mut Txn,
     store: &mut Store,
@@ -248,8 +240,9 @@ fn call_on(
     call: &TxnCall,
 ) -> Result<Reply, AllocError>
     requires { last_of store.old + 1 < 2 ^ 63 }
-    ensures { IfOk result (λ reply. MadeOn call.now reply transaction.old transaction.new store.old store.new index.old index.new
+    ensures made { IfOk result (λ reply. MadeOn call.now reply transaction.old transaction.new store.old store.new index.old index.new
         lives.old lives.new) }
+    ensures kept { OnErr result (StillKeepsOf transaction.old store.old store.new index.old index.new) }
 {
     let life = transaction.life();
     let answer = transaction.call(store, index, call, lives.next())?;

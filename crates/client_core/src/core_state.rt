@@ -1,6 +1,6 @@
 //! The core.
 
-ghost use Rattle.std.specs.Prelude.{◌≡◌, ℕ, ◌+◌, ◌<◌, ◌^◌, IfOk};
+ghost use Rattle.std.specs.Prelude.{◌≡◌, ℕ, ◌+◌, ◌<◌, ◌^◌, true, false, IfOk, OnErr};
 ghost use Rattle.std.specs.FinMap as finite;
 ghost use Rattle.std.specs.List.{filter};
 ghost use Rattle.std.specs.Map.{values_of};
@@ -8,6 +8,9 @@ ghost use Rattle.key_bytes.specs.Keys.{within};
 ghost use Rattle.machine_rules.specs.Runs.{start_prefix};
 ghost use Rattle.machine_rules.specs.Worlds.{World, HasWords, begun, instruction_pairs, step};
 ghost use Rattle.version_store.specs.Versions.{at, last_of};
+ghost use Rattle.client_core.specs.Contents.{model_of};
+ghost use Rattle.client_core.specs.Sound.{IsSound, StillKeeps, TookWhole};
+ghost use Rattle.client_core.specs.Stands.{HasStarted, KeepsWorld};
 
 use crate::contents::Contents;
 use crate::lives::Lives;
@@ -26,7 +29,7 @@ use version_store::{PairsLeft, Store};
 pub struct Core {
     contents: Contents,
     machines: Machines,
-    is_out_of_memory: bool,
+    is_spent: bool,
 }
 
 // Written out, so that a caller's proof sees one call where a core ends, and nothing of what lies in it.
@@ -35,7 +38,7 @@ impl Drop for Core {
         let Core {
             contents: _,
             machines: _,
-            is_out_of_memory: _,
+            is_spent: _,
         } = self;
     }
 }
@@ -56,20 +59,21 @@ impl Model for Core {
 
     ghost coded = { Prim.hlevel (codes, store.the_row.coded, index.the_row.coded, finite.code {R = key_cmp} (coded_list coded_ℕ) txn.the_row.coded) };
 
-    ghost view = { λ core. core_of core.contents core.machines };
+    ghost view = { λ core. core_of core.contents core.machines core.is_spent };
 
-    ghost invariant = { λ core. core.is_out_of_memory ≡ false
+    ghost invariant = { λ core. core.is_spent ≡ false
         → IsSound (model_of core.contents) (core.contents.applied + 1) };
 }
 
 impl Core {
-    ghost use Rattle.client_core.specs.Stands.{StandsFor, Answers, HasStarted};
+    ghost use Rattle.client_core.specs.Stands.{StandsFor, Answers, KeepsHistory, is_no_memory};
 
     /// Loads a core: these pairs are its first commit, and machine 0 is started by these arguments. Of two
     /// values of one key the later stays.
     pub fn load(alloc: Global, arguments: &RunArgs, pairs: Pairs) -> Result<Core, AllocError>
         ensures begun { IfOk result (λ core. StandsFor core (begun pairs arguments.now)) }
         ensures applied { IfOk result (λ core. core.applied ≡ 0) }
+        ensures spent { IfOk result (λ core. core.is_spent ≡ false) }
     {
         let store = Store::load(alloc, pairs)?;
         let machines = Machines::new(alloc, arguments.prefix.copy()?)?;
@@ -83,7 +87,7 @@ impl Core {
                 applied: 0,
             },
             machines,
-            is_out_of_memory: false,
+            is_spent: false,
         })
     }
 
@@ -136,39 +140,65 @@ impl Core {
 
     /// Takes a request of a machine: its step in the world, and the reply that is fixed there. The random words are those
     /// of the world, and those that are left are the ones behind the drawn ones; only calls of directory layers draw any.
-    /// After NoMemory nothing is promised of what the core holds and of the words that are left; the request counts as applied.
+    /// After NoMemory the history is as it was, the request counts as applied, and the core is spent: each later request is
+    /// answered with NoMemory. Of the named transactions, of the words that are left and of the machines that were started
+    /// nothing is promised then.
     pub fn apply<W: Words>(&mut self, _machine: u16, request: &Request, words: &mut W) -> Reply
         requires { self.old.applied < 2 ^ 62 }
         ensures step { (world : World) → StandsFor self.old world → HasWords world (W.words words.old)
             → Answers result self.new (W.words words.new) (step world request.now) }
+        // After NoMemory the history is as before, of a core that was spent too; it is spent then, and at no other reply.
+        ensures history { is_no_memory result ≡ true → KeepsHistory self.old self.new }
+        ensures spent { self.new.is_spent ≡ is_no_memory result }
+        ensures stays_spent { self.old.is_spent ≡ true → result ≡ Reply.NoMemory }
         ensures applied { self.new.applied ≡ self.old.applied + 1 }
         // A machine more was started exactly where the reply to a start says so, and never more than may be.
         ensures started { HasStarted (start_prefix request.now) result self.old.started self.new.started }
     {
         self.contents.applied += 1;
-        // What stands after want of memory isn't known, so a core that ran out of it takes no further step.
-        if self.is_out_of_memory {
+        if self.is_spent {
             return Reply::NoMemory;
         }
-        self.is_out_of_memory = true;
-        let replied = match request {
-            Request::Start { prefix } => start(&mut self.machines, &self.contents, prefix),
-            Request::Directory {
-                name,
-                layer,
-                kind,
-                args,
-            } => self
-                .contents
-                .call_directory(name, layer, *kind, args, words),
-            _ => self.contents.take(request),
-        };
-        match replied {
-            Ok(reply) => {
-                self.is_out_of_memory = false;
-                reply
+        match take(&mut self.contents, &mut self.machines, request, words) {
+            Ok(reply) => reply,
+            Err(_) => {
+                self.is_spent = true;
+                Reply::NoMemory
             }
-            Err(_) => Reply::NoMemory,
         }
+    }
+}
+
+// Takes a request: its step in the world, and the reply that is fixed there. It is refused for want of memory alone: then the store
+// and the index keep the history that they kept.
+fn take<W: Words>(
+    contents: &mut Contents,
+    machines: &mut Machines,
+    request: &Request,
+    words: &mut W,
+) -> Result<Reply, AllocError>
+    requires { IsSound (model_of contents.old) (2 ^ 62) }
+    ensures step { IfOk result (λ reply. (world : World) → KeepsWorld (model_of contents.old) world → machines.old ≡ world.started
+        → HasWords world (W.words words.old)
+        → TookWhole reply (model_of contents.new) machines.new (W.words words.new) (step world request.now)) }
+    ensures kept { OnErr result (StillKeeps (model_of contents.old) (model_of contents.new)) }
+    ensures applied { contents.new.applied ≡ contents.old.applied }
+    ensures started { IfOk result (λ reply. HasStarted (start_prefix request.now) reply machines.old machines.new) }
+    ensures unstarted { OnErr result (HasStarted (start_prefix request.now) Reply.NoMemory machines.old machines.new) }
+{
+    match request {
+        Request::New { name } => contents.make_new(name),
+        Request::On { name, call } => contents.call_made(name, call),
+        Request::Database { call } => contents.call_database(call),
+        Request::Directory {
+            name,
+            layer,
+            kind,
+            args,
+        } => contents.call_directory(name, layer, *kind, args, words),
+        Request::Log { prefix, entries } => contents.log(prefix, entries),
+        Request::PollStamp { life } => Ok(contents.poll(*life)),
+        Request::PollEmpty { prefix } => Ok(contents.poll_empty(prefix)),
+        Request::Start { prefix } => start(machines, contents, prefix),
     }
 }

@@ -1,6 +1,6 @@
 //! Calls of directory layers.
 
-ghost use Rattle.std.specs.Prelude.{◌≡◌, ◌^◌, IfOk, IsSome};
+ghost use Rattle.std.specs.Prelude.{◌≡◌, ◌^◌, IfOk, OnErr, IsSome};
 ghost use Rattle.std.specs.FinMap as finite;
 ghost use Rattle.database_rules.specs.Histories.{Setting};
 ghost use Rattle.database_rules.specs.Transactions.{Transaction};
@@ -10,7 +10,7 @@ ghost use Rattle.machine_rules.specs.Worlds.{World, HasWords, directory_alone, d
 ghost use Rattle.txn_core.specs.Stands.{StandsFor, Keeps};
 ghost use Rattle.client_core.specs.Contents.{model_of};
 ghost use Rattle.client_core.specs.Directories.{Reaches, RepliesTo};
-ghost use Rattle.client_core.specs.Sound.{IsSound, TookDrawing};
+ghost use Rattle.client_core.specs.Sound.{IsSound, StillKeeps, TookDrawing};
 ghost use Rattle.client_core.specs.Stands.{KeepsWorld};
 
 use crate::contents::Contents;
@@ -30,7 +30,7 @@ use version_store::Store;
 impl Contents {
     /// Applies a call of a directory layer, on the transaction of a name or, without one, on a transaction of
     /// its own, and returns its reply: its step in the world. The random words that it drew are gone. It is
-    /// refused for want of memory alone, and nothing is said then but how many requests were taken.
+    /// refused for want of memory alone: then the store and the index keep the history that they kept.
     pub fn call_directory<W: Words>(
         &mut self,
         name: &Option<Bytes>,
@@ -42,6 +42,7 @@ impl Contents {
         requires { IsSound (model_of self.old) (2 ^ 62) }
         ensures step { IfOk result (λ reply. (world : World) → KeepsWorld (model_of self.old) world → HasWords world (W.words words.old)
             → TookDrawing reply (model_of self.new) (W.words words.new) (directory_step world name.now kind layer.now args.now)) }
+        ensures kept { OnErr result (StillKeeps (model_of self.old) (model_of self.new)) }
         ensures applied { self.new.applied ≡ self.old.applied }
     {
         let (layer, args) = (layer.get(), args.get());
@@ -66,6 +67,8 @@ impl Contents {
         requires { IsSome (finite.get self.old.transactions name.now) }
         ensures step { IfOk result (λ reply. (world : World) → KeepsWorld (model_of self.old) world → HasWords world (W.words words.old)
             → TookDrawing reply (model_of self.new) (W.words words.new) (directory_named world name.now kind layer.now args.now)) }
+        ensures store { self.new.store ≡ self.old.store }
+        ensures index { self.new.index ≡ self.old.index }
         ensures applied { self.new.applied ≡ self.old.applied }
     {
         let transaction = self.transactions.get_mut(name).unwrap();
@@ -97,6 +100,7 @@ impl Contents {
         requires { IsSound (model_of self.old) (2 ^ 62) }
         ensures step { IfOk result (λ reply. (world : World) → KeepsWorld (model_of self.old) world → HasWords world (W.words words.old)
             → TookDrawing reply (model_of self.new) (W.words words.new) (directory_alone world kind layer.now args.now)) }
+        ensures kept { OnErr result (StillKeeps (model_of self.old) (model_of self.new)) }
         ensures applied { self.new.applied ≡ self.old.applied }
     {
         let mut transaction = self.draw_apart()?;

@@ -1,6 +1,6 @@
 //! What became of each life that was drawn.
 
-ghost use Rattle.std.specs.Prelude.{◌≡◌, [], List, None, Option, length, slice_index_or, if◌then◌else◌, OnOk};
+ghost use Rattle.std.specs.Prelude.{◌≡◌, [], List, None, Option, length, slice_index_or, true, if◌then◌else◌, OnOk, OnErr};
 ghost use Rattle.machine_rules.specs.Worlds.{decide, with_lives};
 ghost use Rattle.client_core.specs.Lives.{outcome_by};
 
@@ -59,14 +59,15 @@ impl Lives {
     }
 
     /// Adds a place for the life that was drawn, if one was, and notes the outcome of `life` where it has just
-    /// been decided. It is refused for want of memory alone.
+    /// been decided. It is refused for want of memory alone, and only where a life was drawn.
     pub fn go_on(
         &mut self,
         drew: bool,
         life: u64,
         outcome: Option<Outcome>,
     ) -> Result<(), AllocError>
-        ensures { OnOk result (self.new ≡ decide life outcome (with_lives self.old (if drew then 1 else 0))) }
+        ensures ok { OnOk result (self.new ≡ decide life outcome (with_lives self.old (if drew then 1 else 0))) }
+        ensures err { OnErr result (drew ≡ true) }
     {
         if drew {
             self.draw()?;

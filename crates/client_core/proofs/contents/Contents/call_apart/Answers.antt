@@ -9,4 +9,4 @@ returns-clause-step c =
     ok_so _ _ c.call_on.result (λ reply made t world stood stands.
     apart_took (model_of c.args.self.now) _ world c.args.call.now c.args.transaction.now c.call_on.new.transaction reply t made refl stood
     stands)
-    c.call_on.ensures
+    c.call_on.ensures.made

@@ -1,5 +1,5 @@
 use Rattle.std.proofs.Common.{◌≡◌, Result, Ok, Err, refl, ap, ◌∙◌}
-use Rattle.std.proofs.lemmas.Result.{IfOk-weaker}
+use Rattle.std.proofs.lemmas.Result.{IfOk-weaker, on_err_weaker}
 use Rattle.fdb_calls.specs.declared.fault.TrFault.{TrFault}
 use Rattle.fdb_calls.specs.declared.fault.TrFault.TheVariants as fault
 use Rattle.fdb_calls.specs.declared.Reply.{Reply}
@@ -36,5 +36,14 @@ returns-clause-step c = IfOk-weaker c.commit_apart.result _ _ (λ reply took wor
     let place = logs_in_place c.args.prefix.now c.args.entries.now before in
     took (called_apart (drawn_in world) before made) made told.0 told.1
     (logged_apart _ _ (drawn_in world) c.life-life.result c.outcome_after.result c.log.new.self before made begun.1 place.commits place.lives refl refl refl
-    c.in_ok-go_on.ensures c.outcome_after.ensures (c.life-life.ensures ∙ begun.0.life) told.1))
+    c.in_ok-go_on.ensures.ok c.outcome_after.ensures (c.life-life.ensures ∙ begun.0.life) told.1))
     c.commit_apart.ensures.step
+
+pub returns-clause-kept : goal.returns-clause-kept
+returns-clause-kept c = on_err_weaker c.commit_apart.result (λ still world stands.
+    let begun = c.in_ok-transaction.ensures.drawn world stands in
+    let before = fresh_at_last world in
+    let made = in_turn (logs c.args.prefix.now c.args.entries.now) before in
+    let told = replied c.log.result c.in_ok-reply.reply c.log.new.self made (c.in_ok-reply.ensures {u = tt}) (c.log.ensures before begun.0) in
+    still made.transaction world.setting told.1 begun.1.keeps)
+    c.commit_apart.ensures.kept
