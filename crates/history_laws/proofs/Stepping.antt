@@ -243,10 +243,10 @@ called_good setting life transaction (call.Get key snapshot) some few held =
     read_good setting transaction false snapshot (read.Get key) some held
 called_good setting life transaction (call.GetKey selector snapshot) some few held =
     read_good setting transaction false snapshot (read.GetKey selector) some held
-called_good setting life transaction (call.GetRange begin end limit reverse mode snapshot) some few held =
-    read_good setting transaction (lacks_limit mode limit) snapshot (read.GetRange begin end limit reverse) some held
-called_good setting life transaction (call.GetKeyRange range limit reverse mode snapshot) some few held =
-    read_good setting transaction (lacks_limit mode limit) snapshot (read.GetKeyRange range.begin range.end limit reverse) some held
+called_good setting life transaction (call.GetRange begin end options snapshot) some few held =
+    read_good setting transaction (lacks_limit options.mode options.limit) snapshot (read.GetRange begin end options.limit options.reverse) some held
+called_good setting life transaction (call.GetKeyRange range options snapshot) some few held =
+    read_good setting transaction (lacks_limit options.mode options.limit) snapshot (read.GetKeyRange range.begin range.end options.limit options.reverse) some held
 called_good setting life transaction (call.Set key value) some few held = set_good setting.history transaction key value held
 called_good setting life transaction (call.Clear key) some few held =
     write_good setting.history (clear_code transaction.phase key) transaction (Clear key) (λ none. refl) held

@@ -201,10 +201,10 @@ unfolding called
 called_good setting life transaction (call.Get key snapshot) held = read_good setting transaction false snapshot (read.Get key) held
 called_good setting life transaction (call.GetKey selector snapshot) held =
     read_good setting transaction false snapshot (read.GetKey selector) held
-called_good setting life transaction (call.GetRange begin end limit reverse mode snapshot) held =
-    read_good setting transaction (lacks_limit mode limit) snapshot (read.GetRange begin end limit reverse) held
-called_good setting life transaction (call.GetKeyRange range limit reverse mode snapshot) held =
-    read_good setting transaction (lacks_limit mode limit) snapshot (read.GetKeyRange range.begin range.end limit reverse) held
+called_good setting life transaction (call.GetRange begin end options snapshot) held =
+    read_good setting transaction (lacks_limit options.mode options.limit) snapshot (read.GetRange begin end options.limit options.reverse) held
+called_good setting life transaction (call.GetKeyRange range options snapshot) held =
+    read_good setting transaction (lacks_limit options.mode options.limit) snapshot (read.GetKeyRange range.begin range.end options.limit options.reverse) held
 called_good setting life transaction (call.Set key value) held = set_good setting.history transaction key value held
 called_good setting life transaction (call.Clear key) held =
     write_good setting.history (clear_code transaction.phase key) transaction (Clear key) held
