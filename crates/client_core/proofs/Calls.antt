@@ -92,10 +92,10 @@ quiet_or_commit : (setting : Setting) (life : ℕ) (transaction : Transaction) (
 unfolding called
 quiet_or_commit setting life transaction (call.Get key snapshot) = inl (read_quiet setting transaction false snapshot (read.Get key))
 quiet_or_commit setting life transaction (call.GetKey selector snapshot) = inl (read_quiet setting transaction false snapshot (read.GetKey selector))
-quiet_or_commit setting life transaction (call.GetRange begin end limit reverse mode snapshot) =
-    inl (read_quiet setting transaction (lacks_limit mode limit) snapshot (read.GetRange begin end limit reverse))
-quiet_or_commit setting life transaction (call.GetKeyRange range limit reverse mode snapshot) =
-    inl (read_quiet setting transaction (lacks_limit mode limit) snapshot (read.GetKeyRange range.begin range.end limit reverse))
+quiet_or_commit setting life transaction (call.GetRange begin end options snapshot) =
+    inl (read_quiet setting transaction (lacks_limit options.mode options.limit) snapshot (read.GetRange begin end options.limit options.reverse))
+quiet_or_commit setting life transaction (call.GetKeyRange range options snapshot) =
+    inl (read_quiet setting transaction (lacks_limit options.mode options.limit) snapshot (read.GetKeyRange range.begin range.end options.limit options.reverse))
 quiet_or_commit setting life transaction (call.Set key value) =
     inl (write_quiet (set_code transaction.phase key value) transaction (Set key value))
 quiet_or_commit setting life transaction (call.Clear key) = inl (write_quiet (clear_code transaction.phase key) transaction (Clear key))

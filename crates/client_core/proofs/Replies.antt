@@ -103,10 +103,10 @@ called_speaks : (setting : Setting) (life : ℕ) (transaction : Transaction) (it
 unfolding called
 called_speaks setting life transaction (call.Get key snapshot) = read_speaks setting transaction false snapshot (read.Get key)
 called_speaks setting life transaction (call.GetKey selector snapshot) = read_speaks setting transaction false snapshot (read.GetKey selector)
-called_speaks setting life transaction (call.GetRange begin end limit reverse mode snapshot) =
-    read_speaks setting transaction (lacks_limit mode limit) snapshot (read.GetRange begin end limit reverse)
-called_speaks setting life transaction (call.GetKeyRange range limit reverse mode snapshot) =
-    read_speaks setting transaction (lacks_limit mode limit) snapshot (read.GetKeyRange range.begin range.end limit reverse)
+called_speaks setting life transaction (call.GetRange begin end options snapshot) =
+    read_speaks setting transaction (lacks_limit options.mode options.limit) snapshot (read.GetRange begin end options.limit options.reverse)
+called_speaks setting life transaction (call.GetKeyRange range options snapshot) =
+    read_speaks setting transaction (lacks_limit options.mode options.limit) snapshot (read.GetKeyRange range.begin range.end options.limit options.reverse)
 called_speaks setting life transaction (call.Set key value) =
     write_speaks (set_code transaction.phase key value) transaction (Set key value)
 called_speaks setting life transaction (call.Clear key) = write_speaks (clear_code transaction.phase key) transaction (Clear key)

@@ -11,9 +11,11 @@
 ghost use Rattle.std.specs.Prelude.{◌≡◌};
 
 mod mode;
+mod options;
 mod selector;
 
 pub use mode::Mode;
+pub use options::RangeOptions;
 pub use selector::Selector;
 
 /// The longest key of a write, in bytes.

@@ -13,7 +13,7 @@ use crate::checking::check;
 use crate::entries::{asked_or_empty, enter, opened};
 use crate::finding::{find, root};
 use crate::prefixes::take_prefix;
-use directory_rules::{Child, Directory, Manner};
+use directory_rules::{Child, Directory, OpenOptions};
 use directory_types::{DirArgs, DirFault, DirReply, Layer};
 use fdb_calls::Tr;
 use fdb_tuple::Text;
@@ -22,7 +22,7 @@ use outside::Words;
 use std::alloc::Global;
 
 /// Makes a directory, or opens one.
-pub(crate) const CREATE_OR_OPEN: Manner = Manner {
+pub(crate) const CREATE_OR_OPEN: OpenOptions = OpenOptions {
     may_create: true,
     may_open: true,
     snapshot: false,
@@ -34,14 +34,14 @@ pub(crate) fn make_or_open<T: Tr, W: Words>(
     layer: &Layer,
     tr: &mut T,
     words: &mut W,
-    manner: Manner,
+    options: OpenOptions,
     a: &DirArgs,
 ) -> Result<DirReply, DirFault>
     ensures draws { Draws result (T.Tr.stands tr.old) (T.Tr.stands tr.new) (W.Words.words words.old) (W.Words.words words.new)
-        (opening manner layer.now a.now) }
+        (opening options layer.now a.now) }
     ensures same { T.Tr.same tr.old tr.new }
 {
-    let found = make(alloc, layer, tr, words, manner, a)?;
+    let found = make(alloc, layer, tr, words, options, a)?;
     Ok(opened(alloc, a.path.as_slice(), found)?)
 }
 
@@ -50,15 +50,15 @@ fn make<T: Tr, W: Words>(
     layer: &Layer,
     tr: &mut T,
     words: &mut W,
-    manner: Manner,
+    options: OpenOptions,
     a: &DirArgs,
 ) -> Result<Directory, DirFault>
     ensures draws { Draws result (T.Tr.stands tr.old) (T.Tr.stands tr.new) (W.Words.words words.old) (W.Words.words words.new)
-        (makes (length a.now.path + 1) manner layer.now a.now.path a.now.layer a.now.prefix) }
+        (makes (length a.now.path + 1) options layer.now a.now.path a.now.layer a.now.prefix) }
     ensures same { T.Tr.same tr.old tr.new }
 {
     let path = a.path.as_slice();
-    if let Some(found) = look(layer, tr, manner, path, &a.layer, &a.prefix)? {
+    if let Some(found) = look(layer, tr, options, path, &a.layer, &a.prefix)? {
         return Ok(found);
     }
     // The root was refused.
@@ -78,25 +78,25 @@ fn make<T: Tr, W: Words>(
 fn look<T: Tr>(
     layer: &Layer,
     tr: &mut T,
-    manner: Manner,
+    options: OpenOptions,
     path: &[Text],
     layer_name: &Option<Bytes>,
     prefix: &Option<Bytes>,
 ) -> Result<Option<Directory>, DirFault>
     ensures follows { Follows result (T.Tr.stands tr.old) (T.Tr.stands tr.new)
-        (looks manner layer.now path.now layer_name.now prefix.now) }
+        (looks options layer.now path.now layer_name.now prefix.now) }
     ensures same { T.Tr.same tr.old tr.new }
 {
-    check(layer, tr, false, manner.snapshot)?;
+    check(layer, tr, false, options.snapshot)?;
     if is_barred(layer, prefix) {
         return Err(DirFault::ManualNotAllowed);
     }
     if path.is_empty() {
         return Err(DirFault::EmptyPath);
     }
-    match find(layer, tr, path, manner.snapshot)? {
-        Some(found) => open_found(manner, layer_name, found),
-        None if manner.may_create => Ok(None),
+    match find(layer, tr, path, options.snapshot)? {
+        Some(found) => open_found(options, layer_name, found),
+        None if options.may_create => Ok(None),
         None => Err(DirFault::Missing),
     }
 }
@@ -110,13 +110,13 @@ fn is_barred(layer: &Layer, prefix: &Option<Bytes>) -> bool
 
 // A directory that is there is opened, where that may be and where its layer name is the one that is asked for, if one is.
 fn open_found(
-    manner: Manner,
+    options: OpenOptions,
     layer_name: &Option<Bytes>,
     found: Directory,
 ) -> Result<Option<Directory>, DirFault>
-    ensures { Tells result (found_opened manner layer_name.now found) }
+    ensures { Tells result (found_opened options layer_name.now found) }
 {
-    if !manner.may_open {
+    if !options.may_open {
         return Err(DirFault::Exists);
     }
     match layer_name {

@@ -39,7 +39,7 @@ use crate::listing::{is_there, names_below};
 use crate::logging::log_directory;
 use crate::moving::move_directory;
 use crate::removing::remove_directory;
-use directory_rules::Manner;
+use directory_rules::OpenOptions;
 use directory_types::{DirArgs, DirFault, DirReply, Layer};
 use fdb_calls::Tr;
 use outside::Words;
@@ -59,12 +59,12 @@ pub fn create<T: Tr, W: Words>(
         kind.Create layer.now a.now t }
     ensures same { T.Tr.same tr.old tr.new }
 {
-    let manner = Manner {
+    let options = OpenOptions {
         may_create: true,
         may_open: false,
         snapshot: false,
     };
-    make_or_open(alloc, layer, tr, words, manner, a)
+    make_or_open(alloc, layer, tr, words, options, a)
 }
 
 /// Opens the directory of a path, or makes it where there is none.
@@ -97,12 +97,12 @@ pub fn open<T: Tr, W: Words>(
         kind.Open layer.now a.now t }
     ensures same { T.Tr.same tr.old tr.new }
 {
-    let manner = Manner {
+    let options = OpenOptions {
         may_create: false,
         may_open: true,
         snapshot: a.snapshot,
     };
-    make_or_open(alloc, layer, tr, words, manner, a)
+    make_or_open(alloc, layer, tr, words, options, a)
 }
 
 /// Moves the directory of a path to another path, with all below it. Its prefix stays.

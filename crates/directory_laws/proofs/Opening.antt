@@ -16,7 +16,7 @@ use Rattle.directory_types.specs.declared.DirKind.TheVariants as kind
 use Rattle.directory_types.specs.declared.DirReply.TheVariants as reply
 use Rattle.directory_types.specs.declared.fault.DirFault.TheVariants as fault
 use Rattle.directory_rules.specs.declared.Directory.{Directory}
-use Rattle.directory_rules.specs.declared.Manner.{Manner}
+use Rattle.directory_rules.specs.declared.OpenOptions.{OpenOptions}
 use Rattle.directory_rules.specs.Courses.{Course, Gives, Done, ◌>>=◌, given, does}
 use Rattle.directory_rules.specs.Nodes.{node_of, entry_of, layer_key, allocator_of}
 use Rattle.directory_rules.specs.Steps.{refuse_where, check, directory, root, below, child_of, find_from, find, front, last_name, sets_entry}
@@ -104,16 +104,16 @@ entry_readable setting snapshot layer (name ∷ names) t after parent some goes 
 
 -- ---- looking for a directory
 
-opened_is : (setting : Setting) (manner : Manner) (layer_name : Option (List ℕ)) (found : Option Directory) (t : Transaction)
-    (value : Option Directory) (after : Transaction) → Goes setting (opens manner layer_name found) t value after
+opened_is : (setting : Setting) (options : OpenOptions) (layer_name : Option (List ℕ)) (found : Option Directory) (t : Transaction)
+    (value : Option Directory) (after : Transaction) → Goes setting (opens options layer_name found) t value after
     → (found ≡ value) × (t ≡ after)
 unfolding found_opened
-opened_is setting manner layer_name None t value after goes =
-    let first = parts setting (refuse_where (not manner.may_create) fault.Missing) _ t value after goes in
-    let free = not_refused setting (not manner.may_create) fault.Missing t first.0 first.1 first.2 in
+opened_is setting options layer_name None t value after goes =
+    let first = parts setting (refuse_where (not options.may_create) fault.Missing) _ t value after goes in
+    let free = not_refused setting (not options.may_create) fault.Missing t first.0 first.1 first.2 in
     (first.3.0, free.1 ∙ first.3.1)
-opened_is setting manner layer_name (Some found) t value after goes =
-    by (not manner.may_open) (not (length (unwrap_or layer_name []) == 0) && not (bytes_eq (unwrap_or layer_name []) found.layer)) goes
+opened_is setting options layer_name (Some found) t value after goes =
+    by (not options.may_open) (not (length (unwrap_or layer_name []) == 0) && not (bytes_eq (unwrap_or layer_name []) found.layer)) goes
   where
     by : (one other : Bool)
         → Goes setting (given (if one then Err fault.Exists else if other then Err fault.LayerDiffers else Ok (Some found))) t value after
@@ -131,35 +131,35 @@ record Looked (setting : Setting) (layer : Layer) (path : List (List ℕ)) (t : 
   readable : (parent : Directory) → value ≡ None → found_in (view setting t) layer (front path) ≡ Some parent
       → Readable t (entry_of (node_of layer parent.prefix) (last_name path))
 
-looked : (setting : Setting) (manner : Manner) (layer : Layer) (path : List (List ℕ)) (layer_name prefix : Option (List ℕ))
+looked : (setting : Setting) (options : OpenOptions) (layer : Layer) (path : List (List ℕ)) (layer_name prefix : Option (List ℕ))
     (t : Transaction)
-    (value : Option Directory) (after : Transaction) → Goes setting (looks manner layer path layer_name prefix) t value after
+    (value : Option Directory) (after : Transaction) → Goes setting (looks options layer path layer_name prefix) t value after
     → Looked setting layer path t value after
 unfolding looks
-looked setting manner layer path layer_name prefix t value after goes =
-    let first = parts setting (check false manner.snapshot layer) _ t value after goes in
+looked setting options layer path layer_name prefix t value after goes =
+    let first = parts setting (check false options.snapshot layer) _ t value after goes in
     let second = parts setting (refuse_where (is_some prefix && not layer.manual) fault.ManualNotAllowed) _ first.1 value after first.3 in
     let allowed = not_refused setting (is_some prefix && not layer.manual) fault.ManualNotAllowed first.1 second.0 second.1 second.2 in
     let third = parts setting (refuse_where (length path == 0) fault.EmptyPath) _ second.1 value after second.3 in
     let named = not_refused setting (length path == 0) fault.EmptyPath second.1 third.0 third.1 third.2 in
-    let fourth = parts setting (find manner.snapshot layer path) _ third.1 value after third.3 in
-    let seen = find_seen setting manner.snapshot layer path third.1 fourth.0 fourth.1 fourth.2 in
-    let opened = opened_is setting manner layer_name fourth.0 fourth.1 value after fourth.3 in
+    let fourth = parts setting (find options.snapshot layer path) _ third.1 value after third.3 in
+    let seen = find_seen setting options.snapshot layer path third.1 fourth.0 fourth.1 fourth.2 in
+    let opened = opened_is setting options layer_name fourth.0 fourth.1 value after fourth.3 in
     let left : first.1 ≡ third.1 = allowed.1 ∙ named.1 in
     let checked : view setting third.1 ≡ view setting t =
-    ap (view setting) (sym left) ∙ quiet_seen setting (check false manner.snapshot layer) t first.0 first.1
-    (check_none (λ mutation. false) (λ space. ⊥) manner.snapshot layer) first.2 in
+    ap (view setting) (sym left) ∙ quiet_seen setting (check false options.snapshot layer) t first.0 first.1
+    (check_none (λ mutation. false) (λ space. ⊥) options.snapshot layer) first.2 in
     record {
       some = named.0;
       found = sym opened.0 ∙ seen.0 ∙ ap (λ database. found_in database layer path) checked;
       same = ap (view setting) (sym opened.1) ∙ seen.1 ∙ checked;
       readable = λ parent none_there there.
-          readable_before setting (check false manner.snapshot layer) t first.0 first.1
+          readable_before setting (check false options.snapshot layer) t first.0 first.1
           (entry_of (node_of layer parent.prefix) (last_name path))
-          (check_none is_plain (AllocatorsMay is_plain) manner.snapshot layer) first.2
+          (check_none is_plain (AllocatorsMay is_plain) options.snapshot layer) first.2
           (subst (λ u. Readable u (entry_of (node_of layer parent.prefix) (last_name path))) (sym left)
-          (entry_readable setting manner.snapshot layer path third.1 fourth.1 parent named.0
-          (subst (λ found. Goes setting (find manner.snapshot layer path) third.1 found fourth.1) (opened.0 ∙ none_there) fourth.2)
+          (entry_readable setting options.snapshot layer path third.1 fourth.1 parent named.0
+          (subst (λ found. Goes setting (find options.snapshot layer path) third.1 found fourth.1) (opened.0 ∙ none_there) fourth.2)
           (ap (λ database. found_in database layer (front path)) checked ∙ there)));
     }
 
@@ -325,19 +325,19 @@ new_found setting bound layer path layer_name prefix t value after parent enough
     (taken_readable setting layer layer_name prefix t own first.1 first.2))
     second.3
 
-made_found : (setting : Setting) (bound : ℕ) (manner : Manner) (layer : Layer) (path : List (List ℕ)) (layer_name prefix : Option (List ℕ))
+made_found : (setting : Setting) (bound : ℕ) (options : OpenOptions) (layer : Layer) (path : List (List ℕ)) (layer_name prefix : Option (List ℕ))
     (t : Transaction) (value : Directory) (after : Transaction) (parent : Directory) → length path ≤ bound
     → found_in (view setting t) layer (front path) ≡ Some parent
-    → Goes setting (makes (suc bound) manner layer path layer_name prefix) t value after
+    → Goes setting (makes (suc bound) options layer path layer_name prefix) t value after
     → found_in (view setting after) layer path ≡ Some value
 unfolding makes
-made_found setting bound manner layer path layer_name prefix t value after parent enough there goes =
-    let looking = looks manner layer path layer_name prefix in
+made_found setting bound options layer path layer_name prefix t value after parent enough there goes =
+    let looking = looks options layer path layer_name prefix in
     let first = parts setting looking _ t value after goes in
-    let seen = looked setting manner layer path layer_name prefix t first.0 first.1 first.2 in
+    let seen = looked setting options layer path layer_name prefix t first.0 first.1 first.2 in
     by first.0 seen.found first.1 seen.same
     (λ none_there. still_readable setting looking t first.0 first.1 (entry_of (node_of layer parent.prefix) (last_name path))
-    (looks_none is_plain (AllocatorsMay is_plain) manner layer path layer_name prefix) first.2 (seen.readable parent none_there there))
+    (looks_none is_plain (AllocatorsMay is_plain) options layer path layer_name prefix) first.2 (seen.readable parent none_there there))
     seen.some first.3
   where
     by : (found : Option Directory) → found ≡ found_in (view setting t) layer path → (u : Transaction) → view setting u ≡ view setting t
@@ -352,20 +352,20 @@ made_found setting bound manner layer path layer_name prefix t value after paren
         (ap (λ database. found_in database layer (front path)) same ∙ there) (ap (λ database. found_in database layer path) same ∙ sym is)
         (readable refl) goes
 
-opening_found : (setting : Setting) (manner : Manner) (layer : Layer) (args : DirArgs) (t : Transaction)
+opening_found : (setting : Setting) (options : OpenOptions) (layer : Layer) (args : DirArgs) (t : Transaction)
     (parent : Directory)
     (prefix : List ℕ) (path : List (List ℕ)) (layer_name : List ℕ) (after : Transaction)
     → found_in (view setting t) layer (front args.path) ≡ Some parent
-    → Goes setting (opening manner layer args) t (reply.Opened prefix path layer_name) after
+    → Goes setting (opening options layer args) t (reply.Opened prefix path layer_name) after
     → (path ≡ args.path) × (found_in (view setting after) layer args.path ≡ Some (directory prefix layer_name))
 unfolding opening
-opening_found setting manner layer args t parent prefix path layer_name after there goes =
+opening_found setting options layer args t parent prefix path layer_name after there goes =
     let bound : length args.path + 1 ≡ suc (length args.path) = omega arith in
-    let first = parts setting (makes (length args.path + 1) manner layer args.path args.layer args.prefix) _ t
+    let first = parts setting (makes (length args.path + 1) options layer args.path args.layer args.prefix) _ t
     (reply.Opened prefix path layer_name) after goes in
-    let making = subst (λ bound. Goes setting (makes bound manner layer args.path args.layer args.prefix) t first.0 first.1) bound
+    let making = subst (λ bound. Goes setting (makes bound options layer args.path args.layer args.prefix) t first.0 first.1) bound
     first.2 in
-    let made = made_found setting (length args.path) manner layer args.path args.layer args.prefix t first.0 first.1 parent (omega arith)
+    let made = made_found setting (length args.path) options layer args.path args.layer args.prefix t first.0 first.1 parent (omega arith)
     there making in
     let answer : reply.Opened first.0.prefix args.path first.0.layer ≡ reply.Opened prefix path layer_name = first.3.0 in
     let prefix_is : first.0.prefix ≡ prefix = cc in

@@ -13,7 +13,7 @@ use Rattle.directory_types.specs.declared.DirKind.TheVariants as kind
 use Rattle.directory_types.specs.declared.fault.DirFault.{DirFault}
 use Rattle.directory_types.specs.declared.fault.DirFault.TheVariants as fault
 use Rattle.directory_rules.specs.declared.Directory.{Directory}
-use Rattle.directory_rules.specs.declared.Manner.{Manner}
+use Rattle.directory_rules.specs.declared.OpenOptions.{OpenOptions}
 use Rattle.directory_rules.specs.Courses.{Course, Gives, ◌>>=◌, given, does, value_of, pairs_of}
 use Rattle.directory_rules.specs.Nodes.{node_of, entry_of, layer_key, version_key, version_now, allocator_of, is_partition, packed_number}
 use Rattle.directory_rules.specs.Steps.{refuse_where, there, version_checked, check, root, below, directory_at, child_of, find_from, find, front, last_name, children, is_inside, has_inside, is_node_inside, is_in_use, sets_entry, clears_entry}
@@ -148,23 +148,23 @@ check_none may spaces snapshot layer =
 
 -- ---- the prefix of a new directory
 
-opens_none : (may : Mutation → Bool) (spaces : List ℕ → Type 0) (manner : Manner) (layer_name : Option (List ℕ)) (found : Option Directory)
-    → Only may spaces (opens manner layer_name found)
-opens_none may spaces manner layer_name (Some found) = given_none may spaces _
-opens_none may spaces manner layer_name None = both_only may spaces (refuse_where (not manner.may_create) fault.Missing) _
-    (refuses_none may spaces (not manner.may_create) fault.Missing) (λ allowed. tt)
+opens_none : (may : Mutation → Bool) (spaces : List ℕ → Type 0) (options : OpenOptions) (layer_name : Option (List ℕ)) (found : Option Directory)
+    → Only may spaces (opens options layer_name found)
+opens_none may spaces options layer_name (Some found) = given_none may spaces _
+opens_none may spaces options layer_name None = both_only may spaces (refuse_where (not options.may_create) fault.Missing) _
+    (refuses_none may spaces (not options.may_create) fault.Missing) (λ allowed. tt)
 
-pub looks_none : (may : Mutation → Bool) (spaces : List ℕ → Type 0) (manner : Manner) (layer : Layer) (path : List (List ℕ))
-    (layer_name prefix : Option (List ℕ)) → Only may spaces (looks manner layer path layer_name prefix)
+pub looks_none : (may : Mutation → Bool) (spaces : List ℕ → Type 0) (options : OpenOptions) (layer : Layer) (path : List (List ℕ))
+    (layer_name prefix : Option (List ℕ)) → Only may spaces (looks options layer path layer_name prefix)
 unfolding looks
-looks_none may spaces manner layer path layer_name prefix =
-    both_only may spaces (check false manner.snapshot layer) _ (check_none may spaces manner.snapshot layer)
+looks_none may spaces options layer path layer_name prefix =
+    both_only may spaces (check false options.snapshot layer) _ (check_none may spaces options.snapshot layer)
     (λ read. both_only may spaces (refuse_where (is_some prefix && not layer.manual) fault.ManualNotAllowed) _
     (refuses_none may spaces (is_some prefix && not layer.manual) fault.ManualNotAllowed)
     (λ allowed. both_only may spaces (refuse_where (length path == 0) fault.EmptyPath) _
     (refuses_none may spaces (length path == 0) fault.EmptyPath)
-    (λ named. both_only may spaces (find manner.snapshot layer path) _ (find_none may spaces manner.snapshot layer path)
-    (λ found. opens_none may spaces manner layer_name found))))
+    (λ named. both_only may spaces (find options.snapshot layer path) _ (find_none may spaces options.snapshot layer path)
+    (λ found. opens_none may spaces options layer_name found))))
 
 pub has_keys_none : (may : Mutation → Bool) (spaces : List ℕ → Type 0) (prefix : List ℕ) → Only may spaces (has_keys prefix)
 unfolding has_keys
@@ -224,13 +224,13 @@ pub if_plain : {X : Type 0} (one : Bool) (value : X) (others : Course X) → IsP
 if_plain true value others plain = tt
 if_plain false value others plain = plain
 
-pub makes_plain : (bound : ℕ) (manner : Manner) (layer : Layer) (path : List (List ℕ)) (layer_name prefix : Option (List ℕ))
-    → IsPlain (makes bound manner layer path layer_name prefix)
+pub makes_plain : (bound : ℕ) (options : OpenOptions) (layer : Layer) (path : List (List ℕ)) (layer_name prefix : Option (List ℕ))
+    → IsPlain (makes bound options layer path layer_name prefix)
 unfolding makes
-makes_plain zero manner layer path layer_name prefix = tt
-makes_plain (suc bound) manner layer path layer_name prefix =
-    both_only is_plain (AllocatorsMay is_plain) (looks manner layer path layer_name prefix) _
-    (looks_none is_plain (AllocatorsMay is_plain) manner layer path layer_name prefix)
+makes_plain zero options layer path layer_name prefix = tt
+makes_plain (suc bound) options layer path layer_name prefix =
+    both_only is_plain (AllocatorsMay is_plain) (looks options layer path layer_name prefix) _
+    (looks_none is_plain (AllocatorsMay is_plain) options layer path layer_name prefix)
     (λ found. or_plain found _ (both_only is_plain (AllocatorsMay is_plain) (takes_prefix layer layer_name prefix) _
     (takes_only is_plain (AllocatorsMay is_plain) layer layer_name prefix refl (allocators_plain (allocator_of layer)))
     (λ own. both_only is_plain (AllocatorsMay is_plain)
@@ -258,11 +258,11 @@ there_plain fault value = there_none is_plain (AllocatorsMay is_plain) fault val
 children_plain : (snapshot : Bool) (layer : Layer) (prefix : List ℕ) → IsPlain (children snapshot layer prefix)
 children_plain snapshot layer prefix = children_none is_plain (AllocatorsMay is_plain) snapshot layer prefix
 
-opening_plain : (manner : Manner) (layer : Layer) (args : DirArgs) → IsPlain (opening manner layer args)
+opening_plain : (options : OpenOptions) (layer : Layer) (args : DirArgs) → IsPlain (opening options layer args)
 unfolding opening
-opening_plain manner layer args =
-    then_plain (makes (length args.path + 1) manner layer args.path args.layer args.prefix) _
-    (makes_plain (length args.path + 1) manner layer args.path args.layer args.prefix) (λ found. tt)
+opening_plain options layer args =
+    then_plain (makes (length args.path + 1) options layer args.path args.layer args.prefix) _
+    (makes_plain (length args.path + 1) options layer args.path args.layer args.prefix) (λ found. tt)
 
 -- ---- move_to
 

@@ -20,7 +20,7 @@ use Rattle.directory_rules.specs.Courses.{Course, Gives, Refuses, Allocates, ◌
 use Rattle.directory_rules.specs.Nodes.{packed_bytes, packed_number, packed_text, node_of, layer_key, allocator_of, is_partition}
 use Rattle.directory_rules.specs.declared.Child.{Child}
 use Rattle.directory_rules.specs.declared.Directory.{Directory}
-use Rattle.directory_rules.specs.declared.Manner.{Manner}
+use Rattle.directory_rules.specs.declared.OpenOptions.{OpenOptions}
 use Rattle.directory_rules.specs.Steps.{refuse_where, there, check, directory, root, find, front, last_name, children, is_in_use, sets_entry, clears_entry}
 
 abbrev pub opened : (path : List (List ℕ)) → Directory → DirReply
@@ -28,37 +28,37 @@ opened path found = reply.Opened found.prefix path found.layer
 
 -- ---- create, create_or_open, open
 
-abbrev pub to_create : Manner
+abbrev pub to_create : OpenOptions
 to_create = record { may_create = true; may_open = false; snapshot = false }
 
-abbrev pub to_create_or_open : Manner
+abbrev pub to_create_or_open : OpenOptions
 to_create_or_open = record { may_create = true; may_open = true; snapshot = false }
 
-abbrev pub to_open : (snapshot : Bool) → Manner
+abbrev pub to_open : (snapshot : Bool) → OpenOptions
 to_open snapshot = record { may_create = false; may_open = true; snapshot = snapshot }
 
 -- a directory that is there is opened, where that may be and where its layer name is the one that is asked for, if one is
-unfoldable pub found_opened : Manner → (layer_name : Option (List ℕ)) → Directory → Result (Option Directory) DirFault
-found_opened manner layer_name found =
-    if not manner.may_open then Err fault.Exists
+unfoldable pub found_opened : OpenOptions → (layer_name : Option (List ℕ)) → Directory → Result (Option Directory) DirFault
+found_opened options layer_name found =
+    if not options.may_open then Err fault.Exists
     else if not (length (unwrap_or layer_name []) == 0) && not (bytes_eq (unwrap_or layer_name []) found.layer) then Err fault.LayerDiffers
     else Ok (Some found)
 
 -- one that isn't there may have to be created
-abbrev pub opens : Manner → (layer_name : Option (List ℕ)) → Option Directory → Course (Option Directory)
-opens manner layer_name (Some found) = given (found_opened manner layer_name found)
-opens manner layer_name None = do
-  may ← refuse_where (not manner.may_create) fault.Missing
+abbrev pub opens : OpenOptions → (layer_name : Option (List ℕ)) → Option Directory → Course (Option Directory)
+opens options layer_name (Some found) = given (found_opened options layer_name found)
+opens options layer_name None = do
+  may ← refuse_where (not options.may_create) fault.Missing
   Gives None
 
 -- the directory that is there, or none where it is to be created
-unfoldable pub looks : Manner → Layer → (path : List (List ℕ)) → (layer_name prefix : Option (List ℕ)) → Course (Option Directory)
-looks manner layer path layer_name prefix = do
-  read ← check false manner.snapshot layer
+unfoldable pub looks : OpenOptions → Layer → (path : List (List ℕ)) → (layer_name prefix : Option (List ℕ)) → Course (Option Directory)
+looks options layer path layer_name prefix = do
+  read ← check false options.snapshot layer
   allowed ← refuse_where (is_some prefix && not layer.manual) fault.ManualNotAllowed
   named ← refuse_where (length path == 0) fault.EmptyPath
-  found ← find manner.snapshot layer path
-  opens manner layer_name found
+  found ← find options.snapshot layer path
+  opens options layer_name found
 
 -- whether there are keys that begin with a prefix
 unfoldable pub has_keys : (prefix : List ℕ) → Course Bool
@@ -111,18 +111,18 @@ or_else None others = others
 
 -- The parent is made before its child is entered, by the same steps: the number bounds how often, and that of the names of the
 -- path is enough, since each time one name is left out. Of a path with one name the parent is the root.
-unfoldable pub makes : (bound : ℕ) → Manner → Layer → (path : List (List ℕ)) → (layer_name prefix : Option (List ℕ)) → Course Directory
-makes zero manner layer path layer_name prefix = Gives (root layer)
-makes (suc bound) manner layer path layer_name prefix = do
-  found ← looks manner layer path layer_name prefix
+unfoldable pub makes : (bound : ℕ) → OpenOptions → Layer → (path : List (List ℕ)) → (layer_name prefix : Option (List ℕ)) → Course Directory
+makes zero options layer path layer_name prefix = Gives (root layer)
+makes (suc bound) options layer path layer_name prefix = do
+  found ← looks options layer path layer_name prefix
   or_else found (do
     own ← takes_prefix layer layer_name prefix
     parent ← if length path == 1 then Gives (root layer) else makes bound to_create_or_open layer (front path) None None
     enters layer parent (last_name path) own (unwrap_or layer_name []))
 
-unfoldable pub opening : Manner → Layer → DirArgs → Course DirReply
-opening manner layer args = do
-  found ← makes (length args.path + 1) manner layer args.path args.layer args.prefix
+unfoldable pub opening : OpenOptions → Layer → DirArgs → Course DirReply
+opening options layer args = do
+  found ← makes (length args.path + 1) options layer args.path args.layer args.prefix
   Gives (opened args.path found)
 
 -- ---- move_to

@@ -24,7 +24,7 @@ pub struct Child {
 
 /// What a call that makes or opens a directory may do.
 #[derive(Clone, Copy, Debug, PartialEq, Eq)]
-pub struct Manner {
+pub struct OpenOptions {
     pub may_create: bool,
     pub may_open: bool,
     /// Its reads are by snapshot.

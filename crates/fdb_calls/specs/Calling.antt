@@ -199,10 +199,11 @@ cancel_called transaction = answers (cancelled transaction) reply.Done
 unfoldable pub called : Setting → ℕ → Transaction → TxnCall → Called
 called setting life transaction (call.Get key snapshot) = read_called setting transaction false snapshot (read.Get key)
 called setting life transaction (call.GetKey selector snapshot) = read_called setting transaction false snapshot (read.GetKey selector)
-called setting life transaction (call.GetRange begin end limit reverse mode snapshot) =
-    read_called setting transaction (lacks_limit mode limit) snapshot (read.GetRange begin end limit reverse)
-called setting life transaction (call.GetKeyRange range limit reverse mode snapshot) =
-    read_called setting transaction (lacks_limit mode limit) snapshot (read.GetKeyRange range.begin range.end limit reverse)
+called setting life transaction (call.GetRange begin end options snapshot) =
+    read_called setting transaction (lacks_limit options.mode options.limit) snapshot (read.GetRange begin end options.limit options.reverse)
+called setting life transaction (call.GetKeyRange range options snapshot) =
+    read_called setting transaction (lacks_limit options.mode options.limit) snapshot
+    (read.GetKeyRange range.begin range.end options.limit options.reverse)
 called setting life transaction (call.Set key value) = set_called transaction key value
 called setting life transaction (call.Clear key) = clear_called transaction key
 called setting life transaction (call.ClearRange range) = clear_range_called transaction range.begin range.end

@@ -10,7 +10,7 @@ mod shared_request;
 mod tr;
 
 pub use database_rules::Code;
-use database_rules::{Mode, Selector};
+use database_rules::{RangeOptions, Selector};
 use directory_types::{Boxed, DirArgs, DirFault, DirKind, DirReply, Layer};
 pub use fault::TrFault;
 use key_bytes::{Bytes, Key, KeyRange, Pairs};
@@ -31,22 +31,19 @@ pub enum TxnCall {
         selector: Selector,
         snapshot: bool,
     },
-    /// Reads the pairs between the keys that two selectors mean, up to a limit, or all where it is 0, in the order of
-    /// their keys or reversed (`fdb_transaction_get_range`).
+    /// Reads the pairs between the keys that two selectors mean, up to the limit of the options, or all where it is 0, in
+    /// the order of their keys or reversed (`fdb_transaction_get_range`). An instruction GET_RANGE_SELECTOR makes this call.
     GetRange {
         begin: Selector,
         end: Selector,
-        limit: u32,
-        reverse: bool,
-        mode: Mode,
+        options: RangeOptions,
         snapshot: bool,
     },
-    /// The same between two keys.
+    /// Reads the pairs between two keys, up to the limit of the options, or all where it is 0, in the order of their keys or
+    /// reversed (`fdb_transaction_get_range`). An instruction GET_RANGE makes this call.
     GetKeyRange {
         range: KeyRange,
-        limit: u32,
-        reverse: bool,
-        mode: Mode,
+        options: RangeOptions,
         snapshot: bool,
     },
     /// Writes a value under a key (`fdb_transaction_set`).

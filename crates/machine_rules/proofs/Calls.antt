@@ -160,10 +160,10 @@ module _ (setting : Setting) (Holds : Transaction → Type 0) (calls : AreCallsK
   called_quiet life t (call.Get key snapshot) holds = inl (read_quiet setting Holds calls.acts t false snapshot (read.Get key) holds)
   called_quiet life t (call.GetKey selector snapshot) holds =
       inl (read_quiet setting Holds calls.acts t false snapshot (read.GetKey selector) holds)
-  called_quiet life t (call.GetRange begin end limit reverse mode snapshot) holds =
-      inl (read_quiet setting Holds calls.acts t (lacks_limit mode limit) snapshot (read.GetRange begin end limit reverse) holds)
-  called_quiet life t (call.GetKeyRange range limit reverse mode snapshot) holds =
-      inl (read_quiet setting Holds calls.acts t (lacks_limit mode limit) snapshot (read.GetKeyRange range.begin range.end limit reverse) holds)
+  called_quiet life t (call.GetRange begin end options snapshot) holds =
+      inl (read_quiet setting Holds calls.acts t (lacks_limit options.mode options.limit) snapshot (read.GetRange begin end options.limit options.reverse) holds)
+  called_quiet life t (call.GetKeyRange range options snapshot) holds =
+      inl (read_quiet setting Holds calls.acts t (lacks_limit options.mode options.limit) snapshot (read.GetKeyRange range.begin range.end options.limit options.reverse) holds)
   called_quiet life t (call.Set key value) holds = inl (write_quiet setting Holds calls.acts t (Set key value) holds)
   called_quiet life t (call.Clear key) holds = inl (write_quiet setting Holds calls.acts t (Clear key) holds)
   called_quiet life t (call.ClearRange range) holds =

@@ -6,7 +6,7 @@ use Rattle.key_bytes.specs.Successors.{strinc}
 use Rattle.key_bytes.specs.declared.range.KeyRange.{KeyRange}
 use Rattle.database_rules.specs.Intervals.{one}
 use Rattle.database_rules.specs.declared.selector.Selector.{Selector}
-use Rattle.database_rules.specs.declared.mode.Mode.{Mode}
+use Rattle.database_rules.specs.declared.options.RangeOptions.{RangeOptions}
 use Rattle.fdb_tuple.specs.Tuples.{Int, Empty, Single}
 use Rattle.fdb_tuple.specs.Listed.{before}
 use Rattle.fdb_tuple.specs.Spelling.{spelling}
@@ -65,27 +65,21 @@ get_key_call scope stack = do
   Ok ((call.GetKey selector.0 (is_snapshot scope), awaits.Key prefix.0), prefix.1)
 
 -- how a range is read: the limit, whether reversed, and the mode
-pub record Manner : Type 0 where
-  pub limit : ℕ
-  pub reverse : Bool
-  pub mode : Mode
-
-abbrev pub manner_operand : List Item → Popped Manner
-manner_operand stack = do
+abbrev pub options_operand : List Item → Popped RangeOptions
+options_operand stack = do
   limit ← limit_operand stack
   reverse ← flag_operand limit.1
   mode ← mode_operand reverse.1
   Ok (record { limit = limit.0; reverse = reverse.0; mode = mode.0 }, mode.1)
 
-abbrev pub get_between : Scope → List ℕ → List ℕ → Manner → TxnCall
-get_between scope begin end manner =
-    call.GetKeyRange (record { begin = begin; end = end }) manner.limit manner.reverse manner.mode (is_snapshot scope)
+abbrev pub get_between : Scope → List ℕ → List ℕ → RangeOptions → TxnCall
+get_between scope begin end options = call.GetKeyRange (record { begin = begin; end = end }) options (is_snapshot scope)
 
 abbrev pub get_range_call : Scope → List Item → Popped Calls
 get_range_call scope stack = do
   ends ← two_operands bytes_operand bytes_operand stack
-  manner ← manner_operand ends.1
-  Ok ((get_between scope ends.0.0 ends.0.1 manner.0, awaits.Pairs), manner.1)
+  options ← options_operand ends.1
+  Ok ((get_between scope ends.0.0 ends.0.1 options.0, awaits.Pairs), options.1)
 
 -- the end of the range of the keys that begin with a prefix: the least key above them, or FF where there is none
 abbrev pub prefix_end : List ℕ → List ℕ
@@ -94,15 +88,15 @@ prefix_end prefix = unwrap_or (strinc prefix) top
 abbrev pub get_range_starts_with_call : Scope → List Item → Popped Calls
 get_range_starts_with_call scope stack = do
   prefix ← bytes_operand stack
-  manner ← manner_operand prefix.1
-  Ok ((get_between scope prefix.0 (prefix_end prefix.0) manner.0, awaits.Pairs), manner.1)
+  options ← options_operand prefix.1
+  Ok ((get_between scope prefix.0 (prefix_end prefix.0) options.0, awaits.Pairs), options.1)
 
 abbrev pub get_range_selector_call : Scope → List Item → Popped Calls
 get_range_selector_call scope stack = do
   ends ← two_operands selector_operand selector_operand stack
-  manner ← manner_operand ends.1
-  prefix ← bytes_operand manner.1
-  Ok ((call.GetRange ends.0.0 ends.0.1 manner.0.limit manner.0.reverse manner.0.mode (is_snapshot scope), awaits.PairsWithin prefix.0), prefix.1)
+  options ← options_operand ends.1
+  prefix ← bytes_operand options.1
+  Ok ((call.GetRange ends.0.0 ends.0.1 options.0 (is_snapshot scope), awaits.PairsWithin prefix.0), prefix.1)
 
 abbrev pub set_call : Scope → List Item → Popped Calls
 set_call scope stack = do

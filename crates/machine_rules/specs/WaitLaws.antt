@@ -25,7 +25,7 @@ use Rattle.machine_rules.specs.declared.Awaits.TheVariants as awaits
 use Rattle.machine_rules.specs.declared.Wait.{Wait}
 use Rattle.machine_rules.specs.Operands.{Refusal, Missing, Unfit, Waiting, ◌>>=◌, Popped, two_operands, bytes_operand}
 use Rattle.machine_rules.specs.StackOperations.{Operated, operated}
-use Rattle.machine_rules.specs.Calls.{Calls, written_in, selector_operand, manner_operand, call_of, request_of, awaits_of, start_request}
+use Rattle.machine_rules.specs.Calls.{Calls, written_in, selector_operand, options_operand, call_of, request_of, awaits_of, start_request}
 use Rattle.machine_rules.specs.Machines.{Registers, Act, Does, Stops, Asks, with_stack, refused, does, asks, calls, uses, life_by, first_life, logs_batch, logs_from, logs_on, logs_stack, waits_empty, act_of, instruction_at, Machine, Use, Goes, Pushes, Keeps, Fails, PushesWaiting, LogsOn, LacksMachine, start_use, use_of, used, known_or, with_known, noting, error_item, knowing, polls_on, polled_once, after_poll, watches_on, after_watch, replied_act}
 use Rattle.machine_rules.specs.Machines as machines
 use Rattle.machine_rules.specs.Machines.{directs_to, directs, directory_use, opened_use, names_use, existence_use, subspace_use}
@@ -227,12 +227,12 @@ call_at_once on_database.Get scope stack = at_once_then (bytes_operand stack) _ 
 call_at_once on_database.GetKey scope stack =
     at_once_then (selector_operand stack) _ (λ selector. at_once_then (bytes_operand selector.1) _ (λ prefix. refl))
 call_at_once on_database.GetRange scope stack =
-    at_once_then (two_operands bytes_operand bytes_operand stack) _ (λ ends. at_once_then (manner_operand ends.1) _ (λ manner. refl))
+    at_once_then (two_operands bytes_operand bytes_operand stack) _ (λ ends. at_once_then (options_operand ends.1) _ (λ options. refl))
 call_at_once on_database.GetRangeStartsWith scope stack =
-    at_once_then (bytes_operand stack) _ (λ prefix. at_once_then (manner_operand prefix.1) _ (λ manner. refl))
+    at_once_then (bytes_operand stack) _ (λ prefix. at_once_then (options_operand prefix.1) _ (λ options. refl))
 call_at_once on_database.GetRangeSelector scope stack =
     at_once_then (two_operands selector_operand selector_operand stack) _
-    (λ ends. at_once_then (manner_operand ends.1) _ (λ manner. at_once_then (bytes_operand manner.1) _ (λ prefix. refl)))
+    (λ ends. at_once_then (options_operand ends.1) _ (λ options. at_once_then (bytes_operand options.1) _ (λ prefix. refl)))
 call_at_once on_database.Set scope stack =
     at_once_then (two_operands bytes_operand bytes_operand stack) _ (λ operands. written_at_once scope)
 call_at_once on_database.Clear scope stack = at_once_then (bytes_operand stack) _ (λ key. written_at_once scope)

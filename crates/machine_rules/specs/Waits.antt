@@ -28,7 +28,7 @@ use Rattle.machine_rules.specs.StackOperations.{pushed, stamp_answer, dup, swapp
 use Rattle.machine_rules.specs.declared.directories.DirectoryOperation.{DirectoryOperation}
 use Rattle.machine_rules.specs.declared.directories.DirectoryOperation.TheVariants as on_directories
 use Rattle.machine_rules.specs.Directories.{Directories, text_of, path_operand, bytes_if_any, name_operand, given_of, path_where, path_if_given, directed}
-use Rattle.machine_rules.specs.Calls.{selector_operand, manner_operand, call_of, range_request, key_request, request_of}
+use Rattle.machine_rules.specs.Calls.{selector_operand, options_operand, call_of, range_request, key_request, request_of}
 
 -- ---- items that wait
 
@@ -257,8 +257,8 @@ of_selector stack =
     (λ key. of_then (flag_operand key.1) _ key.1 (of_flag key.1)
     (λ or_equal. of_then (offset_operand or_equal.1) _ or_equal.1 (of_kind offset_of or_equal.1) (λ offset. left_itself offset.1)))
 
-of_manner : (stack : List Item) → IsOf (manner_operand stack) stack
-of_manner stack =
+of_options : (stack : List Item) → IsOf (options_operand stack) stack
+of_options stack =
     of_then (limit_operand stack) _ stack (of_kind limit_of stack)
     (λ limit. of_then (flag_operand limit.1) _ limit.1 (of_flag limit.1)
     (λ reverse. of_then (mode_operand reverse.1) _ reverse.1 (of_kind mode_of reverse.1) (λ mode. left_itself mode.1)))
@@ -274,15 +274,15 @@ of_call on_database.GetKey scope stack =
     (λ selector. of_then (bytes_operand selector.1) _ selector.1 (of_bytes selector.1) (λ prefix. left_itself prefix.1))
 of_call on_database.GetRange scope stack =
     of_then (two_operands bytes_operand bytes_operand stack) _ stack (of_two_bytes stack)
-    (λ ends. of_then (manner_operand ends.1) _ ends.1 (of_manner ends.1) (λ manner. left_itself manner.1))
+    (λ ends. of_then (options_operand ends.1) _ ends.1 (of_options ends.1) (λ options. left_itself options.1))
 of_call on_database.GetRangeStartsWith scope stack =
     of_then (bytes_operand stack) _ stack (of_bytes stack)
-    (λ prefix. of_then (manner_operand prefix.1) _ prefix.1 (of_manner prefix.1) (λ manner. left_itself manner.1))
+    (λ prefix. of_then (options_operand prefix.1) _ prefix.1 (of_options prefix.1) (λ options. left_itself options.1))
 of_call on_database.GetRangeSelector scope stack =
     of_then (two_operands selector_operand selector_operand stack) _ stack
     (of_two selector_operand selector_operand stack of_selector of_selector)
-    (λ ends. of_then (manner_operand ends.1) _ ends.1 (of_manner ends.1)
-    (λ manner. of_then (bytes_operand manner.1) _ manner.1 (of_bytes manner.1) (λ prefix. left_itself prefix.1)))
+    (λ ends. of_then (options_operand ends.1) _ ends.1 (of_options ends.1)
+    (λ options. of_then (bytes_operand options.1) _ options.1 (of_bytes options.1) (λ prefix. left_itself prefix.1)))
 of_call on_database.Set scope stack =
     of_then (two_operands bytes_operand bytes_operand stack) _ stack (of_two_bytes stack) (λ operands. left_itself operands.1)
 of_call on_database.Clear scope stack = of_then (bytes_operand stack) _ stack (of_bytes stack) (λ key. left_itself key.1)

@@ -1,6 +1,7 @@
 -- How many pairs a page has.
 use Rattle.std.specs.Prelude.{◌≡◌, ℕ, ◌-◌, ◌*◌, ◌^◌, ◌==◌, true, false, if◌then◌else◌, min}
 use Rattle.database_rules.specs.declared.mode.Mode.{Mode}
+use Rattle.database_rules.specs.declared.options.RangeOptions.{RangeOptions}
 use Rattle.database_rules.specs.declared.mode.Mode.TheVariants.{WantAll, Iterator, Exact, Small, Medium, Large, Serial}
 use Rattle.database_rules.specs.Modes.{lacks_limit}
 use Rattle.range_read.specs.declared.fault.RangeFault.{RangeFault}
@@ -26,6 +27,6 @@ page_size Exact limit turn = limit
 page_size mode limit turn = capped limit (full_size mode turn)
 
 -- why a range was not read: NoLimit exactly where the limit is lacking
-abbrev pub IsRefused : Mode → ℕ → RangeFault → Type 0
-IsRefused mode limit NoLimit = lacks_limit mode limit ≡ true
-IsRefused mode limit NoMemory = lacks_limit mode limit ≡ false
+abbrev pub IsRefused : RangeOptions → RangeFault → Type 0
+IsRefused options NoLimit = lacks_limit options.mode options.limit ≡ true
+IsRefused options NoMemory = lacks_limit options.mode options.limit ≡ false

@@ -23,7 +23,7 @@ mod taken;
 mod view;
 mod walking;
 
-pub use database_rules::{Mode, Selector};
+pub use database_rules::{Mode, RangeOptions, Selector};
 pub use fault::RangeFault;
 pub use mode::lacks_limit;
 pub use paged::Page;

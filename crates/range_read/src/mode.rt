@@ -4,15 +4,15 @@ ghost use Rattle.std.specs.Prelude.{◌≡◌, ◌<◌, ◌≤◌, ◌*◌, ◌^
 ghost use Rattle.database_rules.specs.Modes.{lacks_limit};
 ghost use Rattle.range_read.specs.Pages.{capped, full_size, page_size};
 
-use database_rules::Mode;
+use database_rules::{Mode, RangeOptions};
 
-/// Tells whether a mode wants a limit that is not there: a read of a range is then refused with 2210 (API
-/// reference of release 6.3, "fdb_transaction_get_range", `EXACT`).
-pub fn lacks_limit(mode: Mode, limit: u32) -> bool
-    ensures { result ≡ lacks_limit mode limit }
+/// Tells whether the mode of the options wants a limit that is not there: a read of a range is then refused with 2210
+/// (API reference of release 6.3, "fdb_transaction_get_range", `EXACT`).
+pub fn lacks_limit(options: RangeOptions) -> bool
+    ensures { result ≡ lacks_limit options.mode options.limit }
 {
-    match mode {
-        Mode::Exact => limit == 0,
+    match options.mode {
+        Mode::Exact => options.limit == 0,
         _ => false,
     }
 }
@@ -46,12 +46,13 @@ fn cap(size: u32, limit: u32) -> u32
     }
 }
 
-// How many pairs a page has where there are enough. It takes no memory.
-pub(crate) fn size_of_page(mode: Mode, limit: u32, turn: u32) -> u32
+// How many pairs a page has where there are enough.
+pub(crate) fn size_of_page(options: RangeOptions, turn: u32) -> u32
     requires { 1 ≤ turn }
-    ensures { result ≡ page_size mode limit turn }
+    ensures { result ≡ page_size options.mode options.limit turn }
 {
-    match mode {
+    let limit = options.limit;
+    match options.mode {
         Mode::Exact => limit,
         Mode::Small => cap(16, limit),
         Mode::Medium => cap(128, limit),

@@ -12,16 +12,16 @@ use crate::mode::{lacks_limit, size_of_page};
 use crate::paged::Page;
 use crate::view::OrderedView;
 use crate::walking::{first_inside, walk};
-use database_rules::Mode;
+use database_rules::RangeOptions;
 use key_bytes::{KeyRange, Pairs};
 use std::alloc::AllocError;
 
-// Refuses a mode that wants a limit which is not there. It takes no memory.
-fn check(mode: Mode, limit: u32) -> Result<(), RangeFault>
-    ensures ok { IfOk result (λ _. lacks_limit mode limit ≡ false) }
-    ensures err { IfErr result (λ fault. (lacks_limit mode limit ≡ true) × IsRefused mode limit fault) }
+// Refuses a mode that wants a limit which is not there.
+fn check(options: RangeOptions) -> Result<(), RangeFault>
+    ensures ok { IfOk result (λ _. lacks_limit options.mode options.limit ≡ false) }
+    ensures err { IfErr result (λ fault. (lacks_limit options.mode options.limit ≡ true) × IsRefused options fault) }
 {
-    if lacks_limit(mode, limit) {
+    if lacks_limit(options) {
         return Err(RangeFault::NoLimit);
     }
     Ok(())
@@ -31,42 +31,39 @@ fn check(mode: Mode, limit: u32) -> Result<(), RangeFault>
 fn goes_on<V: OrderedView>(
     view: &V,
     left: &KeyRange,
-    limit: u32,
+    options: RangeOptions,
     size: u32,
-    reverse: bool,
 ) -> Result<bool, AllocError>
     ensures { IfOk result (λ more. more
-        ≡ has_more limit size (span (V.map view.now) left.now.begin left.now.end reverse)) }
+        ≡ has_more options.limit size (span (V.map view.now) left.now.begin left.now.end options.reverse)) }
 {
-    if limit == size {
+    if options.limit == size {
         return Ok(false);
     }
-    Ok(first_inside(view, left, reverse)?.is_some())
+    Ok(first_inside(view, left, options.reverse)?.is_some())
 }
 
 /// Returns the pairs of `range` that `view` has, in the order of their keys, or in the other order where
-/// `reverse` holds; of these the first `limit`, or all where it is 0 (API reference of release 6.3,
+/// `options.reverse` holds; of these the first `options.limit`, or all where it is 0 (API reference of release 6.3,
 /// "fdb_transaction_get_range"). There are none where the range's begin isn't less than its end. NoLimit
 /// exactly where the mode is `Exact` and the limit is 0; else the mode changes nothing. NoMemory where memory
 /// runs out.
 pub fn all<V: OrderedView>(
     view: &V,
     range: &KeyRange,
-    limit: u32,
-    reverse: bool,
-    mode: Mode,
+    options: RangeOptions,
 ) -> Result<Pairs, RangeFault>
     ensures pairs { IfOk result (λ pairs. pairs
-        ≡ slice (V.map view.now) range.now.begin range.now.end limit reverse) }
-    ensures limited { IfOk result (λ _. lacks_limit mode limit ≡ false) }
-    ensures refused { IfErr result (IsRefused mode limit) }
+        ≡ slice (V.map view.now) range.now.begin range.now.end options.limit options.reverse) }
+    ensures limited { IfOk result (λ _. lacks_limit options.mode options.limit ≡ false) }
+    ensures refused { IfErr result (IsRefused options) }
 {
-    check(mode, limit)?;
-    let taken = walk(view, range, limit, reverse)?;
+    check(options)?;
+    let taken = walk(view, range, options.limit, options.reverse)?;
     Ok(taken.pairs)
 }
 
-/// Returns the first page of the slice that `all` answers: its first pairs, as many as the mode, the limit and
+/// Returns the first page of the slice that `all` answers: its first pairs, as many as the options and
 /// the turn say (`page_size`), or all where there are no more; and whether the slice has pairs behind these
 /// (API reference of release 6.3, "fdb_transaction_get_range", streaming modes). Where more follow, the slice
 /// is the page followed by the slice of what is left: from the key after the page's last key to the end, or in
@@ -75,27 +72,27 @@ pub fn all<V: OrderedView>(
 pub fn page<V: OrderedView>(
     view: &V,
     range: &KeyRange,
-    limit: u32,
-    reverse: bool,
-    mode: Mode,
+    options: RangeOptions,
     turn: u32,
 ) -> Result<Page, RangeFault>
     requires { 1 ≤ turn }
     ensures pairs { IfOk result (λ page. page.pairs
-        ≡ take (page_size mode limit turn) (slice (V.map view.now) range.now.begin range.now.end limit reverse)) }
+        ≡ take (page_size options.mode options.limit turn)
+        (slice (V.map view.now) range.now.begin range.now.end options.limit options.reverse)) }
     ensures more { IfOk result (λ page. page.more
-        ≡ nat_lt (page_size mode limit turn) (length (slice (V.map view.now) range.now.begin range.now.end limit reverse))) }
+        ≡ nat_lt (page_size options.mode options.limit turn)
+        (length (slice (V.map view.now) range.now.begin range.now.end options.limit options.reverse))) }
     ensures rest { IfOk result (λ page. page.more ≡ true
-        → slice (V.map view.now) range.now.begin range.now.end limit reverse
+        → slice (V.map view.now) range.now.begin range.now.end options.limit options.reverse
         ≡ page.pairs ++ slice_behind (V.map view.now) range.now.begin range.now.end
-        (limit - length page.pairs) reverse (last_key page.pairs)) }
-    ensures limited { IfOk result (λ _. lacks_limit mode limit ≡ false) }
-    ensures refused { IfErr result (IsRefused mode limit) }
+        (options.limit - length page.pairs) options.reverse (last_key page.pairs)) }
+    ensures limited { IfOk result (λ _. lacks_limit options.mode options.limit ≡ false) }
+    ensures refused { IfErr result (IsRefused options) }
 {
-    check(mode, limit)?;
-    let size = size_of_page(mode, limit, turn);
-    let taken = walk(view, range, size, reverse)?;
-    let more = goes_on(view, &taken.left, limit, size, reverse)?;
+    check(options)?;
+    let size = size_of_page(options, turn);
+    let taken = walk(view, range, size, options.reverse)?;
+    let more = goes_on(view, &taken.left, options, size)?;
     Ok(Page {
         pairs: taken.pairs,
         more,

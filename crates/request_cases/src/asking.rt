@@ -3,7 +3,7 @@
 use crate::directing::{directory_kind, directory_request};
 use crate::spell_fault::SpellFault;
 use crate::spelling::number;
-use database_rules::{Code, Mode, Selector};
+use database_rules::{Code, Mode, RangeOptions, Selector};
 use directory_types::Layer;
 use fdb_calls::{Request, TxnCall};
 use key_bytes::{Bytes, KeyRange, Pair, Pairs};
@@ -137,15 +137,22 @@ fn mode(word: &[u8]) -> Result<Mode, SpellFault> {
     }
 }
 
+// A limit, `reverse` or `forward`, and a mode, from a place on.
+fn options(words: &[Bytes], place: usize) -> Result<RangeOptions, SpellFault> {
+    Ok(RangeOptions {
+        limit: number(word(words, place)?)?,
+        reverse: is_first(words, place.saturating_add(1), b"reverse", b"forward")?,
+        mode: mode(word(words, place.saturating_add(2))?)?,
+    })
+}
+
 fn get_range(words: &[Bytes]) -> Result<TxnCall, SpellFault> {
     let begin = selector(words, 1)?;
     let end = selector(words, 4)?;
     Ok(TxnCall::GetRange {
         begin,
         end,
-        limit: number(word(words, 7)?)?,
-        reverse: is_first(words, 8, b"reverse", b"forward")?,
-        mode: mode(word(words, 9)?)?,
+        options: options(words, 7)?,
         snapshot: is_snapshot(words, 10),
     })
 }
@@ -154,9 +161,7 @@ fn get_key_range(words: &[Bytes]) -> Result<TxnCall, SpellFault> {
     let range = range(words)?;
     Ok(TxnCall::GetKeyRange {
         range,
-        limit: number(word(words, 3)?)?,
-        reverse: is_first(words, 4, b"reverse", b"forward")?,
-        mode: mode(word(words, 5)?)?,
+        options: options(words, 3)?,
         snapshot: is_snapshot(words, 6),
     })
 }

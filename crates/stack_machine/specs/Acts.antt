@@ -6,24 +6,18 @@ use Rattle.machine_rules.specs.declared.Awaits.TheVariants as awaits
 use Rattle.machine_rules.specs.declared.Wait.{Wait}
 use Rattle.machine_rules.specs.declared.End.TheVariants as end
 use Rattle.machine_rules.specs.Machines.{Registers, Act, Does, Stops, Asks, waits_for, polled_once, with_stack, below_waiting}
-use Rattle.machine_rules.specs.Calls.{Manner}
 use Rattle.stack_items.specs.declared.fault.StackFault.{StackFault}
 use Rattle.stack_items.specs.declared.fault.StackFault.TheVariants as fault
 use Rattle.stack_machine.specs.declared.act.Act.{Act as Answer}
 use Rattle.stack_machine.specs.declared.act.Act.TheVariants as answer
 use Rattle.stack_machine.specs.declared.polls.Polled.{Polled}
 use Rattle.stack_machine.specs.declared.polls.Polled.TheVariants as polled
-use Rattle.stack_machine.specs.declared.reads.Manner.{Manner as KeptManner}
 
 -- an act of the definitions: what was answered, with the registers as they stand then
 abbrev pub act_with : Registers → Answer → Act
 act_with registers answer.Does = Does registers
 act_with registers (answer.Stops end) = Stops registers end
 act_with registers (answer.Asks request awaits) = Asks registers request awaits
-
--- a manner of reading a range, as the definitions have it
-abbrev pub manner_of : KeptManner → Manner
-manner_of manner = record { limit = manner.limit; reverse = manner.reverse; mode = manner.mode }
 
 -- the first poll for a life
 abbrev pub polls_for : ℕ → Answer

@@ -2,25 +2,16 @@
 
 ghost use Rattle.std.specs.Prelude.{◌≡◌};
 ghost use Rattle.machine_rules.specs.Calls.{get_call, get_key_call, get_range_call, get_range_starts_with_call, get_range_selector_call};
-ghost use Rattle.machine_rules.specs.Calls.{is_snapshot, selector_operand, manner_operand, get_between};
+ghost use Rattle.machine_rules.specs.Calls.{is_snapshot, selector_operand, options_operand, get_between};
 ghost use Rattle.stack_items.specs.Looks.{Looks, LooksUnlessFull};
-ghost use Rattle.stack_machine.specs.Acts.{manner_of};
 
 use crate::call::{Call, prefix_end};
-use database_rules::{Mode, Selector};
+use database_rules::{RangeOptions, Selector};
 use fdb_calls::TxnCall;
 use key_bytes::{Key, KeyRange};
 use machine_rules::{Awaits, Scope};
 use stack_items::{Operands, StackFault};
 use std::alloc::Global;
-
-// How a range is read.
-#[derive(Clone, Copy, Debug)]
-pub(crate) struct Manner {
-    limit: u32,
-    reverse: bool,
-    mode: Mode,
-}
 
 pub fn get_call(operands: &mut Operands<'_>, scope: Scope) -> Result<Call, StackFault>
     ensures { LooksUnlessFull (λ call. call) result (get_call scope) operands.old operands.new }
@@ -50,8 +41,8 @@ pub fn get_range_call(operands: &mut Operands<'_>, scope: Scope) -> Result<Call,
 {
     let begin = operands.copied_bytes()?;
     let end = operands.copied_bytes()?;
-    let manner = manner_operand(operands)?;
-    Ok((get_between(scope, begin, end, manner), Awaits::Pairs))
+    let options = options_operand(operands)?;
+    Ok((get_between(scope, begin, end, options), Awaits::Pairs))
 }
 
 pub fn get_range_starts_with_call(
@@ -62,9 +53,9 @@ pub fn get_range_starts_with_call(
     ensures { LooksUnlessFull (λ call. call) result (get_range_starts_with_call scope) operands.old operands.new }
 {
     let begin = operands.copied_bytes()?;
-    let manner = manner_operand(operands)?;
+    let options = options_operand(operands)?;
     let end = prefix_end(alloc, &begin)?;
-    Ok((get_between(scope, begin, end, manner), Awaits::Pairs))
+    Ok((get_between(scope, begin, end, options), Awaits::Pairs))
 }
 
 pub fn get_range_selector_call(
@@ -75,27 +66,23 @@ pub fn get_range_selector_call(
 {
     let begin = selector_operand(operands)?;
     let end = selector_operand(operands)?;
-    let manner = manner_operand(operands)?;
+    let options = options_operand(operands)?;
     let prefix = operands.copied_bytes()?;
     let call = TxnCall::GetRange {
         begin,
         end,
-        limit: manner.limit,
-        reverse: manner.reverse,
-        mode: manner.mode,
+        options,
         snapshot: is_snapshot(scope),
     };
     Ok((call, Awaits::PairsWithin { prefix }))
 }
 
-fn get_between(scope: Scope, begin: Key, end: Key, manner: Manner) -> TxnCall
-    ensures { result ≡ get_between scope begin end (manner_of manner) }
+fn get_between(scope: Scope, begin: Key, end: Key, options: RangeOptions) -> TxnCall
+    ensures { result ≡ get_between scope begin end options }
 {
     TxnCall::GetKeyRange {
         range: KeyRange { begin, end },
-        limit: manner.limit,
-        reverse: manner.reverse,
-        mode: manner.mode,
+        options,
         snapshot: is_snapshot(scope),
     }
 }
@@ -122,13 +109,13 @@ fn selector_operand(operands: &mut Operands<'_>) -> Result<Selector, StackFault>
 }
 
 // How a range is read: the limit, whether reversed, and the mode.
-fn manner_operand(operands: &mut Operands<'_>) -> Result<Manner, StackFault>
-    ensures { Looks manner_of result manner_operand operands.old operands.new }
+fn options_operand(operands: &mut Operands<'_>) -> Result<RangeOptions, StackFault>
+    ensures { Looks (λ options. options) result options_operand operands.old operands.new }
 {
     let limit = operands.limit()?;
     let reverse = operands.flag()?;
     let mode = operands.mode()?;
-    Ok(Manner {
+    Ok(RangeOptions {
         limit,
         reverse,
         mode,

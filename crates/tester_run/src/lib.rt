@@ -15,7 +15,7 @@
 //!   that are left, and what is left to poll for and to log within one instruction. A measure that joins the three would be
 //!   one number that no reader can check.
 //! - Whose turn it is, is looked for among the suspended machines from the last machine on: one step where all ask, at most 64
-//!   where all   others have stopped.
+//!   where all others have stopped.
 //! - The order of a replay is judged while it is followed, since whether a machine has a request at a place depends on the
 //!   run up to it. So an order that can't be followed costs the run of what stands before.
 //! - The order of a run has no condition of its own (`IsOrderOf`): any that leads to a complete run may be it. That it is the
@@ -27,7 +27,7 @@
 //! - A dump begins with room for 64 bytes for each pair that was loaded (`rendered_of`), so that a long dump is seldom moved.
 //!   Where there is no memory for so much at once the dump grows from nothing.
 //! - A machine that was started is seated by a function that isn't inlined (`use_and_suspended`): a suspended machine is large, and
-//!   compiled   code sets a large local to zero wherever its function is entered.
+//!   compiled code sets a large local to zero wherever its function is entered.
 //!
 //! In threads:
 //!

@@ -1,6 +1,6 @@
 -- What a read or a write of a transaction of the code is answered, as a call.
-use Rattle.std.proofs.Common.{◌≡◌, ℕ, Bool, true, cond, List, [], ◌∷◌, ◌++◌, Option, Some, None, Result, Ok, Err, inl, inr, refl, sym, ap, subst, ◌∙◌, append-nil}
-use Rattle.std.specs.Prelude.{pos, false, OnErr}
+use Rattle.std.proofs.Common.{◌≡◌, ℕ, Bool, true, cond, List, [], ◌∷◌, ◌++◌, Option, Some, None, Result, Ok, Err, inl, refl, sym, ap, subst, ◌∙◌, append-nil}
+use Rattle.std.specs.Prelude.{false, OnErr}
 use Rattle.database_rules.specs.declared.AtomicOp.{AtomicOp}
 use Rattle.database_rules.specs.Databases.{Mutation, Atomic}
 use Rattle.database_rules.specs.Reads.{Read}
@@ -9,17 +9,17 @@ use Rattle.database_rules.specs.declared.Code.{Code}
 use Rattle.database_rules.specs.declared.Phase.{Phase}
 use Rattle.database_rules.specs.declared.Phase.TheVariants as phase
 use Rattle.database_rules.specs.declared.Tried.TheVariants as tried
-use Rattle.database_rules.specs.Transactions.{Transaction, first_failing, phase_code, read_code, late_checks, is_read_only, version_in, version_made, with_version, with_phase}
+use Rattle.database_rules.specs.Transactions.{Transaction, first_failing, phase_code, read_code, late_checks, is_read_only, version_made, with_version, with_phase}
 use Rattle.conflict_ranges.specs.Writes.{Index}
 use Rattle.fdb_calls.specs.declared.fault.TrFault.{TrFault}
 use Rattle.fdb_calls.specs.declared.fault.TrFault.TheVariants as fault
 use Rattle.fdb_calls.specs.declared.Reply.{Reply}
 use Rattle.fdb_calls.specs.declared.Reply.TheVariants as reply
 use Rattle.fdb_calls.specs.Answers.{Answered}
-use Rattle.fdb_calls.specs.Calling.{Called, answers, refuses, does_by, read_version_called, committed_version_called, versionstamp_called, read_at_version, read_by, read_called, write_by, atomic_by, next_version, commit_of, commit_at_version, commit_allowed, commit_refused, commit_by, commit_called}
+use Rattle.fdb_calls.specs.Calling.{Called, answers, refuses, does_by, committed_version_called, versionstamp_called, read_at_version, read_by, read_called, write_by, atomic_by, next_version, commit_of, commit_at_version, commit_allowed, commit_refused, commit_by, commit_called}
 use Rattle.version_store.specs.Versions.{Versions}
 use Rattle.txn_core.specs.declared.answer.Answer.{Answer}
-use Rattle.txn_core.specs.Answering.{MayLack, Tells, TellsOf}
+use Rattle.txn_core.specs.Answering.{Tells, TellsOf}
 use Rattle.txn_core.specs.Judging.{Promises, TakesVersion, commit_refusal, conflict_refusal}
 use Rattle.txn_core.specs.Stands.{Kept, StandsFor, Keeps, StandsStill, Answers}
 use Rattle.txn_core.specs.Accesses.{Writes, WritesNamed, IsRefusedBy}
@@ -99,20 +99,6 @@ pub left_standing : {A : Type 0} (replied : A → Reply) (result : Result A TrFa
 left_standing replied (Ok value) kept store index setting t called refused answered keeps = absurd cc
 left_standing replied (Err (fault.Code code)) kept store index setting t called refused answered keeps = absurd cc
 left_standing replied (Err fault.NoMemory) kept store index setting t called refused answered keeps = (inl answered, keeps)
-
--- a call that may take the version stood for the transaction before, or for that one with its version taken
-pub left_lacking : (result : Result ℕ TrFault) (kept : Kept) (setting : Setting) (t : Transaction) → MayLack result
-    → Answered (λ version. reply.Version (pos version)) result (StandsFor kept) t (read_version_called setting t)
-    → StandsStill (StandsFor kept) setting t
-left_lacking (Ok version) kept setting t lacks answered = still (phase_code t.phase) answered.1
-  where
-    still : (code : Option ℕ)
-        → StandsFor kept (does_by code t (with_version setting t) (reply.Version (pos (version_in setting t)))).transaction
-        → StandsStill (StandsFor kept) setting t
-    still (Some code) stands = inl stands
-    still None stands = inr stands
-left_lacking (Err (fault.Code code)) kept setting t lacks answered = absurd lacks
-left_lacking (Err fault.NoMemory) kept setting t lacks answered = inl answered
 
 -- a promise is answered as is said
 pub promise_answered : (result : Result ℕ Code) (answer : Answer) (kept : Kept) (store : Versions) (index : Index)

@@ -1,5 +1,5 @@
 -- How the answer of a call is made of its result.
-use Rattle.std.specs.Prelude.{◌≡◌, ℕ, ⊤, Bool, true, false, Result, Ok, Err}
+use Rattle.std.specs.Prelude.{◌≡◌, ℕ, Bool, true, false, Result, Ok, Err}
 use Rattle.database_rules.specs.declared.Code.{Code}
 use Rattle.fdb_calls.specs.declared.fault.TrFault.{TrFault}
 use Rattle.fdb_calls.specs.declared.fault.TrFault.TheVariants as fault
@@ -19,12 +19,6 @@ abbrev pub Tells : {A : Type 0} → (A → Reply) → Result A TrFault → Answe
 Tells replied (Ok value) answer = (answer.reply ≡ replied value) × (answer.drew_life ≡ false)
 Tells replied (Err refusal) answer = IsToldBy refusal answer
 
--- want of memory, or a value that isn't answered for want of memory
-abbrev pub MayLack : {A : Type 0} → Result A TrFault → Type 0
-MayLack (Ok value) = ⊤
-MayLack (Err (fault.Code code)) = ⊥
-MayLack (Err fault.NoMemory) = ⊤
-
 -- no life was drawn, and the reply is the life that was promised, or the fault
 abbrev pub TellsOf : Result ℕ Code → Answer → Type 0
 TellsOf (Ok life) answer = (answer.reply ≡ reply.Life life) × (answer.drew_life ≡ false)
@@ -34,6 +28,6 @@ TellsOf (Err code) answer = (answer.reply ≡ reply.Fault code) × (answer.drew_
 abbrev pub is_read : TxnCall → Bool
 is_read (call.Get key snapshot) = true
 is_read (call.GetKey selector snapshot) = true
-is_read (call.GetRange begin end limit reverse mode snapshot) = true
-is_read (call.GetKeyRange range limit reverse mode snapshot) = true
+is_read (call.GetRange begin end options snapshot) = true
+is_read (call.GetKeyRange range options snapshot) = true
 is_read _ = false

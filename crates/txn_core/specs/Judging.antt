@@ -51,6 +51,11 @@ IsLowPhase phase.Active = ⊤
 IsLowPhase phase.Cancelled = ⊤
 IsLowPhase (phase.Tried outcome) = IsLow outcome
 
+-- a read version is a number of 63 bits, where there is one: a store has no greater one, and it is set as an `i64`
+abbrev pub IsLowVersion : Option ℕ → Type 0
+IsLowVersion None = ⊤
+IsLowVersion (Some version) = version < 2 ^ 63
+
 -- a new life was begun where the error may be retried; else its code was answered
 abbrev pub Handled : {A : Type 0} → Result A Code → Kept → Called → Type 0
 Handled (Ok _) kept called = (called.reply ≡ reply.Done) × (called.lives ≡ 1) × StandsFor kept called.transaction

@@ -1,9 +1,9 @@
 //! What a call was answered.
 
-ghost use Rattle.std.specs.Prelude.{◌≡◌, pos, true, false, Err, IfOk, OnErr};
+ghost use Rattle.std.specs.Prelude.{◌≡◌, ◌^◌, ◌<◌, pos, true, false, Err, IfOk, OnErr};
 ghost use Rattle.fdb_calls.specs.declared.fault.TrFault.TheVariants as fault;
 ghost use Rattle.fdb_calls.specs.declared.Reply.TheVariants as reply;
-ghost use Rattle.txn_core.specs.Answering.{IsToldBy, MayLack, Tells, TellsOf};
+ghost use Rattle.txn_core.specs.Answering.{IsToldBy, Tells, TellsOf};
 
 use database_rules::Code;
 use fdb_calls::{Reply, TrFault};
@@ -98,16 +98,14 @@ impl Answer {
         }
     }
 
-    // What a call for a version was answered. A version of 64 bits, which no memory can reach, is want of memory.
+    // What a call for a version was answered, which has 63 bits.
     pub(crate) fn of_version(taken: Result<u64, TrFault>) -> Result<Answer, AllocError>
+        requires { IfOk taken (λ version. version < 2 ^ 63) }
         ensures ok { IfOk result (Tells (λ version. reply.Version (pos version)) taken) }
-        ensures err { OnErr result (MayLack taken) }
+        ensures err { OnErr result (taken ≡ Err fault.NoMemory) }
     {
         match taken {
-            Ok(version) => match i64::try_from(version) {
-                Ok(version) => Ok(Answer::version(version)),
-                Err(_) => Err(AllocError),
-            },
+            Ok(version) => Ok(Answer::version(version as i64)),
             Err(fault) => Answer::of_fault(fault),
         }
     }

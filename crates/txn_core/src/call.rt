@@ -10,7 +10,6 @@ ghost use Rattle.txn_core.specs.Answering.{is_read};
 ghost use Rattle.txn_core.specs.Stands.{StandsFor, StandsStill, Keeps, Answers};
 
 use crate::answer::Answer;
-use crate::reading::Manner;
 use crate::txn::Txn;
 use conflict_ranges::WriteIndex;
 use database_rules::Code;
@@ -84,29 +83,18 @@ impl Txn {
             TxnCall::GetRange {
                 begin,
                 end,
-                limit,
-                reverse,
-                mode,
+                options,
                 snapshot,
-            } => {
-                let manner = Manner::new(*limit, *reverse, *mode);
-                Answer::of_pairs(self.get_range(store, begin, end, manner, *snapshot))
-            }
+            } => Answer::of_pairs(self.get_range(store, begin, end, *options, *snapshot)),
             TxnCall::GetKeyRange {
                 range,
-                limit,
-                reverse,
-                mode,
+                options,
                 snapshot,
-            } => {
-                let manner = Manner::new(*limit, *reverse, *mode);
-                Answer::of_pairs(self.get_key_range(store, range, manner, *snapshot))
-            }
+            } => Answer::of_pairs(self.get_key_range(store, range, *options, *snapshot)),
             _ => unreachable!(),
         }
     }
 
-    // A version of 64 bits, which no memory can reach, is answered as want of memory.
     fn answer_read_version(&mut self, store: &Store) -> Result<Answer, AllocError>
         ensures ok { IfOk result (λ answer. (t : rules.Transaction) (index : Index) (setting : Setting) → StandsFor self.old t
             → Keeps store.now index setting → Answers answer self.new store.now index setting (read_version_called setting t)) }

@@ -3,8 +3,7 @@
 ghost use Rattle.std.specs.Prelude.{◌≡◌, IfOk};
 ghost use Rattle.database_rules.specs.Intervals as rules;
 
-use crate::reading::Manner;
-use database_rules::Selector;
+use database_rules::{RangeOptions, Selector};
 use key_bytes::{Bytes, Key, KeyRange, Pairs};
 use range_read::start_key;
 use std::alloc::{AllocError, Global};
@@ -52,19 +51,19 @@ fn last_key<'a>(key: &'a Key, pairs: &'a Pairs) -> &'a Key
 // The whole range, or as far as pairs that reach the limit.
 pub(crate) fn slice_interval(
     range: &KeyRange,
-    manner: Manner,
+    options: RangeOptions,
     pairs: &Pairs,
 ) -> Result<KeyRange, AllocError>
     ensures { IfOk result (λ interval. interval
-        ≡ rules.slice_interval range.now.begin range.now.end manner.limit manner.reverse pairs.now) }
+        ≡ rules.slice_interval range.now.begin range.now.end options.limit options.reverse pairs.now) }
 {
-    let is_reached = manner.limit > 0 && pairs.len() >= manner.limit as usize;
+    let is_reached = options.limit > 0 && pairs.len() >= options.limit as usize;
     if !is_reached {
         let begin = range.begin.copy()?;
         let end = range.end.copy()?;
         return Ok(KeyRange { begin, end });
     }
-    if manner.reverse {
+    if options.reverse {
         let begin = last_key(&range.end, pairs).copy()?;
         let end = range.end.copy()?;
         return Ok(KeyRange { begin, end });

@@ -16,25 +16,26 @@
 //! - A transaction's calls stand twice: `Txn::call` takes a call as a request has it and commits, and `TxnOn` has the calls
 //!   by their names, for layers over any `Tr`. Both use the same functions.
 //! - A read is answered before it is asked whether it may be: an unreadable key has no value then, and the answer is dropped
-//!   where the interval that it gives has an unreadable key. So one walk along the mutations tells that and finds the   undecided
-//!   keys. A read by snapshot asks `hides` alone, which looks at nothing where no mutation has a versionstamp; an   ordinary read
+//!   where the interval that it gives has an unreadable key. So one walk along the mutations tells that and finds the undecided
+//!   keys. A read by snapshot asks `hides` alone, which looks at nothing where no mutation has a versionstamp; an ordinary read
 //!   between two boundaries of the mutations takes one search (`lies_open`).
-//! - Whether a mutation declares its keys stands beside the mutations, in a list of its own of the same length, so that
+//! - Whether a mutation adds a write conflict range stands beside the mutations, in a list of its own of the same length, so that
 //!   `write_map` knows nothing of conflicts.
-//! - That a commit is read-only is compared as one fact, and not apart whether there is a mutation and whether a range was
-//!   declared: no check asks for more. `judge` says beside its verdict that the life is active where no check fails, which
+//! - That a commit is read-only is compared as one fact, and not apart whether there is a mutation and whether a
+//!   write conflict range was added: no check asks for more. `judge` says beside its verdict that the life is active where no check fails, which
 //!   `tried` asks for.
-//! - A read version of 2^63 or more, which no memory reaches, is answered as want of memory: a reply has a version of 64 bits
-//!   with a sign.
+//! - A version is below 2^63, since a client sees it as an `i64`: a store keeps its last version below that, and a transaction
+//!   its read version (`IsLowVersion`), which is the last version of a store or was set from an `i64` above 0. So the answer to
+//!   a call for the read version never lacks a number.
 //! - A commit with a versionstamp makes a second map of its mutations, each filled in (`WriteMap::filled`), since a key that
 //!   is filled in has its place among the others only then.
 //! - A commit takes all its memory before any answer changes (`Txn::make_version`). The changes are made apart;
 //!   `Store::reserve` takes what `install` needs; the last call that can be refused is `WriteIndex::install_all` or
 //!   `install_key`. What follows takes no memory. So after a refusal the transaction stands as before, and the store and the
 //!   index keep what they kept (clause `err`).
-//! - A commit makes a list of what it declares, the ranges of its mutations and then those that it was told to declare, and
+//! - A commit makes a list of its write conflict ranges, those of its mutations and then those that were added to it, and
 //!   gives it to the index. The ranges may meet: no answer of the index is another where a key is given the same version
-//!   twice. A commit that declares one key alone makes no list (`only_write_conflicts`).
+//!   twice. A commit with one key alone among them makes no list (`only_write_conflicts`).
 //! - A reset keeps the room of up to sixteen mutations for the next life, and gives back that of more (`Txn::reset`). No
 //!   clause says what room is kept.
 #![tactic(auto)]

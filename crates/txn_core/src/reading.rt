@@ -1,6 +1,6 @@
 //! Reads: each is refused by its code, or answered from what the transaction sees at its version.
 
-ghost use Rattle.std.specs.Prelude.{◌≡◌, ℕ, false, min, IfOk};
+ghost use Rattle.std.specs.Prelude.{◌≡◌, ◌^◌, ◌<◌, ℕ, false, min, IfOk};
 ghost use Rattle.std.specs.FinMap as finite;
 ghost use Rattle.database_rules.specs.States.{seen};
 ghost use Rattle.database_rules.specs.Histories.{Setting};
@@ -16,7 +16,7 @@ ghost use Rattle.txn_core.specs.Stands.{Keeps};
 use crate::codes::{is_end_outside, read_code};
 use crate::intervals::{selector_interval, slice_interval};
 use crate::txn::Txn;
-use database_rules::{Code, FUTURE_VERSION, Mode, Selector};
+use database_rules::{Code, FUTURE_VERSION, RangeOptions, Selector};
 use fdb_calls::TrFault;
 use key_bytes::{Bytes, Key, KeyRange, Pairs, is_below};
 use range_read::{RangeFault, all, lacks_limit, resolve};
@@ -24,30 +24,11 @@ use ryw_view::{NearView, View, ViewFault};
 use std::alloc::AllocError;
 use version_store::Store;
 
-// How a range is read: up to a limit, in order or reversed, in a streaming mode.
-#[derive(Clone, Copy)]
-pub(crate) struct Manner {
-    pub(crate) limit: u32,
-    pub(crate) reverse: bool,
-    pub(crate) mode: Mode,
-}
-
-impl Manner {
-    pub(crate) fn new(limit: u32, reverse: bool, mode: Mode) -> Manner
-        ensures { result ≡ record { limit = limit; reverse = reverse; mode = mode } }
-    {
-        Manner {
-            limit,
-            reverse,
-            mode,
-        }
-    }
-}
-
 impl Txn {
     // The version of its reads: the one that was taken, or else the last one.
     pub(crate) fn version_over(&self, store: &Store) -> u64
-        ensures { result ≡ version_of self.now store.now }
+        ensures version { result ≡ version_of self.now store.now }
+        ensures low { result < 2 ^ 63 }
     {
         self.version.unwrap_or(store.last())
     }
@@ -76,20 +57,27 @@ impl Txn {
         }
     }
 
-    // The pairs of a range that it sees: a walk from the one end of the range to the other.
-    fn pairs(&self, store: &Store, range: &KeyRange, manner: Manner) -> Result<Pairs, AllocError>
-        requires { lacks_limit manner.mode manner.limit ≡ false }
-        ensures { IfOk result (λ pairs. pairs ≡ slice (seen_by self.now store.now) range.now.begin range.now.end manner.limit manner.reverse) }
+    // The pairs of a range that it sees: a walk from the one end of the range to the other. The options lack no limit.
+    fn pairs(
+        &self,
+        store: &Store,
+        range: &KeyRange,
+        options: RangeOptions,
+    ) -> Result<Pairs, AllocError>
+        requires { lacks_limit options.mode options.limit ≡ false }
+        ensures { IfOk result (λ pairs. pairs
+            ≡ slice (seen_by self.now store.now) range.now.begin range.now.end options.limit options.reverse) }
     {
-        let begin = if manner.reverse {
+        let begin = if options.reverse {
             &range.end
         } else {
             &range.begin
         };
-        let view = NearView::new(self.view(store), begin, manner.reverse)?;
-        match all(&view, range, manner.limit, manner.reverse, manner.mode) {
+        let view = NearView::new(self.view(store), begin, options.reverse)?;
+        match all(&view, range, options) {
             Ok(pairs) => Ok(pairs),
-            Err(RangeFault::NoLimit | RangeFault::NoMemory) => Err(AllocError),
+            Err(RangeFault::NoLimit) => unreachable!(),
+            Err(RangeFault::NoMemory) => Err(AllocError),
         }
     }
 
@@ -157,18 +145,18 @@ impl Txn {
         &mut self,
         store: &Store,
         range: &KeyRange,
-        manner: Manner,
+        options: RangeOptions,
         snapshot: bool,
     ) -> Result<Pairs, TrFault>
         ensures { (index : Index) (setting : Setting) → Keeps store.now index setting
-            → Reads read.PairsAre result self.old self.new setting (lacks_limit manner.mode manner.limit) snapshot
-            (read.GetKeyRange range.now.begin range.now.end manner.limit manner.reverse) }
+            → Reads read.PairsAre result self.old self.new setting (lacks_limit options.mode options.limit) snapshot
+            (read.GetKeyRange range.now.begin range.now.end options.limit options.reverse) }
     {
         let is_outside = is_end_outside(range.begin.as_slice())
             || is_end_outside(range.end.as_slice());
-        self.admit(store, is_outside, lacks_limit(manner.mode, manner.limit))?;
-        let pairs = self.pairs(store, range, manner)?;
-        let interval = slice_interval(range, manner, &pairs)?;
+        self.admit(store, is_outside, lacks_limit(options))?;
+        let pairs = self.pairs(store, range, options)?;
+        let interval = slice_interval(range, options, &pairs)?;
         self.rest_on(store, &[interval], snapshot)?;
         Ok(pairs)
     }
@@ -179,25 +167,25 @@ impl Txn {
         store: &Store,
         begin: &Selector,
         end: &Selector,
-        manner: Manner,
+        options: RangeOptions,
         snapshot: bool,
     ) -> Result<Pairs, TrFault>
         ensures { (index : Index) (setting : Setting) → Keeps store.now index setting
-            → Reads read.PairsAre result self.old self.new setting (lacks_limit manner.mode manner.limit) snapshot
-            (read.GetRange begin.now end.now manner.limit manner.reverse) }
+            → Reads read.PairsAre result self.old self.new setting (lacks_limit options.mode options.limit) snapshot
+            (read.GetRange begin.now end.now options.limit options.reverse) }
     {
         let is_outside = is_end_outside(begin.key.as_slice()) || is_end_outside(end.key.as_slice());
-        self.admit(store, is_outside, lacks_limit(manner.mode, manner.limit))?;
+        self.admit(store, is_outside, lacks_limit(options))?;
         let alloc = self.allocator();
         let range = KeyRange {
             begin: self.key(store, begin)?,
             end: self.key(store, end)?,
         };
-        let pairs = self.pairs(store, &range, manner)?;
+        let pairs = self.pairs(store, &range, options)?;
         let interval = [
             selector_interval(alloc, begin, &range.begin)?,
             selector_interval(alloc, end, &range.end)?,
-            slice_interval(&range, manner, &pairs)?,
+            slice_interval(&range, options, &pairs)?,
         ];
         self.rest_on(store, &interval, snapshot)?;
         Ok(pairs)

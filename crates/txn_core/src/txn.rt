@@ -45,7 +45,7 @@ impl Drop for Txn {
 
 impl Model for Txn {
     ghost use Rattle.std.specs.Prelude.{◌≡◌, ◌≤◌, length};
-    ghost use Rattle.txn_core.specs.Judging.{IsLowPhase};
+    ghost use Rattle.txn_core.specs.Judging.{IsLowPhase, IsLowVersion};
     ghost use Rattle.txn_core.specs.Stands.{Kept};
 
     ghost Value = { Kept };
@@ -62,7 +62,8 @@ impl Model for Txn {
       phase = t.phase;
     } };
 
-    ghost invariant = { λ t. (t.size ≤ 10000001) × (length t.adds_conflict.items ≡ length t.edits.mutations) × IsLowPhase t.phase };
+    ghost invariant = { λ t. (t.size ≤ 10000001) × (length t.adds_conflict.items ≡ length t.edits.mutations) × IsLowPhase t.phase
+        × IsLowVersion t.version };
 }
 
 impl Txn {

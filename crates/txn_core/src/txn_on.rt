@@ -1,6 +1,6 @@
 //! A transaction on a store, by its calls.
 
-ghost use Rattle.std.specs.Prelude.{◌≡◌, ℕ, pos, true, false, List, IfOk, OnOk};
+ghost use Rattle.std.specs.Prelude.{◌≡◌, ◌^◌, ◌<◌, ℕ, pos, true, false, List, IfOk, OnOk};
 ghost use Rattle.std.specs.List.{All};
 ghost use Rattle.database_rules.specs.declared.Phase.TheVariants as phase;
 ghost use Rattle.database_rules.specs.Databases.{do_all};
@@ -18,11 +18,10 @@ ghost use Rattle.version_store.specs.Versions.{at, last_of};
 ghost use Rattle.txn_core.specs.Judging.{IsLow, Judged, Promises};
 ghost use Rattle.txn_core.specs.Stands.{StandsFor, Keeps};
 
-use crate::reading::Manner;
 use crate::txn::Txn;
 use crate::verdict::Verdict;
 use conflict_ranges::{RangeSet, WriteIndex};
-use database_rules::{AtomicOp, Code, Mode, Selector, Tried};
+use database_rules::{AtomicOp, Code, Mode, RangeOptions, Selector, Tried};
 use fdb_calls::{Tr, TrFault};
 use key_bytes::{Bytes, Key, KeyRange, Pairs};
 use std::alloc::AllocError;
@@ -98,47 +97,44 @@ impl TxnOn<'_> {
         self.txn.get_key(self.store, selector, snapshot)
     }
 
-    /// Returns the pairs between the keys that two selectors mean, up to `limit`, or all where it is 0, in the
-    /// order of their keys, or in the other order where `reverse` holds (`fdb_transaction_get_range`). 2210
+    /// Returns the pairs between the keys that two selectors mean, up to `options.limit`, or all where it is 0, in the
+    /// order of their keys, or in the other order where `options.reverse` holds (`fdb_transaction_get_range`). 2210
     /// where the mode is `Exact` and the limit is 0; else the mode changes nothing.
     pub fn get_range(
         &mut self,
         begin: &Selector,
         end: &Selector,
-        limit: u32,
-        reverse: bool,
-        mode: Mode,
+        options: RangeOptions,
         snapshot: bool,
     ) -> Result<Pairs, TrFault>
         ensures answer { (setting : Setting) (t : Transaction) → StandsFor self.old.txn.now t → Keeps self.old.store.now self.old.index.now setting
             → Answered reply.PairsAre result (StandsFor self.new.txn.now) t
-            (read_called setting t (lacks_limit mode limit) snapshot (read.GetRange begin.now end.now limit reverse)) }
+            (read_called setting t (lacks_limit options.mode options.limit) snapshot
+            (read.GetRange begin.now end.now options.limit options.reverse)) }
         ensures same_txn { self.new.txn.ghost_name ≡ self.old.txn.ghost_name }
         ensures same_store { self.new.store ≡ self.old.store }
         ensures same_index { self.new.index ≡ self.old.index }
     {
-        let manner = Manner::new(limit, reverse, mode);
-        self.txn.get_range(self.store, begin, end, manner, snapshot)
+        self.txn
+            .get_range(self.store, begin, end, options, snapshot)
     }
 
-    /// Reads the pairs between two keys, as `get_range` does between the keys that two selectors mean.
+    /// Returns the pairs between two keys, as `get_range` does between the keys that two selectors mean.
     pub fn get_key_range(
         &mut self,
         range: &KeyRange,
-        limit: u32,
-        reverse: bool,
-        mode: Mode,
+        options: RangeOptions,
         snapshot: bool,
     ) -> Result<Pairs, TrFault>
         ensures answer { (setting : Setting) (t : Transaction) → StandsFor self.old.txn.now t → Keeps self.old.store.now self.old.index.now setting
             → Answered reply.PairsAre result (StandsFor self.new.txn.now) t
-            (read_called setting t (lacks_limit mode limit) snapshot (read.GetKeyRange range.now.begin range.now.end limit reverse)) }
+            (read_called setting t (lacks_limit options.mode options.limit) snapshot
+            (read.GetKeyRange range.now.begin range.now.end options.limit options.reverse)) }
         ensures same_txn { self.new.txn.ghost_name ≡ self.old.txn.ghost_name }
         ensures same_store { self.new.store ≡ self.old.store }
         ensures same_index { self.new.index ≡ self.old.index }
     {
-        let manner = Manner::new(limit, reverse, mode);
-        self.txn.get_key_range(self.store, range, manner, snapshot)
+        self.txn.get_key_range(self.store, range, options, snapshot)
     }
 }
 
@@ -170,6 +166,7 @@ impl TxnOn<'_> {
     pub fn read_version(&mut self) -> Result<u64, TrFault>
         ensures answer { (setting : Setting) (t : Transaction) → StandsFor self.old.txn.now t → Keeps self.old.store.now self.old.index.now setting
             → Answered (λ version. reply.Version (pos version)) result (StandsFor self.new.txn.now) t (read_version_called setting t) }
+        ensures low { IfOk result (λ version. version < 2 ^ 63) }
         ensures same_txn { self.new.txn.ghost_name ≡ self.old.txn.ghost_name }
         ensures same_store { self.new.store ≡ self.old.store }
         ensures same_index { self.new.index ≡ self.old.index }
@@ -228,8 +225,12 @@ impl Tr for TxnOn<'_> {
         reverse: bool,
         snapshot: bool,
     ) -> Result<Pairs, TrFault> {
-        let manner = Manner::new(limit, reverse, Mode::WantAll);
-        self.txn.get_key_range(self.store, range, manner, snapshot)
+        let options = RangeOptions {
+            limit,
+            reverse,
+            mode: Mode::WantAll,
+        };
+        self.txn.get_key_range(self.store, range, options, snapshot)
     }
 
     fn set(&mut self, key: &[u8], value: &[u8]) -> Result<(), TrFault> {

@@ -1,6 +1,6 @@
 //! The versions of a transaction: that of its reads, that of its commit, and the versionstamp that is promised.
 
-ghost use Rattle.std.specs.Prelude.{◌≡◌, ℕ, pos};
+ghost use Rattle.std.specs.Prelude.{◌≡◌, ◌^◌, ◌<◌, ℕ, pos, IfOk};
 ghost use Rattle.database_rules.specs.Histories.{Setting};
 ghost use Rattle.database_rules.specs.Transactions as rules;
 ghost use Rattle.conflict_ranges.specs.Writes.{Index};
@@ -22,8 +22,9 @@ impl Txn {
     // Takes the read version, and answers it, also where it is above the last one.
     #[tactic(auto, unfolding(database_rules::specs::Transactions::phase_code))]
     pub(crate) fn read_version(&mut self, store: &Store) -> Result<u64, TrFault>
-        ensures { (index : Index) (setting : Setting) → Keeps store.now index setting
+        ensures answer { (index : Index) (setting : Setting) → Keeps store.now index setting
             → Calls (λ version. reply.Version (pos version)) result self.old self.new (read_version_called setting) }
+        ensures low { IfOk result (λ version. version < 2 ^ 63) }
     {
         if let Some(code) = phase_code(self.phase) {
             return Err(TrFault::Code(code));

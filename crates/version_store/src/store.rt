@@ -48,6 +48,7 @@ impl Drop for Store {
 }
 
 impl Model for Store {
+    ghost use Rattle.std.specs.Prelude.{◌^◌, ◌<◌};
     ghost use Rattle.slab.specs.Slab.{slab_len};
     ghost use Rattle.version_store.specs.Versions.{Versions};
     ghost use Rattle.version_store.specs.Chains.{chains_of, room_of, Sound};
@@ -62,7 +63,7 @@ impl Model for Store {
       reserved = store.reserved.items;
     } };
 
-    ghost invariant = { λ store. Sound store.nodes.slots (slab_len store.nodes) store.last store.tree.entries };
+    ghost invariant = { λ store. Sound store.nodes.slots (slab_len store.nodes) store.last store.tree.entries × (store.last < 2 ^ 63) };
 }
 
 impl Store {
@@ -106,10 +107,12 @@ impl Store {
         })
     }
 
-    /// Returns the last version.
+    /// Returns the last version, which is below 2^63, as a version is an `i64` for a client (API reference,
+    /// "fdb_transaction_get_read_version").
     #[tactic(auto, unfolding(crate::specs::Versions::last_of))]
     pub fn last(&self) -> u64
-        ensures { result ≡ last_of self.now }
+        ensures value { result ≡ last_of self.now }
+        ensures low { result < 2 ^ 63 }
     {
         self.last
     }
@@ -232,11 +235,11 @@ impl Store {
         add_room(&mut self.nodes, changes.len())
     }
 
-    /// Adds one version: the database before, after these changes. They were reserved, and nothing was
-    /// installed since. It takes no search.
+    /// Adds one version, which is below 2^63: the database before, after these changes. They were reserved, and
+    /// nothing was installed since. It takes no search.
     pub fn install(&mut self, changes: Changes)
         requires ready { IsReadyFor self.old changes }
-        requires next { last_of self.old + 1 < 2 ^ 64 }
+        requires next { last_of self.old + 1 < 2 ^ 63 }
         ensures last { last_of self.new ≡ last_of self.old + 1 }
         ensures oldest { oldest_of self.new ≡ oldest_of self.old }
         ensures before { (version : ℕ) → version ≤ last_of self.old

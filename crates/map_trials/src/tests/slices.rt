@@ -9,7 +9,8 @@ use super::{key_of, range_of};
 use key_bytes::{Bytes, Key, KeyRange, Pair, Pairs};
 use key_map::KeyMap;
 use range_read::{
-    Mode, OrderedView, RangeFault, Selector, Taken, all, is_full, lacks_limit, page, resolve,
+    Mode, OrderedView, RangeFault, RangeOptions, Selector, Taken, all, is_full, lacks_limit, page,
+    resolve,
 };
 use std::alloc::{AllocError, Global};
 use std::test::Fail;
@@ -117,14 +118,12 @@ fn selects_by_place(rt: HostRuntime) -> Result<(), Fail> {
 
 // ---- slices and pages
 
-// How a range is read: its ends, the limit, whether in reverse, and the mode.
+// A range of keys of one byte, and how it is read.
 #[derive(Clone, Copy)]
-struct Manner {
+struct Asked {
     begin: u8,
     end: u8,
-    limit: u32,
-    reverse: bool,
-    mode: Mode,
+    options: RangeOptions,
 }
 
 // Each key of one byte.
@@ -137,25 +136,31 @@ fn shown(alloc: Global, pairs: &Pairs) -> Result<Vec<u8>, AllocError> {
 }
 
 // The keys of a slice of the keys from `a` to `g`, or why there is none.
-fn slice(alloc: Global, manner: Manner) -> Result<Vec<u8>, RangeFault> {
-    let range = range_of(alloc, &[manner.begin], &[manner.end])?;
+fn slice(alloc: Global, asked: Asked) -> Result<Vec<u8>, RangeFault> {
+    let range = range_of(alloc, &[asked.begin], &[asked.end])?;
     let view = seen_of(alloc, b"abcdefg")?;
-    let pairs = all(&view, &range, manner.limit, manner.reverse, manner.mode)?;
+    let pairs = all(&view, &range, asked.options)?;
     Ok(shown(alloc, &pairs)?)
 }
 
-const fn make_manner(begin: u8, end: u8, limit: u32, reverse: bool, mode: Mode) -> Manner {
-    Manner {
-        begin,
-        end,
+const fn make_options(limit: u32, reverse: bool, mode: Mode) -> RangeOptions {
+    RangeOptions {
         limit,
         reverse,
         mode,
     }
 }
 
-fn is_slice(alloc: Global, manner: Manner, wanted: &[u8]) -> bool {
-    match slice(alloc, manner) {
+const fn ask(begin: u8, end: u8, options: RangeOptions) -> Asked {
+    Asked {
+        begin,
+        end,
+        options,
+    }
+}
+
+fn is_slice(alloc: Global, asked: Asked, wanted: &[u8]) -> bool {
+    match slice(alloc, asked) {
         Ok(keys) => keys.as_slice() == wanted,
         Err(_) => false,
     }
@@ -164,19 +169,18 @@ fn is_slice(alloc: Global, manner: Manner, wanted: &[u8]) -> bool {
 #[test]
 fn reads_slices(rt: HostRuntime) {
     let alloc = rt.alloc();
-    assert!(rt;
-        is_slice(
-            alloc,
-            make_manner(b'b', b'e', 2, false, Mode::WantAll),
-            b"bc"
-        )
-    );
-    assert!(rt; is_slice(alloc, make_manner(b'b', b'e', 2, true, Mode::Exact), b"dc"));
-    assert!(rt; is_slice(alloc, make_manner(b'b', b'e', 0, true, Mode::Small), b"dcb"));
-    assert!(rt; is_slice(alloc, make_manner(b'h', b'a', 0, false, Mode::WantAll), b""));
-    let refused = slice(alloc, make_manner(b'a', b'h', 0, false, Mode::Exact)).err();
+    let first_two = make_options(2, false, Mode::WantAll);
+    assert!(rt; is_slice(alloc, ask(b'b', b'e', first_two), b"bc"));
+    let last_two = make_options(2, true, Mode::Exact);
+    assert!(rt; is_slice(alloc, ask(b'b', b'e', last_two), b"dc"));
+    let reversed = make_options(0, true, Mode::Small);
+    assert!(rt; is_slice(alloc, ask(b'b', b'e', reversed), b"dcb"));
+    let whole = make_options(0, false, Mode::WantAll);
+    assert!(rt; is_slice(alloc, ask(b'h', b'a', whole), b""));
+    let unlimited = make_options(0, false, Mode::Exact);
+    let refused = slice(alloc, ask(b'a', b'h', unlimited)).err();
     assert_eq!(rt; refused, Some(RangeFault::NoLimit));
-    assert!(rt; lacks_limit(Mode::Exact, 0) && is_full(2, 2) && !is_full(0, 2));
+    assert!(rt; lacks_limit(unlimited) && is_full(2, 2) && !is_full(0, 2));
 }
 
 const TWENTY: &[u8] = b"abcdefghijklmnopqrst";
@@ -190,7 +194,8 @@ fn size_of_page(
 ) -> Result<(usize, bool), RangeFault> {
     let range = range_of(alloc, b"", b"\xFF")?;
     let view = seen_of(alloc, TWENTY)?;
-    let found = page(&view, &range, limit, false, mode, turn.max(1))?;
+    let options = make_options(limit, false, mode);
+    let found = page(&view, &range, options, turn.max(1))?;
     Ok((found.pairs.len(), found.more))
 }
 

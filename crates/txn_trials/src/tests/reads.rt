@@ -1,7 +1,7 @@
 //! What reads answer, and which read conflict ranges a transaction has then.
 
 use super::*;
-use database_rules::{Mode, Selector};
+use database_rules::{Mode, RangeOptions, Selector};
 
 // Whether the value of a key is this.
 fn reads<T: Tr>(tr: &mut T, key: &[u8], value: Option<&[u8]>) -> Result<bool, TrFault> {
@@ -89,7 +89,12 @@ fn edit<T: Tr>(tr: &mut T) -> Result<(), TrFault> {
 
 // Whether the two pairs with the highest keys between `a` and `h` are these.
 fn reads_two(on: &mut TxnOn<'_>, range: &KeyRange, entries: &[Entry]) -> Result<bool, TrFault> {
-    let pairs = on.get_key_range(range, 2, true, Mode::Small, false)?;
+    let options = RangeOptions {
+        limit: 2,
+        reverse: true,
+        mode: Mode::Small,
+    };
+    let pairs = on.get_key_range(range, options, false)?;
     Ok(are_entries(&pairs, entries))
 }
 
@@ -137,7 +142,12 @@ fn reads_between(
     end: &Selector,
     entries: &[Entry],
 ) -> Result<bool, TrFault> {
-    let pairs = on.get_range(begin, end, 0, false, Mode::WantAll, true)?;
+    let options = RangeOptions {
+        limit: 0,
+        reverse: false,
+        mode: Mode::WantAll,
+    };
+    let pairs = on.get_range(begin, end, options, true)?;
     Ok(are_entries(&pairs, entries))
 }
 

@@ -2,7 +2,7 @@
 
 use super::{push_pair, range_of};
 use conflict_ranges::WriteIndex;
-use database_rules::{AtomicOp, Mode};
+use database_rules::{AtomicOp, Mode, RangeOptions};
 use fdb_calls::{Tr, TrFault};
 use key_bytes::{KeyRange, Pair, Pairs};
 use std::alloc::{AllocError, Global};
@@ -130,8 +130,12 @@ impl Large {
 
     // The pairs from a number on, by snapshot.
     fn pairs_from(&mut self, range: &KeyRange) -> Result<Pairs, TrFault> {
-        self.on()
-            .get_key_range(range, LIMIT as u32, false, Mode::WantAll, true)
+        let options = RangeOptions {
+            limit: LIMIT as u32,
+            reverse: false,
+            mode: Mode::WantAll,
+        };
+        self.on().get_key_range(range, options, true)
     }
 
     // Whether the pairs from a number on are those of the model.

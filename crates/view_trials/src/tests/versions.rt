@@ -45,7 +45,7 @@ fn changes_of(alloc: Global, given: &[Given]) -> Result<Changes, AllocError> {
 // Commits changes where there is a version left.
 pub fn commit(store: &mut Store, changes: Changes) -> Result<(), AllocError> {
     store.reserve(&changes)?;
-    if store.last() < u64::MAX {
+    if store.last() < i64::MAX as u64 {
         store.install(changes);
     }
     Ok(())

@@ -2,7 +2,7 @@
 
 use super::{key_of, push_pair, range_of};
 use atomic_ops::has_room;
-use database_rules::{AtomicOp, Mode};
+use database_rules::{AtomicOp, Mode, RangeOptions};
 use key_bytes::{Bytes, Key, KeyRange, Pair, Pairs};
 use range_read::{OrderedView, all};
 use ryw_view::{NearView, View, ViewFault};
@@ -141,7 +141,12 @@ fn pair_text(found: Result<Option<Pair>, AllocError>, alloc: Global) -> Result<B
 // The one pair of the slice from a key on.
 fn slice_text<V: OrderedView>(alloc: Global, view: &V, key: &Key) -> Result<Bytes, AllocError> {
     let range = range_of(alloc, key.as_slice(), b"\xFF")?;
-    match all(view, &range, 1, false, Mode::WantAll) {
+    let options = RangeOptions {
+        limit: 1,
+        reverse: false,
+        mode: Mode::WantAll,
+    };
+    match all(view, &range, options) {
         Ok(pairs) => pair_text(Ok(pairs.into_vec().pop()), alloc),
         Err(_) => Err(AllocError),
     }

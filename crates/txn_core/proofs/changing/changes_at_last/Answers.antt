@@ -4,4 +4,4 @@ use Rattle.txn_core.proofs.changing.changes_at_last.Goals as goal
 
 pub invariant_of-view : goal.invariant_of-view
 unfolding oldest_of
-invariant_of-view c = record { readable = (omega arith, omega (arith, c.last.ensures)) }
+invariant_of-view c = record { readable = (omega arith, omega (arith, c.last.ensures.value)) }

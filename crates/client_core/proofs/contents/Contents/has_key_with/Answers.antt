@@ -9,12 +9,12 @@ use Rattle.client_core.proofs.Prefixes.{first_key_tells, last_readable}
 use Rattle.client_core.proofs.contents.Contents.has_key_with.Goals as goal
 
 pub unreachable-requires : goal.unreachable-requires
-unreachable-requires c = last_readable c.args.self.now.store c.last.result c.in-Err.field-0 c.last.ensures c.in-Err.ensures.err
+unreachable-requires c = last_readable c.args.self.now.store c.last.result c.in-Err.field-0 c.last.ensures.value c.in-Err.ensures.err
 
 pub returns : goal.returns
 returns c =
     let prefix = c.args.prefix.now in
     c.begins.ensures ∙ ap (first_begins prefix) c.in-Ok.ensures.ok.1
     ∙ ap (λ (version : ℕ). first_begins prefix (first (filter (λ e. key_le prefix e.0) (finite.entries (at c.args.self.now.store version)))))
-    c.last.ensures
+    c.last.ensures.value
     ∙ sym (first_key_tells prefix (at c.args.self.now.store (last_of c.args.self.now.store)))

@@ -4,7 +4,6 @@ use Rattle.database_rules.specs.Modes.{lacks_limit}
 use Rattle.database_rules.specs.Reads as read
 use Rattle.fdb_calls.specs.declared.Reply.TheVariants as reply
 use Rattle.fdb_calls.specs.Calling.{Called, called}
-use Rattle.txn_core.specs.declared.reading.Manner.{Manner}
 use Rattle.txn_core.specs.Accesses.{Reads}
 use Rattle.txn_core.specs.Stands.{Answers}
 use Rattle.txn_core.proofs.Answering.{told_in_place, left_standing, read_in_place}
@@ -43,33 +42,35 @@ returns-in-GetKey-clause-err c = on_err_weaker c.of_key.result (λ refused t ind
 pub returns-in-GetRange-clause-ok : goal.returns-in-GetRange-clause-ok
 unfolding called
 returns-in-GetRange-clause-ok c = IfOk-weaker c.of_pairs.result _ _ (λ answer tells t index setting life stands keeps.
-    let reads : Reads read.PairsAre c.get_range.result c.args.self.now c.get_range.new.self setting (lacks_limit c.in-GetRange.mode c.in-GetRange.limit) c.in-GetRange.snapshot (read.GetRange c.in-GetRange.begin c.in-GetRange.end c.in-GetRange.limit c.in-GetRange.reverse) =
-    subst (λ (m : Manner). Reads read.PairsAre c.get_range.result c.args.self.now c.get_range.new.self setting (lacks_limit m.mode m.limit) c.in-GetRange.snapshot (read.GetRange c.in-GetRange.begin c.in-GetRange.end m.limit m.reverse))
-    c.new-manner.ensures (c.get_range.ensures index setting keeps) in
+    let reads : Reads read.PairsAre c.get_range.result c.args.self.now c.get_range.new.self setting (lacks_limit c.in-GetRange.options.mode c.in-GetRange.options.limit) c.in-GetRange.snapshot
+    (read.GetRange c.in-GetRange.begin c.in-GetRange.end c.in-GetRange.options.limit c.in-GetRange.options.reverse) =
+    c.get_range.ensures index setting keeps in
     subst (λ (made : Called). Answers answer c.get_range.new.self c.args.store.now index setting made) (sym (ap (called setting life t) c.in-GetRange.is))
     (told_in_place reply.PairsAre c.get_range.result answer c.get_range.new.self c.args.store.now index setting t _
-    (read_in_place setting t (lacks_limit c.in-GetRange.mode c.in-GetRange.limit) c.in-GetRange.snapshot (read.GetRange c.in-GetRange.begin c.in-GetRange.end c.in-GetRange.limit c.in-GetRange.reverse)) keeps (reads t stands) tells)) c.of_pairs.ensures.ok
+    (read_in_place setting t (lacks_limit c.in-GetRange.options.mode c.in-GetRange.options.limit) c.in-GetRange.snapshot
+    (read.GetRange c.in-GetRange.begin c.in-GetRange.end c.in-GetRange.options.limit c.in-GetRange.options.reverse)) keeps (reads t stands) tells)) c.of_pairs.ensures.ok
 
 pub returns-in-GetRange-clause-err : goal.returns-in-GetRange-clause-err
 returns-in-GetRange-clause-err c = on_err_weaker c.of_pairs.result (λ refused t index setting stands keeps.
-    let reads : Reads read.PairsAre c.get_range.result c.args.self.now c.get_range.new.self setting (lacks_limit c.in-GetRange.mode c.in-GetRange.limit) c.in-GetRange.snapshot (read.GetRange c.in-GetRange.begin c.in-GetRange.end c.in-GetRange.limit c.in-GetRange.reverse) =
-    subst (λ (m : Manner). Reads read.PairsAre c.get_range.result c.args.self.now c.get_range.new.self setting (lacks_limit m.mode m.limit) c.in-GetRange.snapshot (read.GetRange c.in-GetRange.begin c.in-GetRange.end m.limit m.reverse))
-    c.new-manner.ensures (c.get_range.ensures index setting keeps) in
+    let reads : Reads read.PairsAre c.get_range.result c.args.self.now c.get_range.new.self setting (lacks_limit c.in-GetRange.options.mode c.in-GetRange.options.limit) c.in-GetRange.snapshot
+    (read.GetRange c.in-GetRange.begin c.in-GetRange.end c.in-GetRange.options.limit c.in-GetRange.options.reverse) =
+    c.get_range.ensures index setting keeps in
     (left_standing reply.PairsAre c.get_range.result c.get_range.new.self c.args.store.now index setting t _ refused (reads t stands) keeps).0) c.of_pairs.ensures.err
 
 pub returns-in-GetKeyRange-clause-ok : goal.returns-in-GetKeyRange-clause-ok
 unfolding called
 returns-in-GetKeyRange-clause-ok c = IfOk-weaker c.of_pairs-in-GetKeyRange.result _ _ (λ answer tells t index setting life stands keeps.
-    let reads : Reads read.PairsAre c.get_key_range.result c.args.self.now c.get_key_range.new.self setting (lacks_limit c.in-GetKeyRange.mode c.in-GetKeyRange.limit) c.in-GetKeyRange.snapshot (read.GetKeyRange c.in-GetKeyRange.range.begin c.in-GetKeyRange.range.end c.in-GetKeyRange.limit c.in-GetKeyRange.reverse) =
-    subst (λ (m : Manner). Reads read.PairsAre c.get_key_range.result c.args.self.now c.get_key_range.new.self setting (lacks_limit m.mode m.limit) c.in-GetKeyRange.snapshot (read.GetKeyRange c.in-GetKeyRange.range.begin c.in-GetKeyRange.range.end m.limit m.reverse))
-    c.new-manner-in-GetKeyRange.ensures (c.get_key_range.ensures index setting keeps) in
+    let reads : Reads read.PairsAre c.get_key_range.result c.args.self.now c.get_key_range.new.self setting (lacks_limit c.in-GetKeyRange.options.mode c.in-GetKeyRange.options.limit) c.in-GetKeyRange.snapshot
+    (read.GetKeyRange c.in-GetKeyRange.range.begin c.in-GetKeyRange.range.end c.in-GetKeyRange.options.limit c.in-GetKeyRange.options.reverse) =
+    c.get_key_range.ensures index setting keeps in
     subst (λ (made : Called). Answers answer c.get_key_range.new.self c.args.store.now index setting made) (sym (ap (called setting life t) c.in-GetKeyRange.is))
     (told_in_place reply.PairsAre c.get_key_range.result answer c.get_key_range.new.self c.args.store.now index setting t _
-    (read_in_place setting t (lacks_limit c.in-GetKeyRange.mode c.in-GetKeyRange.limit) c.in-GetKeyRange.snapshot (read.GetKeyRange c.in-GetKeyRange.range.begin c.in-GetKeyRange.range.end c.in-GetKeyRange.limit c.in-GetKeyRange.reverse)) keeps (reads t stands) tells)) c.of_pairs-in-GetKeyRange.ensures.ok
+    (read_in_place setting t (lacks_limit c.in-GetKeyRange.options.mode c.in-GetKeyRange.options.limit) c.in-GetKeyRange.snapshot
+    (read.GetKeyRange c.in-GetKeyRange.range.begin c.in-GetKeyRange.range.end c.in-GetKeyRange.options.limit c.in-GetKeyRange.options.reverse)) keeps (reads t stands) tells)) c.of_pairs-in-GetKeyRange.ensures.ok
 
 pub returns-in-GetKeyRange-clause-err : goal.returns-in-GetKeyRange-clause-err
 returns-in-GetKeyRange-clause-err c = on_err_weaker c.of_pairs-in-GetKeyRange.result (λ refused t index setting stands keeps.
-    let reads : Reads read.PairsAre c.get_key_range.result c.args.self.now c.get_key_range.new.self setting (lacks_limit c.in-GetKeyRange.mode c.in-GetKeyRange.limit) c.in-GetKeyRange.snapshot (read.GetKeyRange c.in-GetKeyRange.range.begin c.in-GetKeyRange.range.end c.in-GetKeyRange.limit c.in-GetKeyRange.reverse) =
-    subst (λ (m : Manner). Reads read.PairsAre c.get_key_range.result c.args.self.now c.get_key_range.new.self setting (lacks_limit m.mode m.limit) c.in-GetKeyRange.snapshot (read.GetKeyRange c.in-GetKeyRange.range.begin c.in-GetKeyRange.range.end m.limit m.reverse))
-    c.new-manner-in-GetKeyRange.ensures (c.get_key_range.ensures index setting keeps) in
+    let reads : Reads read.PairsAre c.get_key_range.result c.args.self.now c.get_key_range.new.self setting (lacks_limit c.in-GetKeyRange.options.mode c.in-GetKeyRange.options.limit) c.in-GetKeyRange.snapshot
+    (read.GetKeyRange c.in-GetKeyRange.range.begin c.in-GetKeyRange.range.end c.in-GetKeyRange.options.limit c.in-GetKeyRange.options.reverse) =
+    c.get_key_range.ensures index setting keeps in
     (left_standing reply.PairsAre c.get_key_range.result c.get_key_range.new.self c.args.store.now index setting t _ refused (reads t stands) keeps).0) c.of_pairs-in-GetKeyRange.ensures.err

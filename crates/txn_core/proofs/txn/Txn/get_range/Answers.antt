@@ -12,27 +12,27 @@ use Rattle.txn_core.proofs.txn.Txn.get_range.Goals as goal
 
 pub returns-in_err-admit : goal.returns-in_err-admit
 returns-in_err-admit c index setting keeps t stands =
-    let manner = c.args.manner in
+    let options = c.args.options in
     answered_on_return _ c.from_residual.result c.in_err-admit.field-0.0 _ t _ (search rules)
     (admit_answered (Unit {0}) (λ pairs. reply.PairsAre pairs) c.in_err-admit.field-0.0 c.args.self.now c.admit.new.self c.args.store.now index setting
-    t (lacks_limit manner.mode manner.limit) c.args.snapshot (read.GetRange c.args.begin.now c.args.end.now manner.limit manner.reverse) _ (search rules)
+    t (lacks_limit options.mode options.limit) c.args.snapshot (read.GetRange c.args.begin.now c.args.end.now options.limit options.reverse) _ (search rules)
     stands keeps (rw c.lacks_limit.ensures at (c.in_err-admit.ensures {u = tt})))
 
 pub returns-in_err-rest_on : goal.returns-in_err-rest_on
 unfolding answer
 returns-in_err-rest_on c index setting keeps t stands =
-    let old = c.args.self.now in let store = c.args.store.now in let manner = c.args.manner in
+    let old = c.args.self.now in let store = c.args.store.now in let options = c.args.options in
     let begin = c.args.begin.now in let end = c.args.end.now in
     let admits = rw c.lacks_limit.ensures at (c.in_ok-admit.ensures {u = tt}) in
     let from : c.in_ok-key.field-0 ≡ select (seen_by old store) begin =
     (c.in_ok-key.ensures {u = tt}) ∙ ap (λ kept. select (seen_by kept store) begin) admits.2 in
     let to : c.in_ok-key-2.field-0 ≡ select (seen_by old store) end =
     (c.in_ok-key-2.ensures {u = tt}) ∙ ap (λ kept. select (seen_by kept store) end) admits.2 in
-    let got : c.in_ok-pairs.pairs ≡ slice (seen_by old store) (select (seen_by old store) begin) (select (seen_by old store) end) manner.limit manner.reverse =
-    (c.in_ok-pairs.ensures {u = tt}) ∙ (λ i. slice (seen_by (admits.2 i) store) (from i) (to i) manner.limit manner.reverse) in
-    let admitted : IsAdmitted old c.admit.new.self store _ (lacks_limit manner.mode manner.limit)
+    let got : c.in_ok-pairs.pairs ≡ slice (seen_by old store) (select (seen_by old store) begin) (select (seen_by old store) end) options.limit options.reverse =
+    (c.in_ok-pairs.ensures {u = tt}) ∙ (λ i. slice (seen_by (admits.2 i) store) (from i) (to i) options.limit options.reverse) in
+    let admitted : IsAdmitted old c.admit.new.self store _ (lacks_limit options.mode options.limit)
     (c.in_ok-selector_interval.field-0 ∷ c.in_ok-selector_interval-2.field-0 ∷ c.in_ok-slice_interval.field-0 ∷ [])
-    (read.GetRange begin end manner.limit manner.reverse) = record {
+    (read.GetRange begin end options.limit options.reverse) = record {
       outside_is = search rules;
       early = admits.0;
       ahead = admits.1;
@@ -40,29 +40,29 @@ returns-in_err-rest_on c index setting keeps t stands =
       interval_is = λ i.
           ((c.in_ok-selector_interval.ensures {u = tt}) ∙ ap (intervals.selector_interval begin) from) i
           ∷ ((c.in_ok-selector_interval-2.ensures {u = tt}) ∙ ap (intervals.selector_interval end) to) i
-          ∷ ((c.in_ok-slice_interval.ensures {u = tt}) ∙ (λ j. intervals.slice_interval (from j) (to j) manner.limit manner.reverse (got j))) i
+          ∷ ((c.in_ok-slice_interval.ensures {u = tt}) ∙ (λ j. intervals.slice_interval (from j) (to j) options.limit options.reverse (got j))) i
           ∷ [];
     } in
     answered_on_return _ c.from_residual-in_err-rest_on.result c.in_err-rest_on.field-0.0 _ t _ (search rules)
-    (rest_refused (λ pairs. reply.PairsAre pairs) old c.admit.new.self c.rest_on.new.self store index setting t (lacks_limit manner.mode manner.limit)
-    c.args.snapshot (read.GetRange begin end manner.limit manner.reverse) _ _ stands keeps admitted (Unit {0}) c.in_err-rest_on.field-0.0
+    (rest_refused (λ pairs. reply.PairsAre pairs) old c.admit.new.self c.rest_on.new.self store index setting t (lacks_limit options.mode options.limit)
+    c.args.snapshot (read.GetRange begin end options.limit options.reverse) _ _ stands keeps admitted (Unit {0}) c.in_err-rest_on.field-0.0
     (c.in_err-rest_on.ensures {u = tt}))
 
 pub returns : goal.returns
 unfolding answer
 returns c index setting keeps t stands =
-    let old = c.args.self.now in let store = c.args.store.now in let manner = c.args.manner in
+    let old = c.args.self.now in let store = c.args.store.now in let options = c.args.options in
     let begin = c.args.begin.now in let end = c.args.end.now in
     let admits = rw c.lacks_limit.ensures at (c.in_ok-admit.ensures {u = tt}) in
     let from : c.in_ok-key.field-0 ≡ select (seen_by old store) begin =
     (c.in_ok-key.ensures {u = tt}) ∙ ap (λ kept. select (seen_by kept store) begin) admits.2 in
     let to : c.in_ok-key-2.field-0 ≡ select (seen_by old store) end =
     (c.in_ok-key-2.ensures {u = tt}) ∙ ap (λ kept. select (seen_by kept store) end) admits.2 in
-    let got : c.in_ok-pairs.pairs ≡ slice (seen_by old store) (select (seen_by old store) begin) (select (seen_by old store) end) manner.limit manner.reverse =
-    (c.in_ok-pairs.ensures {u = tt}) ∙ (λ i. slice (seen_by (admits.2 i) store) (from i) (to i) manner.limit manner.reverse) in
-    let admitted : IsAdmitted old c.admit.new.self store _ (lacks_limit manner.mode manner.limit)
+    let got : c.in_ok-pairs.pairs ≡ slice (seen_by old store) (select (seen_by old store) begin) (select (seen_by old store) end) options.limit options.reverse =
+    (c.in_ok-pairs.ensures {u = tt}) ∙ (λ i. slice (seen_by (admits.2 i) store) (from i) (to i) options.limit options.reverse) in
+    let admitted : IsAdmitted old c.admit.new.self store _ (lacks_limit options.mode options.limit)
     (c.in_ok-selector_interval.field-0 ∷ c.in_ok-selector_interval-2.field-0 ∷ c.in_ok-slice_interval.field-0 ∷ [])
-    (read.GetRange begin end manner.limit manner.reverse) = record {
+    (read.GetRange begin end options.limit options.reverse) = record {
       outside_is = search rules;
       early = admits.0;
       ahead = admits.1;
@@ -70,9 +70,9 @@ returns c index setting keeps t stands =
       interval_is = λ i.
           ((c.in_ok-selector_interval.ensures {u = tt}) ∙ ap (intervals.selector_interval begin) from) i
           ∷ ((c.in_ok-selector_interval-2.ensures {u = tt}) ∙ ap (intervals.selector_interval end) to) i
-          ∷ ((c.in_ok-slice_interval.ensures {u = tt}) ∙ (λ j. intervals.slice_interval (from j) (to j) manner.limit manner.reverse (got j))) i
+          ∷ ((c.in_ok-slice_interval.ensures {u = tt}) ∙ (λ j. intervals.slice_interval (from j) (to j) options.limit options.reverse (got j))) i
           ∷ [];
     } in
-    rest_answered (λ pairs. reply.PairsAre pairs) old c.admit.new.self c.rest_on.new.self store index setting t (lacks_limit manner.mode manner.limit)
-    c.args.snapshot (read.GetRange begin end manner.limit manner.reverse) _ _ stands keeps admitted c.in_ok-pairs.pairs (read.PairsAre c.in_ok-pairs.pairs)
+    rest_answered (λ pairs. reply.PairsAre pairs) old c.admit.new.self c.rest_on.new.self store index setting t (lacks_limit options.mode options.limit)
+    c.args.snapshot (read.GetRange begin end options.limit options.reverse) _ _ stands keeps admitted c.in_ok-pairs.pairs (read.PairsAre c.in_ok-pairs.pairs)
     c.in_ok-rest_on.field-0 refl (ap (λ pairs. read.PairsAre pairs) got) (c.in_ok-rest_on.ensures {u = tt})

@@ -21,10 +21,10 @@ returns-clause-ok c setting t stands keeps =
     let kept = c.args.self.now in let store = c.args.store.now in let index = c.args.index.now in
     let reserved = c.in_ok-reserve.ensures {u = tt} in
     let same = keeps_same store c.reserve.new.self index index setting keeps reserved.last reserved.reads (λ key. refl) in
-    let stamp = c.stamp_of-stamp.ensures ∙ ap (λ n. stamp_of (n + 1)) (c.last-version.ensures ∙ keeps.last_is) in
+    let stamp = c.stamp_of-stamp.ensures ∙ ap (λ n. stamp_of (n + 1)) (c.last-version.ensures.value ∙ keeps.last_is) in
     let ten : length (stamp_of (next_version setting)) ≡ 10 = stamp_length (next_version setting) in
-    let version = ap (λ n. n + 1) (c.last-version.ensures ∙ keeps.last_is) in
-    let made = ap (λ n. n + 1) (c.last-version.ensures ∙ sym reserved.last) in
+    let version = ap (λ n. n + 1) (c.last-version.ensures.value ∙ keeps.last_is) in
+    let made = ap (λ n. n + 1) (c.last-version.ensures.value ∙ sym reserved.last) in
     let base = reserved.reads (last_of c.reserve.new.self) ∙ ap (at store) reserved.last in (
       subst (λ v. StandsFor c.tried.new.self (with_phase t (phase.Tried (tried.Version v)))) version (c.tried.ensures t stands),
       keeps_next c.reserve.new.self c.install.new.self index c.add_write_conflicts.new.index setting

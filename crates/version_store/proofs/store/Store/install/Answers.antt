@@ -12,6 +12,10 @@ pub overflow_add-version : goal.overflow_add-version
 unfolding last_of
 overflow_add-version c = let same = ap last_of c.self.view_is in omega (arith, same, c.requires.next)
 
+pub invariant_of-self : goal.invariant_of-self
+unfolding last_of
+invariant_of-self c = let same = ap last_of c.self.view_is in (c.put_changes.ensures.sound, omega (arith, same, c.requires.next))
+
 -- what was reserved, over the parts
 ready : (c : After-into_vec) → (length (changes_of c.into_vec.result.items) ≤ room_of c.self.inside.nodes)
     × ArePlacesOf c.self.inside.tree.entries (changes_of c.into_vec.result.items) c.self.inside.reserved.items
@@ -29,7 +33,7 @@ put_changes-requires-clause-places c =
 
 pub put_changes-requires-clause-sound : goal.put_changes-requires-clause-sound
 put_changes-requires-clause-sound c =
-    let store = c.self.inside in Sound-later store.nodes.slots store.tree.entries (slab_len store.nodes) store.last c.self.invariant
+    let store = c.self.inside in Sound-later store.nodes.slots store.tree.entries (slab_len store.nodes) store.last c.self.invariant.0
 
 pub returns-clause-last : goal.returns-clause-last
 unfolding last_of
@@ -52,5 +56,5 @@ returns-clause-after c =
     ap (λ last. database_of (last + 1) new.nodes.slots store.tree.entries) (sym (ap last_of c.self.view_is))
     ∙ c.put_changes.ensures.now
     ∙ ap (changed (changes_of c.into_vec.result.items))
-    (database_of-later store.nodes.slots store.tree.entries _ store.last c.self.invariant)
+    (database_of-later store.nodes.slots store.tree.entries _ store.last c.self.invariant.0)
     ∙ (λ i. changed (c.into_vec.ensures i) (at (c.self.view_is i) (last_of (c.self.view_is i))))
