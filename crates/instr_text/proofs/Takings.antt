@@ -314,7 +314,7 @@ disassembled_was pairs text are e =
 
 -- ---- the pairs of sections are taken apart
 
-length-pairs : (prefix : List ℕ) (i : ℕ) (instructions : List Instruction) → length (pairs_from prefix i instructions) ≡ length instructions
+pub length-pairs : (prefix : List ℕ) (i : ℕ) (instructions : List Instruction) → length (pairs_from prefix i instructions) ≡ length instructions
 length-pairs prefix i [] = refl
 length-pairs prefix i (one ∷ more) = ap suc (length-pairs prefix (i + 1) more)
 
