@@ -12,3 +12,4 @@ pub mod TakingSections
 pub mod TakingSteps
 pub mod Takings
 pub mod Texts
+pub mod FirstBad

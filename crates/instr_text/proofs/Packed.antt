@@ -40,7 +40,7 @@ push_is_text : is_utf8 push ≡ true
 unfolding is_utf8 chars encode_utf8
 push_is_text = refl
 
-name_is_text : (one : Instruction) → Takes one → IsUtf8 one.name
+pub name_is_text : (one : Instruction) → Takes one → IsUtf8 one.name
 name_is_text one takes = ⊎_elim
     (λ h. IsUtf8-from_is_utf8 one.name (ap is_utf8 h.0 ∙ push_is_text))
     (λ h. IsUtf8-from_is_utf8 one.name (among_texts names one.name names_are_texts h.0)) takes

@@ -181,7 +181,7 @@ with_text_ok : (front : List ℕ) (read : Result (List ℕ) ℕ) (text : List �
 with_text_ok front (Ok others) text e = (others, (refl, cc))
 with_text_ok front (Err line) text e = absurd cc
 
-taken_on_ok : (line : ℕ) (one : Option (List ℕ × Taken)) (more : Taken → Result (List ℕ) ℕ) (text : List ℕ) → taken_on line one more ≡ Ok text
+pub taken_on_ok : (line : ℕ) (one : Option (List ℕ × Taken)) (more : Taken → Result (List ℕ) ℕ) (text : List ℕ) → taken_on line one more ≡ Ok text
     → (lines : List ℕ) × ((next : Taken) × ((others : List ℕ) × ((one ≡ Some (lines, next)) × (more next ≡ Ok others) × (lines ++ others ≡ text))))
 taken_on_ok line None more text e = absurd cc
 taken_on_ok line (Some one) more text e =
@@ -314,7 +314,7 @@ disassembled_was pairs text are e =
 
 -- ---- the pairs of sections are taken apart
 
-length-pairs : (prefix : List ℕ) (i : ℕ) (instructions : List Instruction) → length (pairs_from prefix i instructions) ≡ length instructions
+pub length-pairs : (prefix : List ℕ) (i : ℕ) (instructions : List Instruction) → length (pairs_from prefix i instructions) ≡ length instructions
 length-pairs prefix i [] = refl
 length-pairs prefix i (one ∷ more) = ap suc (length-pairs prefix (i + 1) more)
 
@@ -381,7 +381,7 @@ fails_at line taken (pair ∷ pairs) fault e = by (λ next h. fails_at (line + 1
               ∙ ap (with_text one.0) later.bad;
         }
 
-all_taken : {A : Type 0} (P : A → Type 0) (n : ℕ) (xs : List A) → AllByRecursion P xs → AllByRecursion P (take n xs)
+pub all_taken : {A : Type 0} (P : A → Type 0) (n : ℕ) (xs : List A) → AllByRecursion P xs → AllByRecursion P (take n xs)
 all_taken P zero xs h = tt
 all_taken P (suc n) [] h = tt
 all_taken P (suc n) (x ∷ xs) h = (h.0, all_taken P n xs h.1)

@@ -1,11 +1,11 @@
 //! Taking pairs apart as text, one after the other.
 
-ghost use Rattle.std.specs.Prelude.{◌≡◌, ℕ, List, ◌≤◌, length, Ok, IfOk, IfErr};
+ghost use Rattle.std.specs.Prelude.{◌≡◌, ℕ, List, ◌≤◌, length, Ok, Err, IfOk, IfErr};
 ghost use Rattle.std.specs.List.{AllByRecursion};
 ghost use Rattle.key_bytes.specs.Entries.{entries_of};
 ghost use Rattle.instr_grammar.specs.Texts.{Section, AreSections, asm, text_of};
 ghost use Rattle.instr_grammar.specs.Taking.{disassembled};
-ghost use Rattle.instr_text.specs.Taken.{IsPairOfBytes, GivesText, Stops};
+ghost use Rattle.instr_text.specs.Taken.{IsPairOfBytes, GivesText, IsFirstBad, Stops};
 
 use crate::fault::DisFault;
 use crate::taking::Taker;
@@ -49,6 +49,8 @@ pub fn disassemble(alloc: Global, pairs: &Pairs) -> Result<Bytes, DisFault>
     ensures only { (sections : List Section) → AreSections sections → pairs.now ≡ asm sections → GivesText result (Ok (text_of sections)) }
     // The pairs before the one that is refused are those of some text, and with it they are those of none.
     ensures stops { IfErr result (Stops pairs.now) }
+    // Where there is such a pair, it is refused, unless memory runs out.
+    ensures refused { (line : ℕ) → IsFirstBad pairs.now line → GivesText result (Err line) }
     // Which pair that is.
     ensures exact { GivesText result (disassembled pairs.now) }
 {

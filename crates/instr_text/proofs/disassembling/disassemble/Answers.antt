@@ -8,6 +8,7 @@ use Rattle.instr_text.specs.declared.fault.DisFault.{DisFault}
 use Rattle.instr_text.specs.declared.fault.DisFault.TheVariants as faults
 use Rattle.instr_text.specs.Taken.{IsPairOfBytes, GivesText, Stops}
 use Rattle.instr_text.proofs.Takings.{disassembled_was, disassembled_again, first_bad}
+use Rattle.instr_text.proofs.FirstBad.{bad_refused}
 use Rattle.instr_text.proofs.disassembling.disassemble.Goals as goal
 
 was_text : (pairs : List Entry) (result : Result (List ℕ) DisFault) → AllByRecursion IsPairOfBytes pairs → GivesText result (disassembled pairs)
@@ -34,3 +35,8 @@ pub returns-clause-stops : goal.returns-clause-stops
 returns-clause-stops c =
     stops_at c.args.pairs.now c.take_all.result
     (subst (λ (p : List Entry). AllByRecursion IsPairOfBytes p) c.as_slice.ensures c.shows_bytes.ensures) (omega arith) c.take_all.ensures
+
+pub returns-clause-refused : goal.returns-clause-refused
+returns-clause-refused c = λ line first.
+    let are = subst (λ (p : List Entry). AllByRecursion IsPairOfBytes p) c.as_slice.ensures c.shows_bytes.ensures in
+    subst (λ read. GivesText c.take_all.result read) (bad_refused c.args.pairs.now line are (omega arith) first) c.take_all.ensures

@@ -1,0 +1,2 @@
+pub mod MachineNames
+pub mod Runs
