@@ -11,7 +11,12 @@
 //!
 //! - A core stands for a world by a relation (`StandsFor`), and keeps no history: a later commit is judged by the newest
 //!   commit of each key alone.
-//! - After want of memory nothing is said of a core, and the run ends with status 6.
+//! - A core that ran out of memory once is spent (`is_spent` in `CoreModel`), and answers each later request with NoMemory. Its
+//!   history is as before the call (`history` of `Core::apply`). Nothing is said of its named transactions, of the machines that
+//!   were started and of the random words: a directory call or a batch of LOG_STACK may have made some of its steps, and no
+//!   further request can see them. The run ends with status 6.
+//! - No step of the world is replied to with NoMemory, so that reply says that memory ran out, and no other does (`spent`).
+//!   Behind a commit the core notes what became of the life, which takes no memory, since a commit draws none.
 //! - What became of a life is kept to the end, in a list with a place of 16 bytes at most for each life that was drawn: an
 //!   item may wait for any of them. A `_DATABASE` call and a batch of LOG_STACK draw a life too.
 //! - The machines that were started are kept by their prefixes, in a list by their numbers, in the world as in the core.
