@@ -63,9 +63,9 @@ fn newest_of_declared(alloc: Global) -> Result<[u64; 2], AllocError> {
     let (ranges, key) = ([range_of(alloc, b"a", b"c")?], key_of(alloc, b"b")?);
     let range = range_of(alloc, b"b", b"c")?;
     let mut index = WriteIndex::new(alloc);
-    index.declare_all(&ranges, 4)?;
+    index.install_all(&ranges, 4)?;
     let first = index.newest_in(&range);
-    index.declare_key(&key, 7)?;
+    index.install_key(&key, 7)?;
     Ok([first, index.newest_in(&range)])
 }
 
