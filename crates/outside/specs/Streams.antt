@@ -7,8 +7,8 @@ use Rattle.outside.specs.declared.source.Taken.{Taken}
 use Rattle.outside.specs.declared.source.Taken.TheVariants as taken
 use Rattle.outside.specs.declared.sink.Put.{Put}
 use Rattle.outside.specs.declared.sink.Put.TheVariants as put
-use Rattle.outside.specs.declared.transfers.Input.{Input}
-use Rattle.outside.specs.declared.transfers.Input.TheVariants as input
+use Rattle.outside.specs.declared.transfers.ReadOutcome.{ReadOutcome}
+use Rattle.outside.specs.declared.transfers.ReadOutcome.TheVariants as outcome
 
 -- a read gave at least one byte, and no more than there was room for
 abbrev pub GotWithin : Taken → ℕ → Type 0
@@ -64,11 +64,11 @@ abbrev pub ConsumesFewer : ℕ → Option (List ℕ) → Option (List ℕ) → T
 ConsumesFewer limit before after = (bytes : List ℕ) × (length bytes < limit) × Consumes before after bytes
 
 -- what was read of a source, up to a limit
-abbrev pub IsInput : Input → ℕ → Option (List ℕ) → Option (List ℕ) → Type 0
-IsInput (input.Whole bytes) limit before after = IsWhole limit before after bytes.items
-IsInput (input.Full bytes) limit before after = IsFull limit before after bytes.items
-IsInput input.Failed limit before after = ConsumesFewer limit before after
-IsInput input.NoMemory limit before after = ConsumesFewer limit before after
+abbrev pub IsReadOutcome : ReadOutcome → ℕ → Option (List ℕ) → Option (List ℕ) → Type 0
+IsReadOutcome (outcome.Whole bytes) limit before after = IsWhole limit before after bytes.items
+IsReadOutcome (outcome.Full bytes) limit before after = IsFull limit before after bytes.items
+IsReadOutcome outcome.Failed limit before after = ConsumesFewer limit before after
+IsReadOutcome outcome.NoMemory limit before after = ConsumesFewer limit before after
 
 -- a reader or a writer, and how many of its calls failed so far
 pub record Counted (T : Type 0) : Type 0 where

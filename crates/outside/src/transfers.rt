@@ -4,15 +4,15 @@ ghost use Rattle.std.specs.Prelude.{◌≡◌, ◌-◌, ◌<◌, ◌≤◌, leng
 ghost use Rattle.std.specs.Bool.{OnTrue, OnFalse};
 ghost use Rattle.std.specs.Io.KnownBytes.{Appends};
 ghost use Rattle.outside.specs.Counts.{Rose};
-ghost use Rattle.outside.specs.Streams.{AppendsFront, IsInput, GotWithin, Reads};
+ghost use Rattle.outside.specs.Streams.{AppendsFront, GotWithin, IsReadOutcome, Reads};
 
 use crate::sink::{Put, Sink};
 use crate::source::{Source, Taken};
 use std::alloc::{AllocError, Global};
 
-/// What `read_all` answers.
+/// What `read_all` came to.
 #[derive(Debug, Drop)]
-pub enum Input {
+pub enum ReadOutcome {
     /// All the bytes that were left, fewer than the limit.
     Whole(Vec<u8>),
     /// As many bytes as the limit says. There may be more.
@@ -25,10 +25,10 @@ pub enum Input {
 
 /// Reads `source` to its end, or until `limit` bytes were read, and no further. Where a read fails or
 /// memory runs out it stops, and the bytes that it took before, fewer than `limit`, are lost.
-pub fn read_all<S: Source>(alloc: Global, source: &mut S, limit: usize) -> Input
-    ensures input { IsInput result limit (S.left source.old) (S.left source.new) }
+pub fn read_all<S: Source>(alloc: Global, source: &mut S, limit: usize) -> ReadOutcome
+    ensures outcome { IsReadOutcome result limit (S.left source.old) (S.left source.new) }
     ensures later { S.faults source.old ≤ S.faults source.new }
-    ensures cause { result ≡ Input.Failed → Rose (S.faults source.old) (S.faults source.new) }
+    ensures cause { result ≡ ReadOutcome.Failed → Rose (S.faults source.old) (S.faults source.new) }
 {
     let mut bytes = Vec::new(alloc);
     let mut filled = 0;
@@ -37,14 +37,14 @@ pub fn read_all<S: Source>(alloc: Global, source: &mut S, limit: usize) -> Input
             Ok(Taken::Got(n)) => filled += n,
             Ok(Taken::End) => {
                 bytes.truncate(filled);
-                return Input::Whole(bytes);
+                return ReadOutcome::Whole(bytes);
             }
-            Ok(Taken::Failed) => return Input::Failed,
-            Err(AllocError) => return Input::NoMemory,
+            Ok(Taken::Failed) => return ReadOutcome::Failed,
+            Err(AllocError) => return ReadOutcome::NoMemory,
         }
     }
     bytes.truncate(filled);
-    Input::Full(bytes)
+    ReadOutcome::Full(bytes)
 }
 
 /// The least room of a read, while the limit allows it.

@@ -27,7 +27,7 @@ use command_words::{ArgFault, ArgWords, Args, read_args};
 use dump_text::{Form, Input, LineFault, Order, read_lines};
 use generator::gen_pairs;
 use history_laws::runs_are_legal;
-use outside::{Gate, Input as Bytes, Sink, Source, read_all, write_all};
+use outside::{Gate, ReadOutcome, Sink, Source, read_all, write_all};
 use prefix_laws::prefixes_are_apart;
 use std::alloc::Global;
 use std::sync::Wait;
@@ -300,10 +300,10 @@ fn read_input<S: Source>(alloc: Global, asked: &Args, source: &mut S) -> Result<
     ensures limit { ReadsWithin (S.left source.old) (S.left source.new) }
 {
     match read_all(alloc, source, READ_LIMIT) {
-        Bytes::Whole(bytes) => judge(alloc, asked, &bytes),
-        Bytes::Full(bytes) => Err(refuse(alloc, asked, &bytes)),
-        Bytes::Failed => Err(Refusal::Source),
-        Bytes::NoMemory => Err(Refusal::Memory),
+        ReadOutcome::Whole(bytes) => judge(alloc, asked, &bytes),
+        ReadOutcome::Full(bytes) => Err(refuse(alloc, asked, &bytes)),
+        ReadOutcome::Failed => Err(Refusal::Source),
+        ReadOutcome::NoMemory => Err(Refusal::Memory),
     }
 }
 

@@ -1,8 +1,8 @@
 //! Sources, sinks, whole inputs and outputs, and random words.
 
 use outside::{
-    CleanSink, CleanSource, Gate, Input, ListWords, MemSink, MemSource, OpenGate, PcgWords, Put,
-    ReadSource, Sink, Source, Taken, Words, WriteSink, read_all, write_all,
+    CleanSink, CleanSource, Gate, ListWords, MemSink, MemSource, OpenGate, PcgWords, Put,
+    ReadOutcome, ReadSource, Sink, Source, Taken, Words, WriteSink, read_all, write_all,
 };
 use std::alloc::{AllocError, Global};
 use std::io;
@@ -82,10 +82,10 @@ fn streams_in_memory(rt: HostRuntime) -> Result<(), Fail> {
 fn whole(alloc: Global, failing: &[u64], limit: usize) -> Result<(u8, usize), AllocError> {
     let mut source = MemSource::new(alloc, b"0123456789", 3, failing)?;
     Ok(match read_all(alloc, &mut source, limit) {
-        Input::Whole(bytes) => (b'w', bytes.len()),
-        Input::Full(bytes) => (b'f', bytes.len()),
-        Input::Failed => (b'-', 0),
-        Input::NoMemory => (b'x', 0),
+        ReadOutcome::Whole(bytes) => (b'w', bytes.len()),
+        ReadOutcome::Full(bytes) => (b'f', bytes.len()),
+        ReadOutcome::Failed => (b'-', 0),
+        ReadOutcome::NoMemory => (b'x', 0),
     })
 }
 
@@ -128,7 +128,7 @@ impl Write for Broken {
 fn reader_is_read(alloc: Global) -> bool {
     let mut source = ReadSource::new(b"abc".as_slice());
     match read_all(alloc, &mut source, 10) {
-        Input::Whole(bytes) => bytes.as_slice() == b"abc".as_slice()
+        ReadOutcome::Whole(bytes) => bytes.as_slice() == b"abc".as_slice()
             && source.into_inner().is_empty(),
         _ => false,
     }

@@ -5,7 +5,7 @@ use Rattle.tester_run.proofs.top.read_input.Goals as goal
 
 pub returns-in-Full-clause-refused : goal.returns-in-Full-clause-refused
 returns-in-Full-clause-refused g c =
-    let full = c.in-Full.ensures.input in
+    let full = c.in-Full.ensures.outcome in
     let judged : (rest : List ℕ) → IsJudged c.args.asked.now c.refuse.result (c.in-Full.bytes.items ++ rest) =
     subst (λ (bytes : List ℕ). (rest : List ℕ) → IsJudged c.args.asked.now c.refuse.result (bytes ++ rest)) c.deref-in-Full.ensures.value
     c.refuse.ensures in
