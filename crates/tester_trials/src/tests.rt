@@ -11,6 +11,7 @@ use tester_run::{ArgWords, status_over_bytes, tester};
 use thread_laws::{machines_weave_to_a_run, turns_are_one};
 use threaded_run_laws::threads_gather_to_a_run;
 
+mod bytewise;
 mod gates;
 mod threads;
 
