@@ -2,7 +2,7 @@ mod atomics;
 mod dumps;
 mod keys;
 mod lines;
-mod lists;
+mod listed;
 mod packing;
 mod requests;
 mod script;
