@@ -1,6 +1,6 @@
 -- The names of instruction text are those that a machine takes.
-use Rattle.std.proofs.Common.{◌≡◌, ℕ, Bool, true, false, cond, List, Option, Some, None, is_some, refl, ap, ◌∙◌}
-use Rattle.std.specs.Prelude.{codes, bytes_eq, option_map}
+use Rattle.std.proofs.Common.{◌≡◌, ℕ, Bool, true, false, cond, List, [], ◌∷◌, ◌++◌, Option, Some, None, is_some, refl, ap, ◌∙◌}
+use Rattle.std.specs.Prelude.{⊤, codes, bytes_eq, option_map}
 use Rattle.std.specs.List.{list_all}
 use Rattle.std.proofs.lemmas.Slice.Eq.{bytes_eq-Decides}
 use Rattle.machine_rules.specs.declared.StackOperation.{StackOperation}
@@ -10,7 +10,7 @@ use Rattle.machine_rules.specs.declared.directories.DirectoryOperation.{Director
 use Rattle.machine_rules.specs.declared.Scope.{Scope}
 use Rattle.machine_rules.specs.declared.Instruction.{Instruction}
 use Rattle.machine_rules.specs.declared.Instruction.TheVariants as instruction
-use Rattle.machine_rules.specs.Instructions.{stack_operation, transaction_operation, database_operation, directory_operation, or_else, bare_instruction}
+use Rattle.machine_rules.specs.Instructions.{Scopes, Alone, Writes, Reads, Names, scope_in, or_others, operation_in, database_names, creation_names, removal_names, listing_names, subspace_names, stack_operation, transaction_operation, directory_operation, or_else, bare_instruction}
 use Rattle.instr_grammar.specs.Names.{names, is_among}
 use Rattle.instr_text.proofs.Feedless.{among_passes}
 
@@ -75,71 +75,54 @@ transaction_named name =
     (pick name (codes "DISABLE_WRITE_CONFLICT") _ _ refl
     (pick name (codes "GET_VERSIONSTAMP") _ _ refl (λ h. absurd cc))))))))))))))))
 
-database_named : (name : List ℕ) → is_some (database_operation name) ≡ true → is_among name names ≡ true
+-- each form of an operation's name in these scopes is a name
+abbrev AreNamed : Scopes → List ℕ → Type 0
+AreNamed Alone operation = is_among operation names ≡ true
+AreNamed Writes operation = (is_among operation names ≡ true) × (is_among (operation ++ codes "_DATABASE") names ≡ true)
+AreNamed Reads operation = (is_among operation names ≡ true) × (is_among (operation ++ codes "_SNAPSHOT") names ≡ true)
+    × (is_among (operation ++ codes "_DATABASE") names ≡ true)
+
+scope_named : (scopes : Scopes) (name operation : List ℕ) → AreNamed scopes operation → is_some (scope_in scopes name operation) ≡ true
+    → is_among name names ≡ true
+scope_named Alone name operation here = pick name operation _ None here (λ h. absurd cc)
+scope_named Writes name operation here = pick name operation _ _ here.0 (pick name (operation ++ codes "_DATABASE") _ None here.1 (λ h. absurd cc))
+scope_named Reads name operation here = pick name operation _ _ here.0 (pick name (operation ++ codes "_SNAPSHOT") _ _ here.1
+    (pick name (operation ++ codes "_DATABASE") _ None here.2 (λ h. absurd cc)))
+
+module _ {A : Type 0} where
+  -- so is each form of each name of a table
+  abbrev AreAllNamed : Names A → Type 0
+  AreAllNamed [] = ⊤
+  AreAllNamed (row ∷ rows) = AreNamed row.1 row.0 × AreAllNamed rows
+
+  rows_named : (rows : Names A) (name : List ℕ) → AreAllNamed rows → is_some (operation_in rows name) ≡ true → is_among name names ≡ true
+  rows_named [] name all e = absurd cc
+  rows_named (row ∷ rows) name all e = by (λ k. rows_named rows name all.1 k) (scope_in row.1 name row.0) refl e
+    where
+      by : (is_some (operation_in rows name) ≡ true → is_among name names ≡ true) → (found : Option Scope) → scope_in row.1 name row.0 ≡ found
+          → is_some (or_others row.2 found (operation_in rows name)) ≡ true → is_among name names ≡ true
+      by later (Some scope) h k = scope_named row.1 name row.0 all.0 (ap is_some h)
+      by later None h k = later k
+
+  either_named : (x y : Option A) (name : List ℕ) → (is_some x ≡ true → is_among name names ≡ true) → (is_some y ≡ true → is_among name names ≡ true)
+      → is_some (or_else x y) ≡ true → is_among name names ≡ true
+  either_named (Some found) y name f g e = f refl
+  either_named None y name f g e = g e
+
+database_named : (name : List ℕ) → is_some (operation_in database_names name) ≡ true → is_among name names ≡ true
 unfolding names
-database_named name =
-    (pick name (codes "GET") _ _ refl
-    (pick name (codes "GET_SNAPSHOT") _ _ refl
-    (pick name (codes "GET_DATABASE") _ _ refl
-    (pick name (codes "GET_KEY") _ _ refl
-    (pick name (codes "GET_KEY_SNAPSHOT") _ _ refl
-    (pick name (codes "GET_KEY_DATABASE") _ _ refl
-    (pick name (codes "GET_RANGE") _ _ refl
-    (pick name (codes "GET_RANGE_SNAPSHOT") _ _ refl
-    (pick name (codes "GET_RANGE_DATABASE") _ _ refl
-    (pick name (codes "GET_RANGE_STARTS_WITH") _ _ refl
-    (pick name (codes "GET_RANGE_STARTS_WITH_SNAPSHOT") _ _ refl
-    (pick name (codes "GET_RANGE_STARTS_WITH_DATABASE") _ _ refl
-    (pick name (codes "GET_RANGE_SELECTOR") _ _ refl
-    (pick name (codes "GET_RANGE_SELECTOR_SNAPSHOT") _ _ refl
-    (pick name (codes "GET_RANGE_SELECTOR_DATABASE") _ _ refl
-    (pick name (codes "SET") _ _ refl
-    (pick name (codes "SET_DATABASE") _ _ refl
-    (pick name (codes "CLEAR") _ _ refl
-    (pick name (codes "CLEAR_DATABASE") _ _ refl
-    (pick name (codes "CLEAR_RANGE") _ _ refl
-    (pick name (codes "CLEAR_RANGE_DATABASE") _ _ refl
-    (pick name (codes "CLEAR_RANGE_STARTS_WITH") _ _ refl
-    (pick name (codes "CLEAR_RANGE_STARTS_WITH_DATABASE") _ _ refl
-    (pick name (codes "ATOMIC_OP") _ _ refl
-    (pick name (codes "ATOMIC_OP_DATABASE") _ _ refl (λ h. absurd cc))))))))))))))))))))))))))
+database_named name = rows_named database_names name
+    ((refl, refl, refl), ((refl, refl, refl), ((refl, refl, refl), ((refl, refl, refl), ((refl, refl, refl), ((refl, refl), ((refl, refl), ((refl, refl), ((refl, refl), ((refl, refl), tt))))))))))
 
 directory_named : (name : List ℕ) → is_some (directory_operation name) ≡ true → is_among name names ≡ true
 unfolding names
 directory_named name =
-    (pick name (codes "DIRECTORY_CREATE_SUBSPACE") _ _ refl
-    (pick name (codes "DIRECTORY_CREATE_LAYER") _ _ refl
-    (pick name (codes "DIRECTORY_CREATE_OR_OPEN") _ _ refl
-    (pick name (codes "DIRECTORY_CREATE_OR_OPEN_DATABASE") _ _ refl
-    (pick name (codes "DIRECTORY_CREATE") _ _ refl
-    (pick name (codes "DIRECTORY_CREATE_DATABASE") _ _ refl
-    (pick name (codes "DIRECTORY_OPEN") _ _ refl
-    (pick name (codes "DIRECTORY_OPEN_SNAPSHOT") _ _ refl
-    (pick name (codes "DIRECTORY_OPEN_DATABASE") _ _ refl
-    (pick name (codes "DIRECTORY_CHANGE") _ _ refl
-    (pick name (codes "DIRECTORY_SET_ERROR_INDEX") _ _ refl
-    (pick name (codes "DIRECTORY_MOVE") _ _ refl
-    (pick name (codes "DIRECTORY_MOVE_DATABASE") _ _ refl
-    (pick name (codes "DIRECTORY_MOVE_TO") _ _ refl
-    (pick name (codes "DIRECTORY_MOVE_TO_DATABASE") _ _ refl
-    (pick name (codes "DIRECTORY_REMOVE") _ _ refl
-    (pick name (codes "DIRECTORY_REMOVE_DATABASE") _ _ refl
-    (pick name (codes "DIRECTORY_REMOVE_IF_EXISTS") _ _ refl
-    (pick name (codes "DIRECTORY_REMOVE_IF_EXISTS_DATABASE") _ _ refl
-    (pick name (codes "DIRECTORY_LIST") _ _ refl
-    (pick name (codes "DIRECTORY_LIST_SNAPSHOT") _ _ refl
-    (pick name (codes "DIRECTORY_LIST_DATABASE") _ _ refl
-    (pick name (codes "DIRECTORY_EXISTS") _ _ refl
-    (pick name (codes "DIRECTORY_EXISTS_SNAPSHOT") _ _ refl
-    (pick name (codes "DIRECTORY_EXISTS_DATABASE") _ _ refl
-    (pick name (codes "DIRECTORY_PACK_KEY") _ _ refl
-    (pick name (codes "DIRECTORY_UNPACK_KEY") _ _ refl
-    (pick name (codes "DIRECTORY_RANGE") _ _ refl
-    (pick name (codes "DIRECTORY_CONTAINS") _ _ refl
-    (pick name (codes "DIRECTORY_OPEN_SUBSPACE") _ _ refl
-    (pick name (codes "DIRECTORY_LOG_SUBSPACE") _ _ refl
-    (pick name (codes "DIRECTORY_LOG_DIRECTORY") _ _ refl
-    (pick name (codes "DIRECTORY_STRIP_PREFIX") _ _ refl (λ h. absurd cc))))))))))))))))))))))))))))))))))
+    either_named (operation_in creation_names name) _ name
+      (rows_named creation_names name (refl, (refl, ((refl, refl), ((refl, refl), ((refl, refl, refl), (refl, (refl, tt))))))))
+      (either_named (operation_in removal_names name) _ name
+        (rows_named removal_names name ((refl, refl), ((refl, refl), ((refl, refl), ((refl, refl), tt)))))
+        (either_named (operation_in listing_names name) _ name (rows_named listing_names name ((refl, refl, refl), ((refl, refl, refl), tt)))
+          (rows_named subspace_names name (refl, (refl, (refl, (refl, (refl, (refl, (refl, (refl, tt)))))))))))
 
 abbrev others : Option TransactionOperation → Option (DatabaseOperation × Scope) → Option (DirectoryOperation × Scope) → Option StackOperation
     → Option Instruction
@@ -157,9 +140,9 @@ others_by P None None None (Some x) f g h k e = k refl
 others_by P None None None None f g h k e = absurd cc
 
 others_named : (name : List ℕ)
-    → is_some (others (transaction_operation name) (database_operation name) (directory_operation name) (stack_operation name)) ≡ true
+    → is_some (others (transaction_operation name) (operation_in database_names name) (directory_operation name) (stack_operation name)) ≡ true
     → is_among name names ≡ true
-others_named name = others_by (is_among name names ≡ true) (transaction_operation name) (database_operation name) (directory_operation name)
+others_named name = others_by (is_among name names ≡ true) (transaction_operation name) (operation_in database_names name) (directory_operation name)
     (stack_operation name) (transaction_named name) (database_named name) (directory_named name) (stack_named name)
 
 named : (name : List ℕ) → is_some (bare_instruction name) ≡ true → is_among name names ≡ true
