@@ -68,7 +68,7 @@ impl Scene {
     fn commit(&mut self, key: &[u8], value: Option<&[u8]>) -> Result<(), AllocError> {
         let changes = changes_of(self.alloc, key, value)?;
         self.store.reserve(&changes)?;
-        if self.watches.seen() == self.store.last() && self.store.last() < u64::MAX {
+        if self.watches.seen() == self.store.last() && self.store.last() < i64::MAX as u64 {
             self.store.install(changes);
             self.watches.committed(&self.store);
         }

@@ -48,4 +48,4 @@ returns-clause-right g c = λ history is right.
     (all_right_commit history inside.seen last database next is (map watched_of inside.watches.items)
     (subst (AreRight history) (sym c.self.view_is) right)) in
     subst (λ v. All (IsRight history v) (map watched_of (take inside.watches.len (new ++ drop (length new) inside.watches.items))))
-    (sym c.last-self-inside.ensures) done
+    (sym c.last-self-inside.ensures.value) done

@@ -49,4 +49,4 @@ returns-clause-right g c = λ history is right.
     subst (All (IsRight history inside.seen)) (sym e)
     (all_right_made history inside.seen _ _ (ap (λ v. v.seen) c.self.view_is ∙ c.requires.current) is
     (map watched_of inside.watches.items) c.in_ok-key.key c.last.result c.in_ok-value.value (watched_of w).cell
-    c.last.ensures c.in_ok-value.ensures (subst (AreRight history) (sym c.self.view_is) right))
+    c.last.ensures.value c.in_ok-value.ensures (subst (AreRight history) (sym c.self.view_is) right))
