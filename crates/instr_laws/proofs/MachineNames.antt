@@ -118,11 +118,11 @@ directory_named : (name : List ℕ) → is_some (directory_operation name) ≡ t
 unfolding names
 directory_named name =
     either_named (operation_in creation_names name) _ name
-      (rows_named creation_names name (refl, (refl, ((refl, refl), ((refl, refl), ((refl, refl, refl), (refl, (refl, tt))))))))
-      (either_named (operation_in removal_names name) _ name
-        (rows_named removal_names name ((refl, refl), ((refl, refl), ((refl, refl), ((refl, refl), tt)))))
-        (either_named (operation_in listing_names name) _ name (rows_named listing_names name ((refl, refl, refl), ((refl, refl, refl), tt)))
-          (rows_named subspace_names name (refl, (refl, (refl, (refl, (refl, (refl, (refl, (refl, tt)))))))))))
+    (rows_named creation_names name (refl, (refl, ((refl, refl), ((refl, refl), ((refl, refl, refl), (refl, (refl, tt))))))))
+    (either_named (operation_in removal_names name) _ name
+    (rows_named removal_names name ((refl, refl), ((refl, refl), ((refl, refl), ((refl, refl), tt)))))
+    (either_named (operation_in listing_names name) _ name (rows_named listing_names name ((refl, refl, refl), ((refl, refl, refl), tt)))
+    (rows_named subspace_names name (refl, (refl, (refl, (refl, (refl, (refl, (refl, (refl, tt)))))))))))
 
 abbrev others : Option TransactionOperation → Option (DatabaseOperation × Scope) → Option (DirectoryOperation × Scope) → Option StackOperation
     → Option Instruction
