@@ -3,7 +3,6 @@ use Rattle.std.proofs.Common.{◌≡◌, ℕ, Bool, true, false, Option, Some, N
 use Rattle.database_rules.specs.Histories.{Setting}
 use Rattle.database_rules.specs.Transactions.{Transaction}
 use Rattle.directory_types.specs.declared.fault.DirFault.{DirFault}
-use Rattle.directory_types.specs.declared.fault.DirFault.TheVariants as fault
 use Rattle.directory_rules.specs.Courses.{Course, Refuses, ◌>>=◌, Done, done, given}
 use Rattle.directory_rules.specs.Steps.{refuse_where, there}
 use Rattle.directory.specs.Runs.{Draws, Tells, TellsBy, RunsBy, is_short}
@@ -21,6 +20,17 @@ pub refused_where : {X : Type 0} (refuses : Bool) (fault : DirFault) (stands : S
     → refuses ≡ true → is_short fault ≡ false → Draws {X = X} (Err fault) stands stands words words (refuse_where refuses fault >>= next)
 refused_where refuses fault stands words next is long =
     subst (λ refuses. Draws (Err fault) stands stands words words (refuse_where refuses fault >>= next)) (sym is) (refused _ fault stands words long)
+
+-- a condition that is asked last
+pub passed_last : (refuses : Bool) (fault : DirFault) (stands : Setting → Transaction → Type 0) (words : ℕ → ℕ) → refuses ≡ false
+    → Draws (Ok done) stands stands words words (refuse_where refuses fault)
+passed_last refuses fault stands words is =
+    subst (λ refuses. Draws (Ok done) stands stands words words (refuse_where refuses fault)) (sym is) (gave done stands words)
+
+pub refused_last : (refuses : Bool) (fault : DirFault) (stands : Setting → Transaction → Type 0) (words : ℕ → ℕ) → refuses ≡ true
+    → is_short fault ≡ false → Draws {X = Done} (Err fault) stands stands words words (refuse_where refuses fault)
+refused_last refuses fault stands words is long =
+    subst (λ refuses. Draws {X = Done} (Err fault) stands stands words words (refuse_where refuses fault)) (sym is) (refused _ fault stands words long)
 
 -- what is there, and what isn't
 pub there_is : {X Y : Type 0} (fault : DirFault) (found : Option X) (value : X) (result : Result Y DirFault) (before after : Setting → Transaction → Type 0)

@@ -4,22 +4,23 @@
 //! that calls itself, since a path may have any number of names: down from the whole path to the nearest directory that is there,
 //! with a prefix for each one that isn't, and then up again, where each is entered in the one above it.
 
-ghost use Rattle.std.specs.Prelude.{◌≡◌, ◌+◌, ◌&&◌, not, is_some, length, reverse};
-ghost use Rattle.directory_rules.specs.Calls.{found_opened, looks, makes, opening};
+ghost use Rattle.std.specs.Prelude.{◌≡◌, ℕ, ◌+◌, ◌≤◌, false, [], ◌∷◌, ◌++◌, length, reverse, OnOk};
+ghost use Rattle.directory_rules.specs.Calls.{judged, found_opened, looks, makes, opening};
 ghost use Rattle.directory.specs.Runs.{Draws, Follows, Tells, beside};
-ghost use Rattle.directory.specs.Descents.{descends, ascends, makes_parent};
+ghost use Rattle.directory.specs.Places.{place_so, IsWithin};
+ghost use Rattle.directory.specs.Descents.{missing_at, descends, ascends, makes_parent};
 
-use crate::checking::check;
 use crate::entries::{asked_or_empty, enter, opened};
-use crate::finding::{find, root};
+use crate::finding::root;
 use crate::prefixes::take_prefix;
-use directory_rules::{Child, Directory, OpenOptions};
+use crate::reaching::{Place, copy_of, reach};
+use directory_rules::{Directory, Lookup, OpenOptions};
 use directory_types::{DirArgs, DirFault, DirReply, Layer};
 use fdb_calls::Tr;
 use fdb_tuple::Text;
 use key_bytes::Bytes;
 use outside::Words;
-use std::alloc::Global;
+use std::alloc::{AllocError, Global};
 
 /// Makes a directory, or opens one.
 pub(crate) const CREATE_OR_OPEN: OpenOptions = OpenOptions {
@@ -27,6 +28,14 @@ pub(crate) const CREATE_OR_OPEN: OpenOptions = OpenOptions {
     may_open: true,
     snapshot: false,
 };
+
+/// A directory that is missing: the layer where it is to be entered, its name, and the prefix of its contents.
+#[derive(Debug, Drop)]
+pub(crate) struct Missing {
+    pub layer: Layer,
+    pub name: Text,
+    pub prefix: Bytes,
+}
 
 /// Makes or opens the directory of a path, as the call may.
 pub(crate) fn make_or_open<T: Tr, W: Words>(
@@ -57,55 +66,72 @@ fn make<T: Tr, W: Words>(
         (makes (length a.now.path + 1) options layer.now a.now.path a.now.layer a.now.prefix) }
     ensures same { T.Tr.same tr.old tr.new }
 {
-    let path = a.path.as_slice();
-    if let Some(found) = look(layer, tr, options, path, &a.layer, &a.prefix)? {
+    let Place {
+        layer: inner,
+        path,
+        found,
+    } = look(layer, tr, options, a.path.as_slice(), &a.layer, &a.prefix)?;
+    if let Some(found) = found {
         return Ok(found);
     }
     // The root was refused.
     let Some((name, front)) = path.split_last() else {
         return Err(DirFault::EmptyPath);
     };
-    let prefix = take_prefix(alloc, layer, tr, words, &a.layer, &a.prefix)?;
-    let parent = make_parent(alloc, layer, tr, words, front)?;
+    let prefix = take_prefix(alloc, &inner, tr, words, &a.prefix)?;
+    let parent = make_parent(alloc, &inner, tr, words, front)?;
     let child = Directory {
         prefix,
         layer: asked_or_empty(alloc, &a.layer)?,
     };
-    enter(layer, tr, &parent, name, child)
+    enter(&inner, tr, &parent, name, child)
 }
 
-// The directory that is there, or none where it is to be created.
-fn look<T: Tr>(
+// Where the path ends: the directory that is there, or none where it is to be created.
+fn look<'a, T: Tr>(
     layer: &Layer,
     tr: &mut T,
     options: OpenOptions,
-    path: &[Text],
+    path: &'a [Text],
     layer_name: &Option<Bytes>,
     prefix: &Option<Bytes>,
-) -> Result<Option<Directory>, DirFault>
-    ensures follows { Follows result (T.Tr.stands tr.old) (T.Tr.stands tr.new)
+) -> Result<Place<'a>, DirFault>
+    ensures follows { Follows (place_so result) (T.Tr.stands tr.old) (T.Tr.stands tr.new)
         (looks options layer.now path.now layer_name.now prefix.now) }
+    ensures within { IsWithin result path.now false }
     ensures same { T.Tr.same tr.old tr.new }
 {
-    check(layer, tr, false, options.snapshot)?;
-    if is_barred(layer, prefix) {
-        return Err(DirFault::ManualNotAllowed);
-    }
-    if path.is_empty() {
-        return Err(DirFault::EmptyPath);
-    }
-    match find(layer, tr, path, options.snapshot)? {
+    let lookup = Lookup {
+        writes: false,
+        snapshot: options.snapshot,
+        has_prefix: prefix.is_some(),
+        may_be_root: false,
+    };
+    let Place {
+        layer: inner,
+        path: names,
+        found,
+    } = reach(layer, tr, path, lookup)?;
+    Ok(Place {
+        layer: inner,
+        path: names,
+        found: judge(options, layer_name, found)?,
+    })
+}
+
+// A directory that is there is opened; one that isn't may have to be created.
+fn judge(
+    options: OpenOptions,
+    layer_name: &Option<Bytes>,
+    found: Option<Directory>,
+) -> Result<Option<Directory>, DirFault>
+    ensures { Tells result (judged options layer_name.now found) }
+{
+    match found {
         Some(found) => open_found(options, layer_name, found),
         None if options.may_create => Ok(None),
         None => Err(DirFault::Missing),
     }
-}
-
-// Whether a prefix is given, and the layer takes none that is given.
-fn is_barred(layer: &Layer, prefix: &Option<Bytes>) -> bool
-    ensures { result ≡ (is_some prefix.now && not layer.now.manual) }
-{
-    prefix.is_some() && !layer.manual
 }
 
 // A directory that is there is opened, where that may be and where its layer name is the one that is asked for, if one is.
@@ -135,13 +161,13 @@ fn make_parent<T: Tr, W: Words>(
     words: &mut W,
     path: &[Text],
 ) -> Result<Directory, DirFault>
-    ensures draws { Draws result (T.Tr.stands tr.old) (T.Tr.stands tr.new) (W.Words.words words.old) (W.Words.words words.new)
-        (makes_parent layer.now path.now) }
+    ensures draws { (bound : ℕ) → length path.now ≤ bound → Draws result (T.Tr.stands tr.old) (T.Tr.stands tr.new)
+        (W.Words.words words.old) (W.Words.words words.new) (makes_parent bound layer.now path.now) }
     ensures same { T.Tr.same tr.old tr.new }
 {
     let mut missing = Vec::new(alloc);
     let found = descend(alloc, layer, tr, words, path, &mut missing)?;
-    ascend(layer, tr, found, missing)
+    ascend(tr, found, missing)
 }
 
 // The nearest directory on a path that is there. Those below it are missing: each gets a prefix, the lowest first.
@@ -151,44 +177,68 @@ fn descend<T: Tr, W: Words>(
     tr: &mut T,
     words: &mut W,
     path: &[Text],
-    missing: &mut Vec<Child>,
+    missing: &mut Vec<Missing>,
 ) -> Result<Directory, DirFault>
-    ensures draws { Draws (beside result missing.new.items) (T.Tr.stands tr.old) (T.Tr.stands tr.new)
-        (W.Words.words words.old) (W.Words.words words.new) (descends (length path.now) layer.now path.now missing.old.items) }
+    ensures draws { (bound : ℕ) → length path.now ≤ bound → Draws (beside result missing.new.items) (T.Tr.stands tr.old) (T.Tr.stands tr.new)
+        (W.Words.words words.old) (W.Words.words words.new) (descends bound layer.now path.now missing.old.items) }
     ensures same { T.Tr.same tr.old tr.new }
 {
+    let mut inner = copy_of(layer)?;
     let mut rest = path;
-    while let Some((name, front)) = rest.split_last() {
-        if let Some(found) = look(layer, tr, CREATE_OR_OPEN, rest, &None, &None)? {
+    while !rest.is_empty() {
+        let Place {
+            layer: further,
+            path: names,
+            found,
+        } = look(&inner, tr, CREATE_OR_OPEN, rest, &None, &None)?;
+        if let Some(found) = found {
             return Ok(found);
         }
-        let prefix = take_prefix(alloc, layer, tr, words, &None, &None)?;
-        missing.push(Child {
-            name: name.copy()?,
-            prefix,
-        })?;
+        // The root was refused.
+        let Some((name, front)) = names.split_last() else {
+            return Err(DirFault::EmptyPath);
+        };
+        let prefix = take_prefix(alloc, &further, tr, words, &None)?;
+        note_missing(missing, &further, name, prefix)?;
+        inner = further;
         rest = front;
     }
-    Ok(root(layer)?)
+    Ok(root(&inner)?)
+}
+
+// Notes that a directory is missing, behind those that were noted before.
+fn note_missing(
+    missing: &mut Vec<Missing>,
+    layer: &Layer,
+    name: &Text,
+    prefix: Bytes,
+) -> Result<(), AllocError>
+    ensures { OnOk result (missing.new.items ≡ missing.old.items ++ missing_at layer.now name.now prefix ∷ []) }
+{
+    missing.push(Missing {
+        layer: copy_of(layer)?,
+        name: name.copy()?,
+        prefix,
+    })?;
+    Ok(())
 }
 
 // Enters each of the missing directories in the one above it, the uppermost first, which is the last one.
 fn ascend<T: Tr>(
-    layer: &Layer,
     tr: &mut T,
     found: Directory,
-    mut missing: Vec<Child>,
+    mut missing: Vec<Missing>,
 ) -> Result<Directory, DirFault>
-    ensures follows { Follows result (T.Tr.stands tr.old) (T.Tr.stands tr.new) (ascends layer.now found (reverse missing.items)) }
+    ensures follows { Follows result (T.Tr.stands tr.old) (T.Tr.stands tr.new) (ascends found (reverse missing.items)) }
     ensures same { T.Tr.same tr.old tr.new }
 {
     let mut parent = found;
     while let Some(child) = missing.pop() {
         let below = Directory {
             prefix: child.prefix,
-            layer: Bytes::new(layer.node.allocator()),
+            layer: Bytes::new(child.layer.node.allocator()),
         };
-        parent = enter(layer, tr, &parent, &child.name, below)?;
+        parent = enter(&child.layer, tr, &parent, &child.name, below)?;
     }
     Ok(parent)
 }

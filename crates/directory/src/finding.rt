@@ -1,21 +1,25 @@
 //! Finding a directory by its path.
 
 ghost use Rattle.std.specs.Prelude.{◌≡◌, IfOk, unwrap_or, []};
-ghost use Rattle.directory_rules.specs.Nodes.{is_partition};
 ghost use Rattle.directory_rules.specs.Steps.{root, directory_at, child_of, find};
 ghost use Rattle.directory.specs.Runs.{Follows};
+ghost use Rattle.directory.specs.Places.{found_so, IsLess};
 
 use crate::calls::value_of;
 use crate::nodes::Node;
-use directory_rules::Directory;
+use directory_rules::{Directory, is_partition};
 use directory_types::{DirFault, Layer};
 use fdb_calls::Tr;
 use fdb_tuple::Text;
 use key_bytes::Bytes;
 use std::alloc::AllocError;
 
-/// The layer name of a partition.
-const PARTITION: &[u8] = b"partition";
+/// What a path leads to: a directory, and the names that remain, where that is a partition.
+#[derive(Debug, Drop)]
+pub(crate) struct Found<'a> {
+    pub directory: Directory,
+    pub rest: &'a [Text],
+}
 
 /// The root of a layer.
 pub(crate) fn root(layer: &Layer) -> Result<Directory, AllocError>
@@ -27,24 +31,36 @@ pub(crate) fn root(layer: &Layer) -> Result<Directory, AllocError>
     })
 }
 
-/// The directory of a path, where there is one.
-pub(crate) fn find<T: Tr>(
+/// What a path leads to, where there is something.
+pub(crate) fn find<'a, T: Tr>(
     layer: &Layer,
     tr: &mut T,
-    path: &[Text],
+    path: &'a [Text],
     snapshot: bool,
-) -> Result<Option<Directory>, DirFault>
-    ensures follows { Follows result (T.Tr.stands tr.old) (T.Tr.stands tr.new) (find snapshot layer.now path.now) }
+) -> Result<Option<Found<'a>>, DirFault>
+    ensures follows { Follows (found_so result) (T.Tr.stands tr.old) (T.Tr.stands tr.new) (find snapshot layer.now path.now) }
+    ensures less { IsLess result path.now }
     ensures same { T.Tr.same tr.old tr.new }
 {
     let mut found = root(layer)?;
-    for name in path {
+    let mut rest = path;
+    while let Some((name, others)) = rest.split_first() {
+        if is_partition(&found.layer) {
+            return Ok(Some(Found {
+                directory: found,
+                rest,
+            }));
+        }
         let Some(child) = child_of(layer, tr, &found, name, snapshot)? else {
             return Ok(None);
         };
         found = child;
+        rest = others;
     }
-    Ok(Some(found))
+    Ok(Some(Found {
+        directory: found,
+        rest,
+    }))
 }
 
 // The directory that an entry of another one names.
@@ -77,18 +93,8 @@ fn directory_at<T: Tr>(
 {
     let key = Node::of(layer, &prefix)?.layer_key()?;
     let name = value_of(tr, &key, snapshot)?.unwrap_or(Bytes::new(layer.node.allocator()));
-    if is_partition(&name) {
-        return Err(DirFault::Partition);
-    }
     Ok(Some(Directory {
         prefix,
         layer: name,
     }))
-}
-
-/// Whether a layer name is that of a partition.
-pub(crate) fn is_partition(name: &Bytes) -> bool
-    ensures { result ≡ is_partition name.now }
-{
-    name.as_slice() == PARTITION
 }

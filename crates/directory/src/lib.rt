@@ -32,6 +32,7 @@ mod logging;
 mod moving;
 mod nodes;
 mod prefixes;
+mod reaching;
 mod removing;
 
 use crate::creating::{CREATE_OR_OPEN, make_or_open};

@@ -3,14 +3,14 @@
 ghost use Rattle.std.specs.Prelude.{◌≡◌, map, IfOk};
 ghost use Rattle.key_bytes.specs.Entries.{entry_of};
 ghost use Rattle.directory_rules.specs.Steps.{child_in, children_in, children};
-ghost use Rattle.directory_rules.specs.Calls.{names_below, is_there};
+ghost use Rattle.directory_rules.specs.Calls.{to_see, lists, names_below, is_there};
 ghost use Rattle.directory.specs.Runs.{Follows, Tells};
 
 use crate::calls::pairs_of;
 use crate::checking::check;
-use crate::finding::find;
 use crate::nodes::Node;
-use directory_rules::Child;
+use crate::reaching::{Place, inside, reach};
+use directory_rules::{Child, Directory, Lookup, is_partition};
 use directory_types::{DirFault, Layer, Path};
 use fdb_calls::Tr;
 use fdb_tuple::Text;
@@ -70,12 +70,46 @@ pub(crate) fn names_below<T: Tr>(
     ensures follows { Follows result (T.Tr.stands tr.old) (T.Tr.stands tr.new) (names_below snapshot layer.now path.now) }
     ensures same { T.Tr.same tr.old tr.new }
 {
-    check(layer, tr, false, snapshot)?;
-    let Some(found) = find(layer, tr, path, snapshot)? else {
+    let Place {
+        layer: inner,
+        path: _,
+        found,
+    } = reach(layer, tr, path, to_see(snapshot))?;
+    let Some(found) = found else {
         return Err(DirFault::Missing);
     };
-    let below = children(layer, tr, &found.prefix, snapshot)?;
+    let below = list_found(&inner, tr, &found, snapshot)?;
     Ok(names_of(alloc, &below)?)
+}
+
+// The directories right below one; below a partition, those of the root of its own layer.
+fn list_found<T: Tr>(
+    layer: &Layer,
+    tr: &mut T,
+    found: &Directory,
+    snapshot: bool,
+) -> Result<List<Child>, DirFault>
+    ensures follows { Follows result (T.Tr.stands tr.old) (T.Tr.stands tr.new) (lists snapshot layer.now found.now) }
+    ensures same { T.Tr.same tr.old tr.new }
+{
+    if !is_partition(&found.layer) {
+        return children(layer, tr, &found.prefix, snapshot);
+    }
+    let inner = inside(&found.prefix)?;
+    check(&inner, tr, false, snapshot)?;
+    children(&inner, tr, &inner.node, snapshot)
+}
+
+// How a directory is looked for that is listed, or only looked for: the root may be meant.
+fn to_see(snapshot: bool) -> Lookup
+    ensures { result ≡ to_see snapshot }
+{
+    Lookup {
+        writes: false,
+        snapshot,
+        has_prefix: false,
+        may_be_root: true,
+    }
 }
 
 fn names_of(alloc: Global, children: &List<Child>) -> Result<Path, AllocError>
@@ -98,6 +132,6 @@ pub(crate) fn is_there<T: Tr>(
     ensures follows { Follows result (T.Tr.stands tr.old) (T.Tr.stands tr.new) (is_there snapshot layer.now path.now) }
     ensures same { T.Tr.same tr.old tr.new }
 {
-    check(layer, tr, false, snapshot)?;
-    Ok(find(layer, tr, path, snapshot)?.is_some())
+    let at = reach(layer, tr, path, to_see(snapshot))?;
+    Ok(at.found.is_some())
 }

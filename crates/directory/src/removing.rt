@@ -1,16 +1,15 @@
 //! Removing a directory and all below it.
 
-ghost use Rattle.std.specs.Prelude.{◌≡◌, [], ◌∷◌, ◌++◌, map, OnOk};
+ghost use Rattle.std.specs.Prelude.{◌≡◌, ◌+◌, length, [], ◌∷◌, ◌++◌, map, OnOk};
 ghost use Rattle.directory_rules.specs.Calls.{clears_one, clears_all, removes_one, removing};
 ghost use Rattle.directory.specs.Runs.{Follows, FollowsBelow};
 
 use crate::calls::clear_range;
-use crate::checking::check;
-use crate::finding::find;
 use crate::listing::children;
 use crate::moving::leave;
 use crate::nodes::Node;
-use directory_rules::{Child, Directory};
+use crate::reaching::{Place, reach};
+use directory_rules::{Child, Directory, Lookup};
 use directory_types::{DirFault, DirReply, Layer};
 use fdb_calls::Tr;
 use fdb_tuple::Text;
@@ -26,16 +25,27 @@ pub(crate) fn remove_directory<T: Tr>(
     path: &[Text],
     must_exist: bool,
 ) -> Result<DirReply, DirFault>
-    ensures follows { FollowsBelow result (T.Tr.stands tr.old) (T.Tr.stands tr.new) 2
+    ensures follows { FollowsBelow result (T.Tr.stands tr.old) (T.Tr.stands tr.new) (length path.now + 2)
         (λ bound. removing bound must_exist layer.now path.now) }
     ensures same { T.Tr.same tr.old tr.new }
 {
-    check(layer, tr, true, false)?;
-    let Some((name, above)) = path.split_last() else {
+    let lookup = Lookup {
+        writes: true,
+        snapshot: false,
+        has_prefix: false,
+        may_be_root: false,
+    };
+    let Place {
+        layer: inner,
+        path: names,
+        found,
+    } = reach(layer, tr, path, lookup)?;
+    // The root was refused.
+    let Some((name, above)) = names.split_last() else {
         return Err(DirFault::EmptyPath);
     };
-    match find(layer, tr, path, false)? {
-        Some(found) => remove_found(alloc, layer, tr, above, name, found),
+    match found {
+        Some(found) => remove_found(alloc, &inner, tr, above, name, found),
         None if must_exist => Err(DirFault::Missing),
         None => Ok(DirReply::Done),
     }

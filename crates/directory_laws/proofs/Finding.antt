@@ -1,6 +1,6 @@
 -- What a search for a directory found is what is found in the database that the transaction saw, and the search changes nothing there.
-use Rattle.std.proofs.Common.{◌≡◌, ℕ, Bool, true, false, List, [], ◌∷◌, length, Option, Some, None, refl, sym, ap, ◌∙◌}
-use Rattle.std.specs.Prelude.{◌==◌, unwrap_or}
+use Rattle.std.proofs.Common.{◌≡◌, ℕ, suc, Bool, true, false, List, [], ◌∷◌, length, Option, Some, None, refl, sym, ap, subst, ◌∙◌}
+use Rattle.std.specs.Prelude.{◌==◌, if◌then◌else◌, unwrap_or}
 use Rattle.std.specs.FinMap as finite
 use Rattle.database_rules.specs.Databases.{Database}
 use Rattle.database_rules.specs.Histories.{Setting}
@@ -12,13 +12,13 @@ use Rattle.allocator_rules.proofs.Reading.{readable}
 use Rattle.allocator_rules.proofs.Viewing.{after_read}
 use Rattle.directory_types.specs.declared.Layer.{Layer}
 use Rattle.directory_types.specs.declared.fault.DirFault.{DirFault}
-use Rattle.directory_types.specs.declared.fault.DirFault.TheVariants as fault
 use Rattle.directory_rules.specs.declared.Directory.{Directory}
-use Rattle.directory_rules.specs.Courses.{Course, Gives, Refuses, Asks, Does, Allocates, Done, given, value_of}
+use Rattle.directory_rules.specs.declared.Lookup.{Lookup}
+use Rattle.directory_rules.specs.Courses.{Course, Gives, Refuses, Asks, Does, Allocates, ◌>>=◌, Done, done, value_of}
 use Rattle.directory_rules.specs.Nodes.{node_of, entry_of, layer_key, is_partition}
-use Rattle.directory_rules.specs.Steps.{refuse_where, there, directory, root, below, directory_at, child_of, find_from, find, front, last_name}
-use Rattle.directory_laws.specs.Found.{directory_in, child_in, found_from, found_in}
-use Rattle.directory_laws.proofs.Going.{Goes, parts}
+use Rattle.directory_rules.specs.Steps.{refuse_where, there, directory, root, below, directory_at, child_of, Found, found_at, find_from, find, admits, Place, place, or_inside, arrives, front, last_name}
+use Rattle.directory_laws.specs.Found.{directory_in, child_in, found_from, found_in, StaysFrom, StaysInLayer, whole, AreFoundInLayer}
+use Rattle.directory_laws.proofs.Going.{Goes, went, parts}
 use Rattle.directory_laws.proofs.Growing.{Only}
 use Rattle.directory_laws.proofs.Writing.{child_of_none, find_from_none}
 
@@ -66,8 +66,7 @@ unfolding directory_at
 directory_seen setting snapshot layer prefix t value after goes =
     let first = parts setting (value_of snapshot (layer_key (node_of layer prefix))) _ t value after goes in
     let seen = value_seen setting snapshot (layer_key (node_of layer prefix)) t first.0 first.1 first.2 in
-    let second = parts setting (refuse_where (is_partition (unwrap_or first.0 [])) fault.Partition) _ first.1 value after first.3 in
-    sym second.3.0 ∙ ap (λ layer_name. Some (directory prefix (unwrap_or layer_name []))) seen.0
+    sym first.3.0 ∙ ap (λ layer_name. Some (directory prefix (unwrap_or layer_name []))) seen.0
 
 below_seen : (setting : Setting) (snapshot : Bool) (layer : Layer) (entry : Option (List ℕ)) (t : Transaction) (value : Option Directory)
     (after : Transaction) → Goes setting (below entry (directory_at snapshot layer)) t value after
@@ -98,38 +97,87 @@ pub none_from : (database : Database) (layer : Layer) (names : List (List ℕ)) 
 none_from database layer [] = refl
 none_from database layer (name ∷ names) = none_from database layer names
 
+-- from a directory that isn't a partition the next name is followed
+pub goes_on : {X : Type 0} (setting : Setting) (stops : Bool) (here others : Course X) (t : Transaction) (value : X) (after : Transaction)
+    → stops ≡ false → Goes setting (if stops then here else others) t value after → Goes setting others t value after
+goes_on setting true here others t value after is goes = absurd cc
+goes_on setting false here others t value after is goes = goes
+
 pub from_seen : (setting : Setting) (snapshot : Bool) (layer : Layer) (found : Directory) (names : List (List ℕ)) (t : Transaction)
-    (value : Option Directory) (after : Transaction) → Goes setting (find_from snapshot layer found names) t value after
-    → value ≡ found_from (view setting t) layer (Some found) names
+    (value : Option Found) (after : Transaction) → StaysFrom (view setting t) layer (Some found) names
+    → Goes setting (find_from snapshot layer found names) t value after
+    → value ≡ whole (found_from (view setting t) layer (Some found) names)
 unfolding find_from
-from_seen setting snapshot layer found [] t value after (is, left) = sym is
-from_seen setting snapshot layer found (name ∷ names) t value after goes =
-    let first = parts setting (child_of snapshot layer found name) _ t value after goes in
+from_seen setting snapshot layer found [] t value after stays (is, left) = sym is
+from_seen setting snapshot layer found (name ∷ names) t value after stays goes =
+    let further = child_of snapshot layer found name >>= (λ child. below child (λ next. find_from snapshot layer next names)) in
+    let first = parts setting (child_of snapshot layer found name) _ t value after
+    (goes_on setting (is_partition found.layer) (Gives (Some (found_at found (name ∷ names)))) further t value after stays.0 goes) in
     let seen = child_seen setting snapshot layer found name t first.0 first.1 first.2 in
     let same = quiet_seen setting (child_of snapshot layer found name) t first.0 first.1
     (child_of_none (λ mutation. false) (λ space. ⊥) snapshot layer found name) first.2 in
-    by first.0 first.1 (λ next. from_seen setting snapshot layer next names first.1 value after) first.3
-    ∙ ap (λ database. found_from database layer first.0 names) same
-    ∙ ap (λ child. found_from (view setting t) layer child names) seen.0
+    by first.0 first.1 (λ next. from_seen setting snapshot layer next names first.1 value after)
+    (subst (λ database. StaysFrom database layer first.0 names) (sym same)
+    (subst (λ child. StaysFrom (view setting t) layer child names) (sym seen.0) stays.1)) first.3
+    ∙ ap (λ database. whole (found_from database layer first.0 names)) same
+    ∙ ap (λ child. whole (found_from (view setting t) layer child names)) seen.0
   where
     by : (child : Option Directory) (u : Transaction)
-        → ((next : Directory) → Goes setting (find_from snapshot layer next names) u value after
-        → value ≡ found_from (view setting u) layer (Some next) names)
+        → ((next : Directory) → StaysFrom (view setting u) layer (Some next) names → Goes setting (find_from snapshot layer next names) u value after
+        → value ≡ whole (found_from (view setting u) layer (Some next) names))
+        → StaysFrom (view setting u) layer child names
         → Goes setting (below child (λ next. find_from snapshot layer next names)) u value after
-        → value ≡ found_from (view setting u) layer child names
-    by None u on (is, left) = sym is ∙ sym (none_from (view setting u) layer names)
-    by (Some next) u on goes = on next goes
+        → value ≡ whole (found_from (view setting u) layer child names)
+    by None u on stays (is, left) = sym is ∙ ap whole (sym (none_from (view setting u) layer names))
+    by (Some next) u on stays goes = on next stays goes
 
 -- what a search found, and what it left
-pub find_seen : (setting : Setting) (snapshot : Bool) (layer : Layer) (path : List (List ℕ)) (t : Transaction) (value : Option Directory)
-    (after : Transaction) → Goes setting (find snapshot layer path) t value after
-    → (value ≡ found_in (view setting t) layer path) × (view setting after ≡ view setting t)
+pub find_seen : (setting : Setting) (snapshot : Bool) (layer : Layer) (path : List (List ℕ)) (t : Transaction) (value : Option Found)
+    (after : Transaction) → StaysInLayer (view setting t) layer path → Goes setting (find snapshot layer path) t value after
+    → (value ≡ whole (found_in (view setting t) layer path)) × (view setting after ≡ view setting t)
 unfolding find
-find_seen setting snapshot layer path t value after goes = (
-  from_seen setting snapshot layer (root layer) path t value after goes,
+find_seen setting snapshot layer path t value after stays goes = (
+  from_seen setting snapshot layer (root layer) path t value after stays goes,
   quiet_seen setting (find_from snapshot layer (root layer) path) t value after
       (find_from_none (λ mutation. false) (λ space. ⊥) snapshot layer (root layer) path) goes,
 )
+
+pub found_in_layer : AreFoundInLayer
+found_in_layer snapshot layer path setting words t found end stays =
+    (find_seen setting snapshot layer path t found _ stays (went setting words (find snapshot layer path) t found end)).0
+
+-- ---- where a path ends
+
+ends_whole : (layer : Layer) (path : List (List ℕ)) (found : Option Directory) (again : Layer → List (List ℕ) → Course Place)
+    → or_inside layer path (whole found) again ≡ Gives (place layer path found)
+ends_whole layer path None again = refl
+ends_whole layer path (Some found) again = refl
+
+-- where it stays in one layer, it ends there; and what led there are the checks of the call and one search
+pub arrived : (setting : Setting) (bound : ℕ) (lookup : Lookup) (layer : Layer) (path : List (List ℕ)) (t : Transaction) (at : Place)
+    (after : Transaction)
+    → ((u : Transaction) → Goes setting (admits lookup layer path) t done u → StaysInLayer (view setting u) layer path)
+    → Goes setting (arrives (suc bound) lookup layer path) t at after
+    → (u : Transaction)
+    × Goes setting (admits lookup layer path) t done u
+    × Goes setting (find lookup.snapshot layer path) u (whole (found_in (view setting u) layer path)) after
+    × (at ≡ place layer path (found_in (view setting u) layer path))
+unfolding arrives
+arrived setting bound lookup layer path t at after stays goes =
+    let again = λ (layer : Layer) (names : List (List ℕ)). arrives bound lookup layer names in
+    let first = parts setting (admits lookup layer path) _ t at after goes in
+    let second = parts setting (find lookup.snapshot layer path) _ first.1 at after first.3 in
+    let found = found_in (view setting first.1) layer path in
+    let seen = find_seen setting lookup.snapshot layer path first.1 second.0 second.1 (stays first.1 first.2) second.2 in
+    let ends : Goes setting (Gives (place layer path found)) second.1 at after =
+    subst (λ (course : Course Place). Goes setting course second.1 at after) (ends_whole layer path found again)
+    (subst (λ value. Goes setting (or_inside layer path value again) second.1 at after) seen.0 second.3) in (
+      first.1,
+      first.2,
+      subst (λ u. Goes setting (find lookup.snapshot layer path) first.1 (whole found) u) ends.1
+          (subst (λ value. Goes setting (find lookup.snapshot layer path) first.1 value second.1) seen.0 second.2),
+      sym ends.0,
+    )
 
 -- ---- the last name
 

@@ -1,6 +1,6 @@
 -- The keys of the node of a prefix that is taken for a new directory may be read: the search for nodes inside it read its whole range.
 use Rattle.std.proofs.Common.{◌≡◌, ℕ, zero, suc, ◌+◌, Bool, true, false, cond, List, [], ◌∷◌, ◌++◌, length, Option, Some, None, refl, sym, ap, subst, ◌∙◌, arith}
-use Rattle.std.specs.Prelude.{not, ◌||◌, ◌==◌, if◌then◌else◌, unwrap_or, nat_lt}
+use Rattle.std.specs.Prelude.{not, ◌||◌, ◌==◌, if◌then◌else◌, nat_lt}
 use Rattle.std.specs.Option.{option_map_or}
 use Rattle.std.specs.Ordering.{is_lt}
 use Rattle.std.proofs.lemmas.Bool.{and_from, both_ways, eqb-true}
@@ -25,7 +25,7 @@ use Rattle.allocator_rules.specs.Acts.{Reads, act_called, refusal}
 use Rattle.directory_types.specs.declared.Layer.{Layer}
 use Rattle.directory_types.specs.declared.fault.DirFault.TheVariants as fault
 use Rattle.directory_rules.specs.Courses.{Course, Gives, given, pairs_of}
-use Rattle.directory_rules.specs.Nodes.{node_of, layer_key, is_partition}
+use Rattle.directory_rules.specs.Nodes.{node_of, layer_key}
 use Rattle.directory_rules.specs.Steps.{refuse_where, there, check, is_inside, has_inside, is_node_inside, is_in_use}
 use Rattle.directory_rules.specs.Calls.{has_keys, free_prefix, new_prefix, given_prefix, prefix_for, takes_prefix}
 use Rattle.directory_laws.proofs.Going.{Goes, parts}
@@ -246,11 +246,10 @@ prefix_readable setting layer None t own after (words, number, goes) = free_read
 prefix_readable setting layer (Some prefix) t own after goes = given_readable setting layer prefix t own after goes
 
 -- where its layer name will stand may be read
-pub taken_readable : (setting : Setting) (layer : Layer) (layer_name prefix : Option (List ℕ)) (t : Transaction) (own : List ℕ)
+pub taken_readable : (setting : Setting) (layer : Layer) (prefix : Option (List ℕ)) (t : Transaction) (own : List ℕ)
     (after : Transaction)
-    → Goes setting (takes_prefix layer layer_name prefix) t own after → Readable after (layer_key (node_of layer own))
+    → Goes setting (takes_prefix layer prefix) t own after → Readable after (layer_key (node_of layer own))
 unfolding takes_prefix
-taken_readable setting layer layer_name prefix t own after goes =
-    let first = parts setting (refuse_where (is_partition (unwrap_or layer_name [])) fault.Partition) _ t own after goes in
-    let second = parts setting (check true false layer) _ first.1 own after first.3 in
-    prefix_readable setting layer prefix second.1 own after second.3
+taken_readable setting layer prefix t own after goes =
+    let first = parts setting (check true false layer) _ t own after goes in
+    prefix_readable setting layer prefix first.1 own after first.3

@@ -9,3 +9,4 @@ pub mod Removing
 pub mod Keys
 pub mod Freeing
 pub mod Opening
+pub mod StayingInLayer

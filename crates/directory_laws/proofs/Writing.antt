@@ -1,6 +1,6 @@
 -- What the steps of a directory layer may write, course by course.
 use Rattle.std.proofs.Common.{◌≡◌, ℕ, zero, suc, ◌+◌, Bool, true, false, List, [], ◌∷◌, ◌++◌, length, Option, Some, None, Result, Ok, Err, refl}
-use Rattle.std.specs.Prelude.{not, ◌&&◌, ◌==◌, ◌||◌, if◌then◌else◌, unwrap_or, is_some, bytes_eq}
+use Rattle.std.specs.Prelude.{not, ◌&&◌, ◌==◌, ◌||◌, if◌then◌else◌, unwrap_or, bytes_eq}
 use Rattle.std.specs.List.{starts_with}
 use Rattle.key_bytes.specs.Successors.{strinc}
 use Rattle.key_bytes.specs.Keys.{begins_with}
@@ -13,11 +13,12 @@ use Rattle.directory_types.specs.declared.DirKind.TheVariants as kind
 use Rattle.directory_types.specs.declared.fault.DirFault.{DirFault}
 use Rattle.directory_types.specs.declared.fault.DirFault.TheVariants as fault
 use Rattle.directory_rules.specs.declared.Directory.{Directory}
+use Rattle.directory_rules.specs.declared.Lookup.{Lookup}
 use Rattle.directory_rules.specs.declared.OpenOptions.{OpenOptions}
 use Rattle.directory_rules.specs.Courses.{Course, Gives, ◌>>=◌, given, does, value_of, pairs_of}
 use Rattle.directory_rules.specs.Nodes.{node_of, entry_of, layer_key, version_key, version_now, allocator_of, is_partition, packed_number}
-use Rattle.directory_rules.specs.Steps.{refuse_where, there, version_checked, check, root, below, directory_at, child_of, find_from, find, front, last_name, children, is_inside, has_inside, is_node_inside, is_in_use, sets_entry, clears_entry}
-use Rattle.directory_rules.specs.Calls.{opens, looks, has_keys, free_prefix, new_prefix, given_prefix, prefix_for, takes_prefix, enters, or_else, makes, opening, to_create, to_create_or_open, to_open, finds_moved, enters_moved, leaves, moving, clears_one, clears_all, removes_one, removes_found, removing, names_below, is_there, names_where, notes, logging, course}
+use Rattle.directory_rules.specs.Steps.{refuse_where, there, version_checked, check, root, below, directory_at, child_of, Found, found_at, find_from, find, inside, admits, Place, or_inside, arrives, front, last_name, children, is_inside, has_inside, is_node_inside, is_in_use, sets_entry, clears_entry}
+use Rattle.directory_rules.specs.Calls.{judged, to_look, looks, has_keys, free_prefix, new_prefix, given_prefix, prefix_for, takes_prefix, enters, or_else, or_root, makes, opening, to_create, to_create_or_open, to_open, Move, moves_on, moves_in, finds_moved, enters_moved, leaves, moving, clears_one, clears_all, removes_one, removes_found, to_remove, removing, to_see, lists, names_below, is_there, names_where, notes, logging, course}
 use Rattle.directory_laws.proofs.Growing.{Only, both_only, AllocatorsMay}
 use Rattle.directory_laws.proofs.Planning.{planned}
 
@@ -28,7 +29,7 @@ pub refuses_none : (may : Mutation → Bool) (spaces : List ℕ → Type 0) (ref
 refuses_none may spaces true fault = tt
 refuses_none may spaces false fault = tt
 
-there_none : {X : Type 0} (may : Mutation → Bool) (spaces : List ℕ → Type 0) (fault : DirFault) (value : Option X)
+pub there_none : {X : Type 0} (may : Mutation → Bool) (spaces : List ℕ → Type 0) (fault : DirFault) (value : Option X)
     → Only may spaces (there fault value)
 there_none may spaces fault None = tt
 there_none may spaces fault (Some value) = tt
@@ -57,8 +58,7 @@ pub directory_at_none : (may : Mutation → Bool) (spaces : List ℕ → Type 0)
 unfolding directory_at
 directory_at_none may spaces snapshot layer prefix =
     both_only may spaces (value_of snapshot (layer_key (node_of layer prefix))) _ (value_none may spaces snapshot _)
-    (λ value. both_only may spaces (refuse_where (is_partition (unwrap_or value [])) fault.Partition) _
-    (refuses_none may spaces (is_partition (unwrap_or value [])) fault.Partition) (λ allowed. tt))
+    (λ value. tt)
 
 pub child_of_none : (may : Mutation → Bool) (spaces : List ℕ → Type 0) (snapshot : Bool) (layer : Layer) (found : Directory) (name : List ℕ)
     → Only may spaces (child_of snapshot layer found name)
@@ -73,16 +73,22 @@ pub find_from_none : (may : Mutation → Bool) (spaces : List ℕ → Type 0) (s
 unfolding find_from
 find_from_none may spaces snapshot layer found [] = tt
 find_from_none may spaces snapshot layer found (name ∷ names) =
-    both_only may spaces (child_of snapshot layer found name) _ (child_of_none may spaces snapshot layer found name)
-    (λ child. below_none may spaces child (λ next. find_from snapshot layer next names)
-    (λ next. find_from_none may spaces snapshot layer next names))
+    by (is_partition found.layer) (λ next. find_from_none may spaces snapshot layer next names)
+  where
+    by : (stops : Bool) → ((next : Directory) → Only may spaces (find_from snapshot layer next names))
+        → Only may spaces (if stops then Gives (Some (found_at found (name ∷ names)))
+        else child_of snapshot layer found name >>= (λ child. below child (λ next. find_from snapshot layer next names)))
+    by true more = tt
+    by false more =
+        both_only may spaces (child_of snapshot layer found name) _ (child_of_none may spaces snapshot layer found name)
+        (λ child. below_none may spaces child (λ next. find_from snapshot layer next names) more)
 
 pub find_none : (may : Mutation → Bool) (spaces : List ℕ → Type 0) (snapshot : Bool) (layer : Layer) (path : List (List ℕ))
     → Only may spaces (find snapshot layer path)
 unfolding find
 find_none may spaces snapshot layer path = find_from_none may spaces snapshot layer (root layer) path
 
-children_none : (may : Mutation → Bool) (spaces : List ℕ → Type 0) (snapshot : Bool) (layer : Layer) (prefix : List ℕ)
+pub children_none : (may : Mutation → Bool) (spaces : List ℕ → Type 0) (snapshot : Bool) (layer : Layer) (prefix : List ℕ)
     → Only may spaces (children snapshot layer prefix)
 unfolding children
 children_none may spaces snapshot layer prefix =
@@ -148,23 +154,45 @@ check_none may spaces snapshot layer =
 
 -- ---- the prefix of a new directory
 
-opens_none : (may : Mutation → Bool) (spaces : List ℕ → Type 0) (options : OpenOptions) (layer_name : Option (List ℕ)) (found : Option Directory)
-    → Only may spaces (opens options layer_name found)
-opens_none may spaces options layer_name (Some found) = given_none may spaces _
-opens_none may spaces options layer_name None = both_only may spaces (refuse_where (not options.may_create) fault.Missing) _
-    (refuses_none may spaces (not options.may_create) fault.Missing) (λ allowed. tt)
+-- what is checked before a path is looked for, where the check of the version may be made
+admits_only : (may : Mutation → Bool) (spaces : List ℕ → Type 0) (lookup : Lookup) (layer : Layer) (path : List (List ℕ))
+    → Only may spaces (check lookup.writes lookup.snapshot layer) → Only may spaces (admits lookup layer path)
+unfolding admits
+admits_only may spaces lookup layer path checked =
+    both_only may spaces (check lookup.writes lookup.snapshot layer) _ checked
+    (λ checked. both_only may spaces (refuse_where (lookup.has_prefix && not layer.manual) fault.ManualNotAllowed) _
+    (refuses_none may spaces (lookup.has_prefix && not layer.manual) fault.ManualNotAllowed)
+    (λ allowed. refuses_none may spaces (not lookup.may_be_root && length path == 0) fault.EmptyPath))
+
+inside_only : (may : Mutation → Bool) (spaces : List ℕ → Type 0) (layer : Layer) (path : List (List ℕ)) (found : Option Found)
+    (again : Layer → List (List ℕ) → Course Place) → ((layer : Layer) (path : List (List ℕ)) → Only may spaces (again layer path))
+    → Only may spaces (or_inside layer path found again)
+inside_only may spaces layer path None again each = tt
+inside_only may spaces layer path (Some found) again each = by found.rest
+  where
+    by : (rest : List (List ℕ)) → Only may spaces (or_inside layer path (Some (found_at found.directory rest)) again)
+    by [] = tt
+    by (name ∷ names) = each (inside found.directory.prefix) (name ∷ names)
+
+-- up to where a path ends, where the check of the version may be made in each layer
+arrives_only : (may : Mutation → Bool) (spaces : List ℕ → Type 0) (bound : ℕ) (lookup : Lookup) (layer : Layer) (path : List (List ℕ))
+    → ((layer : Layer) → Only may spaces (check lookup.writes lookup.snapshot layer)) → Only may spaces (arrives bound lookup layer path)
+unfolding arrives
+arrives_only may spaces zero lookup layer path checked = tt
+arrives_only may spaces (suc bound) lookup layer path checked =
+    both_only may spaces (admits lookup layer path) _ (admits_only may spaces lookup layer path (checked layer))
+    (λ may_be. both_only may spaces (find lookup.snapshot layer path) _ (find_none may spaces lookup.snapshot layer path)
+    (λ found. inside_only may spaces layer path found (λ layer names. arrives bound lookup layer names)
+    (λ layer path. arrives_only may spaces bound lookup layer path checked)))
 
 pub looks_none : (may : Mutation → Bool) (spaces : List ℕ → Type 0) (options : OpenOptions) (layer : Layer) (path : List (List ℕ))
     (layer_name prefix : Option (List ℕ)) → Only may spaces (looks options layer path layer_name prefix)
 unfolding looks
 looks_none may spaces options layer path layer_name prefix =
-    both_only may spaces (check false options.snapshot layer) _ (check_none may spaces options.snapshot layer)
-    (λ read. both_only may spaces (refuse_where (is_some prefix && not layer.manual) fault.ManualNotAllowed) _
-    (refuses_none may spaces (is_some prefix && not layer.manual) fault.ManualNotAllowed)
-    (λ allowed. both_only may spaces (refuse_where (length path == 0) fault.EmptyPath) _
-    (refuses_none may spaces (length path == 0) fault.EmptyPath)
-    (λ named. both_only may spaces (find options.snapshot layer path) _ (find_none may spaces options.snapshot layer path)
-    (λ found. opens_none may spaces options layer_name found))))
+    both_only may spaces (arrives (length path + 1) (to_look options prefix) layer path) _
+    (arrives_only may spaces (length path + 1) (to_look options prefix) layer path (λ layer. check_none may spaces options.snapshot layer))
+    (λ at. both_only may spaces (given (judged options layer_name at.found)) _ (given_none may spaces (judged options layer_name at.found))
+    (λ found. tt))
 
 pub has_keys_none : (may : Mutation → Bool) (spaces : List ℕ → Type 0) (prefix : List ℕ) → Only may spaces (has_keys prefix)
 unfolding has_keys
@@ -189,15 +217,13 @@ prefix_only may spaces layer (Some prefix) allowed =
     both_only may spaces (is_in_use false layer prefix) _ (in_use_none may spaces false layer prefix)
     (λ used. both_only may spaces (refuse_where used fault.PrefixInUse) _ (refuses_none may spaces used fault.PrefixInUse) (λ free. tt))
 
-pub takes_only : (may : Mutation → Bool) (spaces : List ℕ → Type 0) (layer : Layer) (layer_name prefix : Option (List ℕ))
+pub takes_only : (may : Mutation → Bool) (spaces : List ℕ → Type 0) (layer : Layer) (prefix : Option (List ℕ))
     → may (Set (version_key layer) version_now) ≡ true → spaces (allocator_of layer)
-    → Only may spaces (takes_prefix layer layer_name prefix)
+    → Only may spaces (takes_prefix layer prefix)
 unfolding takes_prefix
-takes_only may spaces layer layer_name prefix version allocator =
-    both_only may spaces (refuse_where (is_partition (unwrap_or layer_name [])) fault.Partition) _
-    (refuses_none may spaces (is_partition (unwrap_or layer_name [])) fault.Partition)
-    (λ plain. both_only may spaces (check true false layer) _ (check_only may spaces true false layer version)
-    (λ written. prefix_only may spaces layer prefix allocator))
+takes_only may spaces layer prefix version allocator =
+    both_only may spaces (check true false layer) _ (check_only may spaces true false layer version)
+    (λ written. prefix_only may spaces layer prefix allocator)
 
 -- ---- no call writes a versionstamp
 
@@ -220,9 +246,9 @@ or_plain : (found : Option Directory) (others : Course Directory) → IsPlain ot
 or_plain (Some found) others plain = tt
 or_plain None others plain = plain
 
-pub if_plain : {X : Type 0} (one : Bool) (value : X) (others : Course X) → IsPlain others → IsPlain (if one then Gives value else others)
-if_plain true value others plain = tt
-if_plain false value others plain = plain
+pub root_plain : (layer : Layer) (path : List (List ℕ)) (others : Course Directory) → IsPlain others → IsPlain (or_root layer path others)
+root_plain layer [] others plain = tt
+root_plain layer (name ∷ names) others plain = plain
 
 pub makes_plain : (bound : ℕ) (options : OpenOptions) (layer : Layer) (path : List (List ℕ)) (layer_name prefix : Option (List ℕ))
     → IsPlain (makes bound options layer path layer_name prefix)
@@ -231,13 +257,13 @@ makes_plain zero options layer path layer_name prefix = tt
 makes_plain (suc bound) options layer path layer_name prefix =
     both_only is_plain (AllocatorsMay is_plain) (looks options layer path layer_name prefix) _
     (looks_none is_plain (AllocatorsMay is_plain) options layer path layer_name prefix)
-    (λ found. or_plain found _ (both_only is_plain (AllocatorsMay is_plain) (takes_prefix layer layer_name prefix) _
-    (takes_only is_plain (AllocatorsMay is_plain) layer layer_name prefix refl (allocators_plain (allocator_of layer)))
+    (λ at. or_plain at.found _ (both_only is_plain (AllocatorsMay is_plain) (takes_prefix at.layer prefix) _
+    (takes_only is_plain (AllocatorsMay is_plain) at.layer prefix refl (allocators_plain (allocator_of at.layer)))
     (λ own. both_only is_plain (AllocatorsMay is_plain)
-    (if length path == 1 then Gives (root layer) else makes bound to_create_or_open layer (front path) None None) _
-    (if_plain (length path == 1) (root layer) (makes bound to_create_or_open layer (front path) None None)
-    (makes_plain bound to_create_or_open layer (front path) None None))
-    (λ parent. enters_plain layer parent (last_name path) own (unwrap_or layer_name [])))))
+    (or_root at.layer (front at.path) (makes bound to_create_or_open at.layer (front at.path) None None)) _
+    (root_plain at.layer (front at.path) (makes bound to_create_or_open at.layer (front at.path) None None)
+    (makes_plain bound to_create_or_open at.layer (front at.path) None None))
+    (λ parent. enters_plain at.layer parent (last_name at.path) own (unwrap_or layer_name [])))))
 
 then_plain : {X Y : Type 0} (course : Course X) (next : X → Course Y) → IsPlain course → ((value : X) → IsPlain (next value))
     → IsPlain (course >>= next)
@@ -248,6 +274,10 @@ check_plain writes snapshot layer = check_only is_plain (AllocatorsMay is_plain)
 
 find_plain : (snapshot : Bool) (layer : Layer) (path : List (List ℕ)) → IsPlain (find snapshot layer path)
 find_plain snapshot layer path = find_none is_plain (AllocatorsMay is_plain) snapshot layer path
+
+arrives_plain : (bound : ℕ) (lookup : Lookup) (layer : Layer) (path : List (List ℕ)) → IsPlain (arrives bound lookup layer path)
+arrives_plain bound lookup layer path =
+    arrives_only is_plain (AllocatorsMay is_plain) bound lookup layer path (check_plain lookup.writes lookup.snapshot)
 
 refuses_plain : (refuses : Bool) (fault : DirFault) → IsPlain (refuse_where refuses fault)
 refuses_plain refuses fault = refuses_none is_plain (AllocatorsMay is_plain) refuses fault
@@ -266,13 +296,26 @@ opening_plain options layer args =
 
 -- ---- move_to
 
-finds_moved_plain : (layer : Layer) (path new_path : List (List ℕ)) → IsPlain (finds_moved layer path new_path)
+moves_in_plain : (layer : Layer) (path new_path : List (List ℕ)) (old : Found) (further : Option (List (List ℕ)))
+    (again : Layer → (path new_path : List (List ℕ)) → Course Move)
+    → ((layer : Layer) (path new_path : List (List ℕ)) → IsPlain (again layer path new_path))
+    → IsPlain (moves_in layer path new_path old further again)
+moves_in_plain layer path new_path old None again each = tt
+moves_in_plain layer path new_path old (Some names) again each = each (inside old.directory.prefix) old.rest names
+
+finds_moved_plain : (bound : ℕ) (layer : Layer) (path new_path : List (List ℕ)) → IsPlain (finds_moved bound layer path new_path)
 unfolding finds_moved
-finds_moved_plain layer path new_path =
-    then_plain (find false layer path) _ (find_plain false layer path)
+finds_moved_plain zero layer path new_path = tt
+finds_moved_plain (suc bound) layer path new_path =
+    then_plain (check true false layer) _ (check_plain true false layer)
+    (λ written. then_plain (refuse_where (starts_with bytes_eq new_path path) fault.IntoItself) _
+    (refuses_plain (starts_with bytes_eq new_path path) fault.IntoItself)
+    (λ apart. then_plain (find false layer path) _ (find_plain false layer path)
     (λ old. then_plain (find false layer new_path) _ (find_plain false layer new_path)
     (λ new. then_plain (there fault.Missing old) _ (there_plain fault.Missing old)
-    (λ moved. then_plain (refuse_where (is_some new) fault.Exists) _ (refuses_plain (is_some new) fault.Exists) (λ free. tt))))
+    (λ found. then_plain (given (moves_on found new)) _ (given_none is_plain (AllocatorsMay is_plain) (moves_on found new))
+    (λ further. moves_in_plain layer path new_path found further (λ layer path new_path. finds_moved bound layer path new_path)
+    (λ layer path new_path. finds_moved_plain bound layer path new_path)))))))
 
 enters_moved_plain : (layer : Layer) (above : List (List ℕ)) (name : List ℕ) (moved : Directory)
     → IsPlain (enters_moved layer above name moved)
@@ -281,7 +324,7 @@ enters_moved_plain layer above name moved =
     then_plain (find false layer above) _ (find_plain false layer above)
     (λ found. then_plain (there fault.ParentMissing found) _ (there_plain fault.ParentMissing found) (λ parent. (refl, tt)))
 
-clears_entry_plain : (layer : Layer) (parent : Option Directory) (name : List ℕ) → IsPlain (clears_entry layer parent name)
+clears_entry_plain : (layer : Layer) (parent : Option Found) (name : List ℕ) → IsPlain (clears_entry layer parent name)
 unfolding clears_entry does
 clears_entry_plain layer None name = tt
 clears_entry_plain layer (Some parent) name = (refl, tt)
@@ -294,14 +337,11 @@ leaves_plain layer above name =
 moving_plain : (layer : Layer) (path new_path : List (List ℕ)) → IsPlain (moving layer path new_path)
 unfolding moving
 moving_plain layer path new_path =
-    then_plain (check true false layer) _ (check_plain true false layer)
-    (λ written. then_plain (refuse_where (starts_with bytes_eq new_path path) fault.IntoItself) _
-    (refuses_plain (starts_with bytes_eq new_path path) fault.IntoItself)
-    (λ apart. then_plain (finds_moved layer path new_path) _ (finds_moved_plain layer path new_path)
-    (λ moved. then_plain (enters_moved layer (front new_path) (last_name new_path) moved) _
-    (enters_moved_plain layer (front new_path) (last_name new_path) moved)
-    (λ entry. then_plain (leaves layer (front path) (last_name path)) _ (leaves_plain layer (front path) (last_name path))
-    (λ cleared. tt)))))
+    then_plain (finds_moved (length path + 1) layer path new_path) _ (finds_moved_plain (length path + 1) layer path new_path)
+    (λ at. then_plain (enters_moved at.layer (front at.new_path) (last_name at.new_path) at.moved) _
+    (enters_moved_plain at.layer (front at.new_path) (last_name at.new_path) at.moved)
+    (λ entry. then_plain (leaves at.layer (front at.path) (last_name at.path)) _ (leaves_plain at.layer (front at.path) (last_name at.path))
+    (λ cleared. tt)))
 
 -- ---- remove
 
@@ -337,26 +377,35 @@ removes_found_plain bound false layer path (Some found) = removes_one_plain boun
 removing_plain : (bound : ℕ) (must_exist : Bool) (layer : Layer) (path : List (List ℕ)) → IsPlain (removing bound must_exist layer path)
 unfolding removing
 removing_plain bound must_exist layer path =
-    then_plain (check true false layer) _ (check_plain true false layer)
-    (λ written. then_plain (refuse_where (length path == 0) fault.EmptyPath) _ (refuses_plain (length path == 0) fault.EmptyPath)
-    (λ named. then_plain (find false layer path) _ (find_plain false layer path)
-    (λ found. removes_found_plain bound must_exist layer path found)))
+    then_plain (arrives (length path + 1) to_remove layer path) _ (arrives_plain (length path + 1) to_remove layer path)
+    (λ at. removes_found_plain bound must_exist at.layer at.path at.found)
 
 -- ---- list, exists, log
+
+lists_plain : (snapshot : Bool) (layer : Layer) (found : Directory) → IsPlain (lists snapshot layer found)
+unfolding lists
+lists_plain snapshot layer found = by (is_partition found.layer)
+  where
+    by : (is : Bool)
+        → IsPlain (if is then check false snapshot (inside found.prefix) >>= (λ read. children snapshot (inside found.prefix) (inside found.prefix).node)
+        else children snapshot layer found.prefix)
+    by true =
+        then_plain (check false snapshot (inside found.prefix)) _ (check_plain false snapshot (inside found.prefix))
+        (λ read. children_plain snapshot (inside found.prefix) (inside found.prefix).node)
+    by false = children_plain snapshot layer found.prefix
 
 names_plain : (snapshot : Bool) (layer : Layer) (path : List (List ℕ)) → IsPlain (names_below snapshot layer path)
 unfolding names_below
 names_plain snapshot layer path =
-    then_plain (check false snapshot layer) _ (check_plain false snapshot layer)
-    (λ read. then_plain (find snapshot layer path) _ (find_plain snapshot layer path)
-    (λ found. then_plain (there fault.Missing found) _ (there_plain fault.Missing found)
-    (λ one. then_plain (children snapshot layer one.prefix) _ (children_plain snapshot layer one.prefix) (λ below. tt))))
+    then_plain (arrives (length path + 1) (to_see snapshot) layer path) _ (arrives_plain (length path + 1) (to_see snapshot) layer path)
+    (λ at. then_plain (there fault.Missing at.found) _ (there_plain fault.Missing at.found)
+    (λ one. then_plain (lists snapshot at.layer one) _ (lists_plain snapshot at.layer one) (λ below. tt)))
 
 is_there_plain : (snapshot : Bool) (layer : Layer) (path : List (List ℕ)) → IsPlain (is_there snapshot layer path)
 unfolding is_there
 is_there_plain snapshot layer path =
-    then_plain (check false snapshot layer) _ (check_plain false snapshot layer)
-    (λ read. then_plain (find snapshot layer path) _ (find_plain snapshot layer path) (λ found. tt))
+    then_plain (arrives (length path + 1) (to_see snapshot) layer path) _ (arrives_plain (length path + 1) (to_see snapshot) layer path)
+    (λ at. tt)
 
 names_where_plain : (is : Bool) (layer : Layer) (path : List (List ℕ)) → IsPlain (names_where is layer path)
 names_where_plain true layer path = names_plain false layer path
@@ -381,8 +430,8 @@ course_plain kind.Create keys layer args = opening_plain to_create layer args
 course_plain kind.CreateOrOpen keys layer args = opening_plain to_create_or_open layer args
 course_plain kind.Open keys layer args = opening_plain (to_open args.snapshot) layer args
 course_plain kind.MoveTo keys layer args = moving_plain layer args.path args.new_path
-course_plain kind.Remove keys layer args = removing_plain (keys + 2) true layer args.path
-course_plain kind.RemoveIfExists keys layer args = removing_plain (keys + 2) false layer args.path
+course_plain kind.Remove keys layer args = removing_plain (keys + length args.path + 2) true layer args.path
+course_plain kind.RemoveIfExists keys layer args = removing_plain (keys + length args.path + 2) false layer args.path
 course_plain kind.List keys layer args =
     then_plain (names_below args.snapshot layer args.path) _ (names_plain args.snapshot layer args.path) (λ names. tt)
 course_plain kind.Exists keys layer args =

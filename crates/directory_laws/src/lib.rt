@@ -1,13 +1,14 @@
-//! What a user of directories relies on: a directory that a call opened or created is found by its path; one that a call removed
-//! is not; and of the database a call changes those keys alone that it wrote.
+//! What a user of directories relies on: where a path stays in one layer, a directory that a call opened or created is found by its
+//! path, and one that a call removed is not; and of the database a call changes those keys alone that it wrote.
 //!
 //! These are laws of the definitions, proved once: for any layer, any arguments, any transaction and any random words.
 #![tactic(auto)]
 
-ghost use Rattle.directory_laws.specs.Found.{AreOpenedFound, AreRemovedGone, DoesAllElseStay};
+ghost use Rattle.directory_laws.specs.Found.{AreFoundInLayer, AreOpenedFound, AreRemovedGone, DoesAllElseStay};
 
 /// Shows to a proof what holds of directories after calls. It does nothing when it runs.
 pub fn directories_are_found()
+    ensures found { AreFoundInLayer }
     ensures opened { AreOpenedFound }
     ensures removed { AreRemovedGone }
     ensures others { DoesAllElseStay }

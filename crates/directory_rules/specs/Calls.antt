@@ -20,8 +20,9 @@ use Rattle.directory_rules.specs.Courses.{Course, Gives, Refuses, Allocates, ◌
 use Rattle.directory_rules.specs.Nodes.{packed_bytes, packed_number, packed_text, node_of, layer_key, allocator_of, is_partition}
 use Rattle.directory_rules.specs.declared.Child.{Child}
 use Rattle.directory_rules.specs.declared.Directory.{Directory}
+use Rattle.directory_rules.specs.declared.Lookup.{Lookup}
 use Rattle.directory_rules.specs.declared.OpenOptions.{OpenOptions}
-use Rattle.directory_rules.specs.Steps.{refuse_where, there, check, directory, root, find, front, last_name, children, is_in_use, sets_entry, clears_entry}
+use Rattle.directory_rules.specs.Steps.{refuse_where, there, check, root, Found, find, inside, Place, place, arrives, front, last_name, children, directory, is_in_use, sets_entry, clears_entry}
 
 abbrev pub opened : (path : List (List ℕ)) → Directory → DirReply
 opened path found = reply.Opened found.prefix path found.layer
@@ -45,20 +46,19 @@ found_opened options layer_name found =
     else Ok (Some found)
 
 -- one that isn't there may have to be created
-abbrev pub opens : OpenOptions → (layer_name : Option (List ℕ)) → Option Directory → Course (Option Directory)
-opens options layer_name (Some found) = given (found_opened options layer_name found)
-opens options layer_name None = do
-  may ← refuse_where (not options.may_create) fault.Missing
-  Gives None
+abbrev pub judged : OpenOptions → (layer_name : Option (List ℕ)) → Option Directory → Result (Option Directory) DirFault
+judged options layer_name (Some found) = found_opened options layer_name found
+judged options layer_name None = if options.may_create then Ok None else Err fault.Missing
 
--- the directory that is there, or none where it is to be created
-unfoldable pub looks : OpenOptions → Layer → (path : List (List ℕ)) → (layer_name prefix : Option (List ℕ)) → Course (Option Directory)
+abbrev pub to_look : OpenOptions → (prefix : Option (List ℕ)) → Lookup
+to_look options prefix = record { writes = false; snapshot = options.snapshot; has_prefix = is_some prefix; may_be_root = false }
+
+-- where the path ends, with the directory that is there, or none where it is to be created
+unfoldable pub looks : OpenOptions → Layer → (path : List (List ℕ)) → (layer_name prefix : Option (List ℕ)) → Course Place
 looks options layer path layer_name prefix = do
-  read ← check false options.snapshot layer
-  allowed ← refuse_where (is_some prefix && not layer.manual) fault.ManualNotAllowed
-  named ← refuse_where (length path == 0) fault.EmptyPath
-  found ← find options.snapshot layer path
-  opens options layer_name found
+  at ← arrives (length path + 1) (to_look options prefix) layer path
+  found ← given (judged options layer_name at.found)
+  Gives (place at.layer at.path found)
 
 -- whether there are keys that begin with a prefix
 unfoldable pub has_keys : (prefix : List ℕ) → Course Bool
@@ -91,9 +91,8 @@ prefix_for layer None = new_prefix layer
 prefix_for layer (Some prefix) = given_prefix layer prefix
 
 -- the prefix of a directory that is to be created
-unfoldable pub takes_prefix : Layer → (layer_name prefix : Option (List ℕ)) → Course (List ℕ)
-takes_prefix layer layer_name prefix = do
-  plain ← refuse_where (is_partition (unwrap_or layer_name [])) fault.Partition
+unfoldable pub takes_prefix : Layer → (prefix : Option (List ℕ)) → Course (List ℕ)
+takes_prefix layer prefix = do
   written ← check true false layer
   prefix_for layer prefix
 
@@ -109,16 +108,21 @@ abbrev pub or_else : Option Directory → Course Directory → Course Directory
 or_else (Some found) others = Gives found
 or_else None others = others
 
+-- the directory of the empty path is the root
+abbrev pub or_root : Layer → (path : List (List ℕ)) → Course Directory → Course Directory
+or_root layer [] others = Gives (root layer)
+or_root layer (name ∷ names) others = others
+
 -- The parent is made before its child is entered, by the same steps: the number bounds how often, and that of the names of the
 -- path is enough, since each time one name is left out. Of a path with one name the parent is the root.
 unfoldable pub makes : (bound : ℕ) → OpenOptions → Layer → (path : List (List ℕ)) → (layer_name prefix : Option (List ℕ)) → Course Directory
 makes zero options layer path layer_name prefix = Gives (root layer)
 makes (suc bound) options layer path layer_name prefix = do
-  found ← looks options layer path layer_name prefix
-  or_else found (do
-    own ← takes_prefix layer layer_name prefix
-    parent ← if length path == 1 then Gives (root layer) else makes bound to_create_or_open layer (front path) None None
-    enters layer parent (last_name path) own (unwrap_or layer_name []))
+  at ← looks options layer path layer_name prefix
+  or_else at.found (do
+    own ← takes_prefix at.layer prefix
+    parent ← or_root at.layer (front at.path) (makes bound to_create_or_open at.layer (front at.path) None None)
+    enters at.layer parent (last_name at.path) own (unwrap_or layer_name []))
 
 unfoldable pub opening : OpenOptions → Layer → DirArgs → Course DirReply
 opening options layer args = do
@@ -127,21 +131,55 @@ opening options layer args = do
 
 -- ---- move_to
 
--- the directory that is moved: both paths are looked for before either is judged
-unfoldable pub finds_moved : Layer → (path new_path : List (List ℕ)) → Course Directory
-finds_moved layer path new_path = do
+-- what is moved, and where: a layer, and both paths in it
+pub record Move : Type 0 where
+  pub layer : Layer
+  pub path : List (List ℕ)
+  pub new_path : List (List ℕ)
+  pub moved : Directory
+
+-- Where a move goes on, by what both paths lead to: in this layer, where nothing is found at the new path; or in the partition that both
+-- lead into, with the names that remain of the new path.
+abbrev pub moves_on : Found → Option Found → Result (Option (List (List ℕ))) DirFault
+moves_on old None = by old.rest
+  where
+    by : (rest : List (List ℕ)) → Result (Option (List (List ℕ))) DirFault
+    by [] = Ok None
+    by (name ∷ names) = Err fault.AcrossPartitions
+moves_on old (Some new) = by old.rest new.rest
+  where
+    by : (rest new_rest : List (List ℕ)) → Result (Option (List (List ℕ))) DirFault
+    by [] [] = Err fault.Exists
+    by [] (name ∷ names) = Err fault.AcrossPartitions
+    by (name ∷ names) [] = Err fault.AcrossPartitions
+    by (name ∷ names) (new_name ∷ new_names) =
+        if bytes_eq old.directory.prefix new.directory.prefix then Ok (Some (new_name ∷ new_names)) else Err fault.AcrossPartitions
+
+-- in this layer, or begun again in the partition
+abbrev pub moves_in : Layer → (path new_path : List (List ℕ)) → Found → Option (List (List ℕ))
+    → (again : Layer → (path new_path : List (List ℕ)) → Course Move) → Course Move
+moves_in layer path new_path old None again = Gives (record { layer = layer; path = path; new_path = new_path; moved = old.directory })
+moves_in layer path new_path old (Some names) again = again (inside old.directory.prefix) old.rest names
+
+-- What is moved: both paths are looked for before either is judged. Where names of both remain at one partition, the call begins
+-- again on its layer with these; one more than the number of the names of the path bounds how often.
+unfoldable pub finds_moved : (bound : ℕ) → Layer → (path new_path : List (List ℕ)) → Course Move
+finds_moved zero layer path new_path = Refuses fault.Missing
+finds_moved (suc bound) layer path new_path = do
+  written ← check true false layer
+  apart ← refuse_where (starts_with bytes_eq new_path path) fault.IntoItself
   old ← find false layer path
   new ← find false layer new_path
-  moved ← there fault.Missing old
-  free ← refuse_where (is_some new) fault.Exists
-  Gives moved
+  found ← there fault.Missing old
+  further ← given (moves_on found new)
+  moves_in layer path new_path found further (λ layer path new_path. finds_moved bound layer path new_path)
 
 -- a directory is entered under another name of its own
 unfoldable pub enters_moved : Layer → (above : List (List ℕ)) → (name : List ℕ) → Directory → Course Done
 enters_moved layer above name moved = do
   found ← find false layer above
   parent ← there fault.ParentMissing found
-  sets_entry layer parent.prefix name moved.prefix
+  sets_entry layer parent.directory.prefix name moved.prefix
 
 -- the entry of a name is cleared in the directory of a path, where that is still there
 unfoldable pub leaves : Layer → (above : List (List ℕ)) → (name : List ℕ) → Course Done
@@ -151,12 +189,10 @@ leaves layer above name = do
 
 unfoldable pub moving : Layer → (path new_path : List (List ℕ)) → Course DirReply
 moving layer path new_path = do
-  written ← check true false layer
-  apart ← refuse_where (starts_with bytes_eq new_path path) fault.IntoItself
-  moved ← finds_moved layer path new_path
-  entry ← enters_moved layer (front new_path) (last_name new_path) moved
-  cleared ← leaves layer (front path) (last_name path)
-  Gives (opened new_path moved)
+  at ← finds_moved (length path + 1) layer path new_path
+  entry ← enters_moved at.layer (front at.new_path) (last_name at.new_path) at.moved
+  cleared ← leaves at.layer (front at.path) (last_name at.path)
+  Gives (opened new_path at.moved)
 
 -- ---- remove, remove_if_exists
 
@@ -191,28 +227,38 @@ removes_found bound true layer path None = Refuses fault.Missing
 removes_found bound false layer path None = Gives reply.Done
 removes_found bound must_exist layer path (Some found) = removes_one bound layer (front path) (last_name path) found
 
+abbrev pub to_remove : Lookup
+to_remove = record { writes = true; snapshot = false; has_prefix = false; may_be_root = false }
+
 unfoldable pub removing : (bound : ℕ) → (must_exist : Bool) → Layer → (path : List (List ℕ)) → Course DirReply
 removing bound must_exist layer path = do
-  written ← check true false layer
-  named ← refuse_where (length path == 0) fault.EmptyPath
-  found ← find false layer path
-  removes_found bound must_exist layer path found
+  at ← arrives (length path + 1) to_remove layer path
+  removes_found bound must_exist at.layer at.path at.found
 
 -- ---- list, exists
 
+abbrev pub to_see : (snapshot : Bool) → Lookup
+to_see snapshot = record { writes = false; snapshot = snapshot; has_prefix = false; may_be_root = true }
+
+-- those right below a directory; below a partition, those of the root of its own layer
+unfoldable pub lists : (snapshot : Bool) → Layer → Directory → Course (List Child)
+lists snapshot layer found =
+    if is_partition found.layer then (do
+      read ← check false snapshot (inside found.prefix)
+      children snapshot (inside found.prefix) (inside found.prefix).node)
+    else children snapshot layer found.prefix
+
 unfoldable pub names_below : (snapshot : Bool) → Layer → (path : List (List ℕ)) → Course (List (List ℕ))
 names_below snapshot layer path = do
-  read ← check false snapshot layer
-  found ← find snapshot layer path
-  one ← there fault.Missing found
-  below ← children snapshot layer one.prefix
+  at ← arrives (length path + 1) (to_see snapshot) layer path
+  one ← there fault.Missing at.found
+  below ← lists snapshot at.layer one
   Gives (map (λ child. child.name) below)
 
 unfoldable pub is_there : (snapshot : Bool) → Layer → (path : List (List ℕ)) → Course Bool
 is_there snapshot layer path = do
-  read ← check false snapshot layer
-  found ← find snapshot layer path
-  Gives (is_some found)
+  at ← arrives (length path + 1) (to_see snapshot) layer path
+  Gives (is_some at.found)
 
 -- ---- log
 
@@ -247,15 +293,15 @@ logging layer args = do
 
 -- ---- each call
 
--- Where this many keys are seen at first: a removal meets one directory by its path, and one more key may be that of the version,
--- which the removal notes.
+-- Where this many keys are seen at first: a removal meets one directory by its path, and notes the version in each layer that it
+-- comes to, of which there are at most one more than names.
 abbrev pub course : DirKind → (keys : ℕ) → Layer → DirArgs → Course DirReply
 course kind.Create keys layer args = opening to_create layer args
 course kind.CreateOrOpen keys layer args = opening to_create_or_open layer args
 course kind.Open keys layer args = opening (to_open args.snapshot) layer args
 course kind.MoveTo keys layer args = moving layer args.path args.new_path
-course kind.Remove keys layer args = removing (keys + 2) true layer args.path
-course kind.RemoveIfExists keys layer args = removing (keys + 2) false layer args.path
+course kind.Remove keys layer args = removing (keys + length args.path + 2) true layer args.path
+course kind.RemoveIfExists keys layer args = removing (keys + length args.path + 2) false layer args.path
 course kind.List keys layer args = do
   names ← names_below args.snapshot layer args.path
   Gives (reply.Names names)

@@ -1,5 +1,5 @@
 -- The steps that the calls of a directory layer share (directory layer's documentation).
-use Rattle.std.specs.Prelude.{ℕ, Bool, true, false, not, ◌||◌, ◌==◌, if◌then◌else◌, List, [], ◌∷◌, ◌++◌, length, Option, Some, None, unwrap_or, Result, Ok, Err}
+use Rattle.std.specs.Prelude.{ℕ, zero, suc, Bool, ◌&&◌, true, false, not, ◌||◌, ◌==◌, if◌then◌else◌, List, [], ◌∷◌, ◌++◌, length, Option, Some, None, unwrap_or, Result, Ok, Err}
 use Rattle.key_bytes.specs.Keys.{begins_with}
 use Rattle.key_bytes.specs.Successors.{strinc}
 use Rattle.database_rules.specs.Databases.{Set, Clear}
@@ -9,6 +9,7 @@ use Rattle.directory_types.specs.declared.fault.DirFault.{DirFault}
 use Rattle.directory_types.specs.declared.fault.DirFault.TheVariants as fault
 use Rattle.directory_rules.specs.declared.Child.{Child}
 use Rattle.directory_rules.specs.declared.Directory.{Directory}
+use Rattle.directory_rules.specs.declared.Lookup.{Lookup}
 use Rattle.directory_rules.specs.Courses.{Course, Gives, Refuses, ◌>>=◌, Done, done, given, does, value_of, pairs_of}
 use Rattle.directory_rules.specs.Nodes.{node_of, entries_of, entry_of, layer_key, version_key, version_now, version_numbers, is_newer, name_in, prefix_in, is_partition}
 
@@ -54,11 +55,10 @@ abbrev pub below : {X Y : Type 0} → Option X → (X → Course (Option Y)) →
 below None next = Gives None
 below (Some value) next = next value
 
--- the directory of a prefix; a partition is refused
+-- the directory of a prefix
 unfoldable pub directory_at : (snapshot : Bool) → Layer → (prefix : List ℕ) → Course (Option Directory)
 directory_at snapshot layer prefix = do
   layer_name ← value_of snapshot (layer_key (node_of layer prefix))
-  allowed ← refuse_where (is_partition (unwrap_or layer_name [])) fault.Partition
   Gives (Some (directory prefix (unwrap_or layer_name [])))
 
 -- the directory that an entry of another one names
@@ -67,15 +67,65 @@ child_of snapshot layer found name = do
   entry ← value_of snapshot (entry_of (node_of layer found.prefix) name)
   below entry (directory_at snapshot layer)
 
--- from a directory on, one entry for each name
-unfoldable pub find_from : (snapshot : Bool) → Layer → Directory → (names : List (List ℕ)) → Course (Option Directory)
-find_from snapshot layer found [] = Gives (Some found)
-find_from snapshot layer found (name ∷ names) = do
-  child ← child_of snapshot layer found name
-  below child (λ next. find_from snapshot layer next names)
+-- what a path leads to: a directory, and the names that remain, where that is a partition
+pub record Found : Type 0 where
+  pub directory : Directory
+  pub rest : List (List ℕ)
 
-unfoldable pub find : (snapshot : Bool) → Layer → (path : List (List ℕ)) → Course (Option Directory)
+abbrev pub found_at : Directory → (rest : List (List ℕ)) → Found
+found_at directory rest = record { directory = directory; rest = rest }
+
+-- from a directory on, one entry for each name; the names behind a partition remain
+unfoldable pub find_from : (snapshot : Bool) → Layer → Directory → (names : List (List ℕ)) → Course (Option Found)
+find_from snapshot layer found [] = Gives (Some (found_at found []))
+find_from snapshot layer found (name ∷ names) =
+    if is_partition found.layer then Gives (Some (found_at found (name ∷ names)))
+    else (do
+      child ← child_of snapshot layer found name
+      below child (λ next. find_from snapshot layer next names))
+
+unfoldable pub find : (snapshot : Bool) → Layer → (path : List (List ℕ)) → Course (Option Found)
 find snapshot layer path = find_from snapshot layer (root layer) path
+
+-- ---- partitions
+
+-- the layer of what lies in the partition with a prefix
+abbrev pub inside : (prefix : List ℕ) → Layer
+inside prefix = record { node = prefix ++ 254 ∷ []; content = prefix; manual = false }
+
+-- what a call asks of a layer before it looks for a path there
+unfoldable pub admits : Lookup → Layer → (path : List (List ℕ)) → Course Done
+admits lookup layer path = do
+  checked ← check lookup.writes lookup.snapshot layer
+  allowed ← refuse_where (lookup.has_prefix && not layer.manual) fault.ManualNotAllowed
+  refuse_where (not lookup.may_be_root && length path == 0) fault.EmptyPath
+
+-- where a path ends: a layer, the path in it, and the directory of that path, where there is one
+pub record Place : Type 0 where
+  pub layer : Layer
+  pub path : List (List ℕ)
+  pub found : Option Directory
+
+abbrev pub place : Layer → (path : List (List ℕ)) → Option Directory → Place
+place layer path found = record { layer = layer; path = path; found = found }
+
+-- names that remain are looked for in the partition's layer
+abbrev pub or_inside : Layer → (path : List (List ℕ)) → Option Found → (again : Layer → List (List ℕ) → Course Place) → Course Place
+or_inside layer path None again = Gives (place layer path None)
+or_inside layer path (Some found) again = by found.rest
+  where
+    by : (rest : List (List ℕ)) → Course Place
+    by [] = Gives (place layer path (Some found.directory))
+    by (name ∷ names) = again (inside found.directory.prefix) (name ∷ names)
+
+-- Where names remain, the call begins again on the partition's layer with these. The number bounds how often, and one more than
+-- that of the names is enough, since each time one name or more is left behind.
+unfoldable pub arrives : (bound : ℕ) → Lookup → Layer → (path : List (List ℕ)) → Course Place
+arrives zero lookup layer path = Gives (place layer path None)
+arrives (suc bound) lookup layer path = do
+  may ← admits lookup layer path
+  found ← find lookup.snapshot layer path
+  or_inside layer path found (λ layer names. arrives bound lookup layer names)
 
 -- a path without its last name, and that name
 abbrev pub front : List (List ℕ) → List (List ℕ)
@@ -149,6 +199,6 @@ unfoldable pub sets_entry : Layer → (parent name prefix : List ℕ) → Course
 sets_entry layer parent name prefix = does (Set (entry_of (node_of layer parent) name) prefix)
 
 -- of a directory that is still there
-unfoldable pub clears_entry : Layer → Option Directory → (name : List ℕ) → Course Done
+unfoldable pub clears_entry : Layer → Option Found → (name : List ℕ) → Course Done
 clears_entry layer None name = Gives done
-clears_entry layer (Some parent) name = does (Clear (entry_of (node_of layer parent.prefix) name))
+clears_entry layer (Some parent) name = does (Clear (entry_of (node_of layer parent.directory.prefix) name))

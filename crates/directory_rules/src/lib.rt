@@ -5,14 +5,39 @@
 //! `specs/Calls.antt` each call. The types are those that these steps speak of.
 #![tactic(auto)]
 
+ghost use Rattle.std.specs.Prelude.{◌≡◌};
+ghost use Rattle.directory_rules.specs.Nodes.{is_partition};
+
 use fdb_tuple::Text;
 use key_bytes::Bytes;
+
+/// The layer name of a partition.
+const PARTITION: &[u8] = b"partition";
+
+/// Returns whether a directory with this layer name is a partition: a directory layer of its own.
+pub fn is_partition(layer_name: &Bytes) -> bool
+    ensures { result ≡ is_partition layer_name.now }
+{
+    layer_name.as_slice() == PARTITION
+}
 
 /// A directory that was found: the prefix of its contents, and its layer name.
 #[derive(Debug, Drop)]
 pub struct Directory {
     pub prefix: Bytes,
     pub layer: Bytes,
+}
+
+/// What a call checks in a layer before it looks for a path there.
+#[derive(Clone, Copy, Debug, PartialEq, Eq)]
+pub struct Lookup {
+    /// The version must be one that may be written.
+    pub writes: bool,
+    pub snapshot: bool,
+    /// A prefix is given.
+    pub has_prefix: bool,
+    /// The root may be meant.
+    pub may_be_root: bool,
 }
 
 /// A directory right below another one: its name, and the prefix of its contents.

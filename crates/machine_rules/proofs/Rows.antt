@@ -41,6 +41,20 @@ packs_no_key : directed operation.PackKey scope.Transaction (112 ∷ []) first_d
 unfolding directed item operands_by
 packs_no_key = refl
 
+-- a partition is no subspace, though it can be asked for directories
+at_a_partition : Directories
+at_a_partition = record { objects = object.Directory default_layer ((97 ∷ []) ∷ []) (20 ∷ []) (codes "partition") ∷ []; index = 0; error_index = 0 }
+
+packs_no_key_of_a_partition : directed operation.PackKey scope.Transaction (112 ∷ []) at_a_partition (item (elem.Int (pos 0)) ∷ [])
+    ≡ Ok (Faults (codes "NotASubspace"), [])
+unfolding directed item operands_by at_a_partition
+packs_no_key_of_a_partition = refl
+
+lists_a_partition : directed operation.List scope.Transaction (112 ∷ []) at_a_partition (item (elem.Int (pos 0)) ∷ [])
+    ≡ Ok (Asks (request.Directory (Some (112 ∷ [])) default_layer kind.List (args_on ((97 ∷ []) ∷ []))) awaits.Names, [])
+unfolding directed item at_a_partition
+lists_a_partition = refl
+
 -- a key behind the prefix of a subspace, and one that isn't
 under_a : Directories
 under_a = record { objects = object.Subspace (97 ∷ []) ∷ []; index = 0; error_index = 0 }

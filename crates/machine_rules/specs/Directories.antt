@@ -17,6 +17,7 @@ use Rattle.directory_types.specs.declared.DirKind.{DirKind}
 use Rattle.directory_types.specs.declared.DirKind.TheVariants as kind
 use Rattle.directory_types.specs.declared.fault.DirFault.{DirFault}
 use Rattle.directory_types.specs.declared.fault.DirFault.TheVariants as fault
+use Rattle.directory_rules.specs.Nodes.{is_partition}
 use Rattle.machine_rules.specs.declared.Item.{Item}
 use Rattle.machine_rules.specs.declared.Awaits.{Awaits}
 use Rattle.machine_rules.specs.declared.Awaits.TheVariants as awaits
@@ -58,10 +59,10 @@ layer_of (object.Directory layer path prefix layer_name) = Some layer
 layer_of (object.Subspace prefix) = None
 layer_of object.Null = None
 
--- what the keys of an object begin with that is a subspace
+-- what the keys of an object begin with that is a subspace; a partition is none
 abbrev pub prefix_of : Object → Option (List ℕ)
 prefix_of (object.Layer layer) = None
-prefix_of (object.Directory layer path prefix layer_name) = Some prefix
+prefix_of (object.Directory layer path prefix layer_name) = if is_partition layer_name then None else Some prefix
 prefix_of (object.Subspace prefix) = Some prefix
 prefix_of object.Null = None
 
@@ -387,6 +388,6 @@ fault_name fault.NoSuccessor = codes "NoSuccessor"
 fault_name (fault.BadNode key) = codes "BadNode"
 fault_name (fault.BadCounter key) = codes "BadCounter"
 fault_name (fault.WindowFull start) = codes "WindowFull"
-fault_name fault.Partition = codes "Partition"
+fault_name fault.AcrossPartitions = codes "AcrossPartitions"
 fault_name (fault.Tr code) = decimal code.0
 fault_name fault.NoMemory = codes "NoMemory"

@@ -139,7 +139,7 @@ fn fault_name(fault: &DirFault) -> &'static str {
         DirFault::PrefixInUse => "PrefixInUse",
         DirFault::KeysAtPrefix => "KeysAtPrefix",
         DirFault::NoSuccessor => "NoSuccessor",
-        DirFault::Partition => "Partition",
+        DirFault::AcrossPartitions => "AcrossPartitions",
         _ => "out of memory",
     }
 }

@@ -28,7 +28,7 @@ pub fn fault_name(alloc: Global, fault: &DirFault) -> Result<Bytes, AllocError>
         DirFault::BadNode { .. } => Bytes::from_slice(alloc, b"BadNode"),
         DirFault::BadCounter { .. } => Bytes::from_slice(alloc, b"BadCounter"),
         DirFault::WindowFull { .. } => Bytes::from_slice(alloc, b"WindowFull"),
-        DirFault::Partition => Bytes::from_slice(alloc, b"Partition"),
+        DirFault::AcrossPartitions => Bytes::from_slice(alloc, b"AcrossPartitions"),
         DirFault::Tr(code) => digits_of(alloc, code.0),
         DirFault::NoMemory => Bytes::from_slice(alloc, b"NoMemory"),
     }

@@ -3,6 +3,7 @@
 ghost use Rattle.std.specs.Prelude.{◌≡◌, ◌++◌, IfOk, OnOk, option_map};
 ghost use Rattle.machine_rules.specs.Directories.{layer_of, prefix_of, path_of, layer_name_of, is_null, below};
 
+use directory_rules::is_partition;
 use directory_types::{Layer, Path};
 use fdb_tuple::Text;
 use key_bytes::Bytes;
@@ -20,12 +21,23 @@ pub(crate) fn layer_of(object: &Object) -> Option<&Layer>
     }
 }
 
-// What the keys of an object begin with that is a subspace.
+// What the keys of an object begin with that is a subspace; a partition is none.
 pub(crate) fn prefix_of(object: &Object) -> Option<&Bytes>
     ensures { option_map (λ prefix. prefix.now) result ≡ prefix_of object.now }
 {
     match object {
-        Object::Directory { prefix, .. } | Object::Subspace { prefix } => Some(prefix),
+        Object::Directory {
+            prefix,
+            layer_name,
+            ..
+        } => {
+            if is_partition(layer_name) {
+                None
+            } else {
+                Some(prefix)
+            }
+        }
+        Object::Subspace { prefix } => Some(prefix),
         Object::Layer(_) | Object::Null => None,
     }
 }

@@ -1,7 +1,11 @@
+use Rattle.directory_laws.proofs.Finding.{found_in_layer}
 use Rattle.directory_laws.proofs.Opening.{opened_is_found}
 use Rattle.directory_laws.proofs.Removing.{removed_is_gone}
 use Rattle.directory_laws.proofs.Staying.{all_else_stays}
 use Rattle.directory_laws.proofs.directories_are_found.Goals as goal
+
+pub returns-clause-found : goal.returns-clause-found
+returns-clause-found c = found_in_layer
 
 pub returns-clause-opened : goal.returns-clause-opened
 returns-clause-opened c = opened_is_found

@@ -1,22 +1,18 @@
-use Rattle.std.proofs.Common.{◌≡◌, ℕ, [], List, Option, Some, Ok, Err, refl, sym, ap, subst, ◌∙◌}
+use Rattle.std.proofs.Common.{◌≡◌, ℕ, [], List, Option, Some, Ok, Err, sym, ap, subst, ◌∙◌}
 use Rattle.std.specs.Prelude.{unwrap_or}
 use Rattle.std.proofs.lemmas.Result.{err_from_is_err_and}
-use Rattle.directory_types.specs.declared.fault.DirFault.TheVariants as fault
 use Rattle.directory_rules.specs.declared.Directory.{Directory}
-use Rattle.directory_rules.specs.Courses.{Course, Gives, ◌>>=◌, Done, value_of}
-use Rattle.directory_rules.specs.Nodes.{node_of, layer_key, is_partition}
-use Rattle.directory_rules.specs.Steps.{refuse_where, directory, directory_at}
+use Rattle.directory_rules.specs.Courses.{Course, Gives, value_of}
+use Rattle.directory_rules.specs.Nodes.{node_of, layer_key}
+use Rattle.directory_rules.specs.Steps.{directory, directory_at}
 use Rattle.directory.specs.Runs.{Draws}
 use Rattle.directory.proofs.Following.{then_drew}
 use Rattle.directory.proofs.Passing.{ended_so, ran_out, gave_so}
-use Rattle.directory.proofs.Refusing.{passed_where, refused_where}
 use Rattle.directory.proofs.finding.directory_at.Goals as goal
 
 -- what is found out by its layer name
 abbrev named_so : (prefix : List ℕ) → Option (List ℕ) → Course (Option Directory)
-named_so prefix layer_name = do
-  allowed ← refuse_where (is_partition (unwrap_or layer_name [])) fault.Partition
-  Gives (Some (directory prefix (unwrap_or layer_name [])))
+named_so prefix layer_name = Gives (Some (directory prefix (unwrap_or layer_name [])))
 
 pub returns-in_err-of-clause-follows : goal.returns-in_err-of-clause-follows
 returns-in_err-of-clause-follows g c words =
@@ -45,22 +41,6 @@ returns-in_err-value_of-clause-follows g c words =
     (subst (λ key. Draws {X = Option (List ℕ)} (Err fault) before after words words (value_of c.args.snapshot key)) key
     (c.in_err-value_of.ensures.follows words))
 
-pub returns-then-is_partition-clause-follows : goal.returns-then-is_partition-clause-follows
-unfolding directory_at
-returns-then-is_partition-clause-follows g c words =
-    let before = g.T.Tr.stands c.args.tr.now in
-    let after = g.T.Tr.stands c.value_of.new.tr in
-    let key : c.in_ok-key.key ≡ layer_key (node_of c.args.layer.now c.args.prefix) = c.in_ok-key.ensures
-    ∙ ap layer_key c.in_ok-of.ensures in
-    let value = c.in_ok-value_of.field-0 in
-    let name : c.unwrap_or-name.result ≡ unwrap_or value [] = c.unwrap_or-name.ensures ∙ ap (unwrap_or value) c.new.ensures in
-    then_drew value (Err fault.Partition) before after after words words words
-    (value_of c.args.snapshot (layer_key (node_of c.args.layer.now c.args.prefix))) (named_so c.args.prefix)
-    (subst (λ key. Draws (Ok value) before after words words (value_of c.args.snapshot key)) key (c.in_ok-value_of.ensures.follows words))
-    (refused_where (is_partition (unwrap_or value [])) fault.Partition after words
-    (λ (allowed : Done). Gives (Some (directory c.args.prefix (unwrap_or value []))))
-    (ap is_partition (sym name) ∙ sym c.is_partition.ensures ∙ c.if-is_partition.true) refl)
-
 pub returns-clause-follows : goal.returns-clause-follows
 unfolding directory_at
 returns-clause-follows g c words =
@@ -74,8 +54,5 @@ returns-clause-follows g c words =
     then_drew value (Ok found) before after after words words words
     (value_of c.args.snapshot (layer_key (node_of c.args.layer.now c.args.prefix))) (named_so c.args.prefix)
     (subst (λ key. Draws (Ok value) before after words words (value_of c.args.snapshot key)) key (c.in_ok-value_of.ensures.follows words))
-    (passed_where (is_partition (unwrap_or value [])) fault.Partition (Ok found) after after words words
-    (λ (allowed : Done). Gives (Some (directory c.args.prefix (unwrap_or value []))))
-    (ap is_partition (sym name) ∙ sym c.is_partition.ensures ∙ c.if-is_partition.false)
     (gave_so (Some (directory c.args.prefix (unwrap_or value []))) found after words
-    (ap (λ name. Some (directory c.args.prefix name)) (sym name))))
+    (ap (λ name. Some (directory c.args.prefix name)) (sym name)))
