@@ -1,6 +1,7 @@
 """explain.py SCRIPT DUMP: prints what a script of the bindings tester did, as its dump tells it, for a person.
 
-SCRIPT is what `fdbtester run` or `replay` read, DUMP what it wrote. Printed are each machine's instructions by number,
+SCRIPT is what `fdbtester run` or `replay` read, or the instruction text that it was made of; DUMP is what it wrote. Instructions
+and elements are printed as instruction text spells them, docs/TEXT.md. Printed are each machine's instructions by number,
 each beside what it left on the stack at the end and the errors that were noted at it; where and how each machine ended;
 the order in which requests were taken; and the pairs of the database beside the instructions. It reads and prints, and
 judges nothing.
@@ -12,7 +13,8 @@ import signal
 import sys
 from typing import NamedTuple
 
-from tuple_layer import NotATuple, pack, readable, unpack, unprintable
+from instruction_text import assembled, element_text
+from tuple_layer import NotATuple, pack, unpack, unprintable
 
 # The names of the API reference, "Error Codes".
 ERRORS = {
@@ -74,9 +76,11 @@ def pair_of(fields):
 
 
 def lines_of(path):
-    """Yields the lines of a file."""
-    with open(path, encoding="latin-1", newline="\n") as file:
-        yield from file
+    """Returns the lines of a file; of instruction text those that it stands for."""
+    with open(path, "rb") as file:
+        string = file.read()
+    text = assembled(string) if string.startswith(b"@") else string.decode("latin-1")
+    return text.split("\n")
 
 
 def fields_of(lines):
@@ -123,7 +127,7 @@ def bytes_text(string):
     except NotATuple:
         found = ()
     seems_packed = found and None not in found and found[0] != b"" and found[0] != ""
-    return cut(f"{string!r}, packs {readable(found)}" if seems_packed else repr(string))
+    return cut(element_text(string) + (f", packs {element_text(found)}" if seems_packed else ""))
 
 
 def item_text(string):
@@ -139,7 +143,7 @@ def item_text(string):
         if found[:1] == (b"ERROR",) and len(found) == 2:
             return f"error {error_text(found[1].decode())}"
         return bytes_text(element)
-    return cut(readable(element))
+    return cut(element_text(element))
 
 
 def error_text(word):
@@ -153,7 +157,7 @@ def instruction_text(value):
     try:
         name, *elements = unpack(value)
         name = name.decode() if isinstance(name, bytes) else name
-        return cut(" ".join([str(name), *map(readable, elements)]))
+        return cut(" ".join([str(name), *map(element_text, elements)]))
     except (NotATuple, ValueError, UnicodeDecodeError):
         return f"(no instruction: {cut(repr(value))})"
 
@@ -173,7 +177,7 @@ def notes_of(machine, number, has_places=True):
 
 def machine_lines(number, machine, pairs):
     """Yields the lines on one machine."""
-    yield f"machine {number}, prefix {machine.prefix!r}: {ENDS[machine.end].format(machine.number)}"
+    yield f"machine {number}, prefix {element_text(machine.prefix)}: {ENDS[machine.end].format(machine.number)}"
     stopped = machine.number if machine.end != "ended" else None
     for place, (_, value) in enumerate(instructions_of(pairs, machine.prefix)):
         front = f"  {'>' if place == stopped else ' '}{place:4}  {instruction_text(value)}"

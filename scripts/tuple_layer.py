@@ -157,14 +157,3 @@ def unprintable(text):
     """Returns the bytes of a printable form."""
     parts = re.findall(r"\\x([0-9a-f]{2})|\\(\\)|([^\\])", text)
     return b"".join(bytes([int(digits, 16)]) if digits else (slash or plain).encode("latin-1") for digits, slash, plain in parts)
-
-
-def readable(element):
-    """Returns an element as a person writes it: b'bytes', 'text', numbers, (nested tuples)."""
-    if isinstance(element, Versionstamp):
-        return f"versionstamp({element.stamp.hex()}, {element.user})"
-    if isinstance(element, uuid.UUID):
-        return f"uuid({element})"
-    if isinstance(element, tuple):
-        return "(" + ", ".join(map(readable, element)) + ("," if len(element) == 1 else "") + ")"
-    return repr(element)

@@ -1,13 +1,15 @@
 """Prints scripts of the bindings tester as the K lines that `fdbtester` reads.
 
 Put the instructions of your binding's test into MACHINES, and other pairs of the database into PAIRS; or import
-`machine_lines` and `pair_line`. With `--self-test` it packs known tuples and compares.
+`script_lines`. With `--text` it prints the machines as instruction text, docs/TEXT.md. With `--self-test` it packs known
+tuples and compares.
 """
 
 import sys
 import uuid
 
-from tuple_layer import NotATuple, Versionstamp, pack, printable, unpack
+from instruction_text import pair_line, pairs_of, section_lines
+from tuple_layer import NotATuple, Versionstamp, pack, unpack
 
 # The machines by their prefixes. Machine 0 is that of the command line; START_THREAD starts the others.
 MACHINES = {b"p": [("PUSH", b"v"), ("PUSH", b"k"), ("SET",), ("COMMIT",)]}
@@ -16,20 +18,14 @@ MACHINES = {b"p": [("PUSH", b"v"), ("PUSH", b"k"), ("SET",), ("COMMIT",)]}
 PAIRS = {}
 
 
-def pair_line(key, value):
-    """Returns the line of a pair."""
-    return f"K {printable(key)}\\={printable(value)}"
-
-
-def machine_lines(prefix, instructions):
-    """Returns the lines of a machine's instructions, each a tuple of a name and, for PUSH, of an element."""
-    return [pair_line(pack((prefix, number)), pack(it)) for number, it in enumerate(instructions)]
-
-
 def script_lines(machines, pairs):
-    """Returns the lines of all machines, and of further pairs."""
-    lines = [line for prefix, instructions in machines.items() for line in machine_lines(prefix, instructions)]
-    return lines + [pair_line(key, value) for key, value in pairs.items()]
+    """Returns the K lines of all machines, and of further pairs."""
+    return [pair_line(*pair) for pair in [*pairs_of(machines.items()), *pairs.items()]]
+
+
+def text_lines(machines):
+    """Returns the lines of all machines as instruction text."""
+    return [line for section in machines.items() for line in section_lines(*section)]
 
 
 # Tuples and their packed bytes: those of tuple.md, and one at each bound of the integers.
@@ -70,4 +66,4 @@ def self_test():
 if __name__ == "__main__":
     if sys.argv[1:] == ["--self-test"]:
         sys.exit("\n".join(self_test()) or 0)
-    print("\n".join(script_lines(MACHINES, PAIRS)))
+    print("\n".join(text_lines(MACHINES) if sys.argv[1:] == ["--text"] else script_lines(MACHINES, PAIRS)))
