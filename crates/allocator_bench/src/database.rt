@@ -2,6 +2,7 @@
 
 use anyhow::{Result, bail};
 use conflict_ranges::WriteIndex;
+use database_rules::{Api, DatabaseOptions};
 use fdb_calls::{Reply, TxnCall};
 use key_bytes::Pairs;
 use std::alloc::{AllocError, Global};
@@ -10,6 +11,8 @@ use version_store::Store;
 
 /// The greatest version at which a transaction is committed.
 const LAST: u64 = 1_000_000_000_000;
+
+const OPTIONS: DatabaseOptions = DatabaseOptions { api: Api::V630 };
 
 /// The versions of a database, the write conflict ranges of each commit, and how many lives were begun.
 #[derive(Drop)]
@@ -52,7 +55,13 @@ impl Database {
         if self.store.last() > LAST {
             bail!("too many commits");
         }
-        let answer = txn.call(&mut self.store, &mut self.index, &TxnCall::Commit, 0)?;
+        let answer = txn.call(
+            &mut self.store,
+            &mut self.index,
+            OPTIONS,
+            &TxnCall::Commit,
+            0,
+        )?;
         Ok(answer.reply)
     }
 }

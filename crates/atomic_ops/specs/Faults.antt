@@ -1,10 +1,11 @@
 -- Why bytes got no versionstamp.
 use Rattle.std.specs.Prelude.{◌≡◌, ℕ, true, false, List}
+use Rattle.database_rules.specs.declared.StampForm.{StampForm}
 use Rattle.database_rules.specs.States.{has_room}
 use Rattle.atomic_ops.specs.declared.fault.StampFault.{StampFault}
 use Rattle.atomic_ops.specs.declared.fault.StampFault.TheVariants.{NoRoom, NoMemory}
 
 -- NoRoom exactly where they have no room for one
-abbrev pub IsUnstamped : List ℕ → StampFault → Type 0
-IsUnstamped bytes NoRoom = has_room bytes ≡ false
-IsUnstamped bytes NoMemory = has_room bytes ≡ true
+abbrev pub IsUnstamped : StampForm → List ℕ → StampFault → Type 0
+IsUnstamped form bytes NoRoom = has_room form bytes ≡ false
+IsUnstamped form bytes NoMemory = has_room form bytes ≡ true

@@ -1,8 +1,8 @@
 //! What an operation makes of a value.
 
-ghost use Rattle.std.specs.Prelude.{◌≡◌, false, IfOk, option_map};
+ghost use Rattle.std.specs.Prelude.{◌≡◌, false, replicate, IfOk, option_map};
 ghost use Rattle.key_bytes.specs.Keys.{lesser, greater};
-ghost use Rattle.database_rules.specs.Atomics.{atom, atom_of_none, atom_of_value, is_versionstamped, appended, cleared_where_equal};
+ghost use Rattle.database_rules.specs.Atomics.{atom, atom_of_value, is_versionstamped, appended, cleared_where_equal};
 
 use crate::bits::{Joining, bytewise};
 use crate::numbers;
@@ -12,9 +12,9 @@ use std::alloc::{AllocError, Global};
 
 /// Returns what an operation makes of the old value with its operand; None is no value.
 ///
-/// Which it is stands in the API reference of release 6.3 ("fdb_transaction_atomic_op"). The two operations with a
-/// versionstamp are no functions of the old value, and are not asked here. Memory is taken for the new value alone;
-/// the one error is that there is none.
+/// Which it is stands in the API reference of release 6.3 ("fdb_transaction_atomic_op"); the two operations of API version
+/// 500 alone take an absent value for bytes of 00. The four operations with a versionstamp are no functions of the old
+/// value, and are not asked here. Memory is taken for the new value alone; the one error is that there is none.
 #[tactic(auto, unfolding(database_rules::specs::Atomics::atom))]
 pub fn apply(
     alloc: Global,
@@ -25,21 +25,21 @@ pub fn apply(
     requires { is_versionstamped op ≡ false }
     ensures { IfOk result (λ value. value ≡ atom op (option_map (λ bytes. bytes.now) old.entry) operand.now) }
 {
-    match old {
-        None => of_none(alloc, op, operand),
-        Some(old) => of_value(alloc, op, old, operand),
-    }
+    let Some(old) = old else {
+        return match op {
+            AtomicOp::CompareAndClear => Ok(None),
+            AtomicOp::OldAnd | AtomicOp::OldMin => Ok(Some(zeros(alloc, operand.len())?)),
+            _ => Ok(Some(Bytes::from_slice(alloc, operand)?)),
+        };
+    };
+    of_value(alloc, op, old, operand)
 }
 
-// What it makes where there is no value.
-fn of_none(alloc: Global, op: AtomicOp, operand: &[u8]) -> Result<Option<Bytes>, AllocError>
-    requires { is_versionstamped op ≡ false }
-    ensures { IfOk result (λ value. value ≡ atom_of_none op operand.now) }
+// So many bytes of 00.
+fn zeros(alloc: Global, count: usize) -> Result<Bytes, AllocError>
+    ensures { IfOk result (λ zeros. zeros ≡ replicate count 0) }
 {
-    match op {
-        AtomicOp::CompareAndClear => Ok(None),
-        _ => Ok(Some(Bytes::from_slice(alloc, operand)?)),
-    }
+    Bytes::from_vec(vec![in alloc; 0; count]?)
 }
 
 // What it makes of a value.
@@ -54,16 +54,19 @@ fn of_value(
 {
     let value = match op {
         AtomicOp::Add => numbers::sum(alloc, old, operand)?,
-        AtomicOp::BitAnd => bytewise(alloc, Joining::And, old, operand)?,
+        AtomicOp::BitAnd | AtomicOp::OldAnd => bytewise(alloc, Joining::And, old, operand)?,
         AtomicOp::BitOr => bytewise(alloc, Joining::Or, old, operand)?,
         AtomicOp::BitXor => bytewise(alloc, Joining::Xor, old, operand)?,
         AtomicOp::AppendIfFits => appended(alloc, old, operand)?,
         AtomicOp::Max => numbers::greater(alloc, old, operand)?,
-        AtomicOp::Min => numbers::lesser(alloc, old, operand)?,
+        AtomicOp::Min | AtomicOp::OldMin => numbers::lesser(alloc, old, operand)?,
         AtomicOp::ByteMin => Bytes::from_slice(alloc, lesser(old, operand))?,
         AtomicOp::ByteMax => Bytes::from_slice(alloc, greater(old, operand))?,
         AtomicOp::CompareAndClear => return cleared_where_equal(alloc, old, operand),
-        AtomicOp::SetVersionstampedKey | AtomicOp::SetVersionstampedValue => unreachable!(),
+        AtomicOp::SetVersionstampedKey
+        | AtomicOp::SetVersionstampedValue
+        | AtomicOp::OldStampedKey
+        | AtomicOp::OldStampedValue => unreachable!(),
     };
     Ok(Some(value))
 }

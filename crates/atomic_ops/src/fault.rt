@@ -9,8 +9,8 @@ use thiserror::Error;
 /// Why bytes got no versionstamp.
 #[derive(Clone, Copy, Debug, PartialEq, Eq, Error)]
 pub enum StampFault {
-    /// The bytes have no room for a versionstamp: they don't end in a place of 4 bytes, or ten bytes from this place on
-    /// don't lie within what stands before it (API reference of release 6.3, "fdb_transaction_atomic_op").
+    /// The bytes have no room for a versionstamp: they have fewer bytes than the offset at their end, or ten bytes from the
+    /// offset on don't lie within what stands before it (API reference of release 6.3, "fdb_transaction_atomic_op").
     #[error("the bytes have no room for a versionstamp")]
     NoRoom,
     /// Memory ran out.

@@ -1,4 +1,4 @@
-//! Atomic operations on values: which operation a name is, what each makes of an old value and its operand, and what a
+//! Atomic operations on values: which operation a name means under an API version, what each makes of an old value and its operand, and what a
 //! versionstamp makes of the bytes that it is filled into.
 //!
 //! `from_name` and `apply` answer what `database_rules` defines (`specs/Atomics.antt`: `atomic_named` and `atom`).
@@ -15,7 +15,7 @@ mod numbers;
 mod stamping;
 
 pub use applying::apply;
-pub use database_rules::AtomicOp;
+pub use database_rules::{Api, AtomicOp, StampForm};
 pub use fault::StampFault;
 pub use names::from_name;
 pub use stamping::{has_room, resolve_stamp, stamped};

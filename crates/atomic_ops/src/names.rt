@@ -1,16 +1,31 @@
 //! The names of operations.
 
 ghost use Rattle.std.specs.Prelude.{◌≡◌};
-ghost use Rattle.database_rules.specs.Atomics.{atomic_named};
+ghost use Rattle.database_rules.specs.Atomics.{atomic_named, named};
 
-use database_rules::AtomicOp;
+use database_rules::{Api, AtomicOp};
 
-/// Returns the operation of a name, as ATOMIC_OP has it (bindingApiTester.md).
+/// Returns the operation that a name of ATOMIC_OP (bindingApiTester.md) means under an API version.
 ///
-/// None exactly where the name is no operation's: AND, OR and XOR are names beside BIT_AND, BIT_OR and BIT_XOR.
+/// None exactly where the name is no operation's: AND, OR and XOR are names beside BIT_AND, BIT_OR and BIT_XOR. Under 500 five
+/// names mean the older form of their operation: BIT_AND, AND, MIN, SET_VERSIONSTAMPED_KEY and SET_VERSIONSTAMPED_VALUE.
 #[tactic(auto, unfolding(database_rules::specs::Atomics::atomic_named))]
-pub fn from_name(name: &[u8]) -> Option<AtomicOp>
-    ensures { result ≡ atomic_named name.now }
+pub fn from_name(name: &[u8], api: Api) -> Option<AtomicOp>
+    ensures { result ≡ atomic_named api name.now }
+{
+    match (api, named(name)?) {
+        (Api::V500, AtomicOp::BitAnd) => Some(AtomicOp::OldAnd),
+        (Api::V500, AtomicOp::Min) => Some(AtomicOp::OldMin),
+        (Api::V500, AtomicOp::SetVersionstampedKey) => Some(AtomicOp::OldStampedKey),
+        (Api::V500, AtomicOp::SetVersionstampedValue) => Some(AtomicOp::OldStampedValue),
+        (_, op) => Some(op),
+    }
+}
+
+// The operation of a name under API version 630.
+#[tactic(auto, unfolding(database_rules::specs::Atomics::named))]
+fn named(name: &[u8]) -> Option<AtomicOp>
+    ensures { result ≡ named name.now }
 {
     if name == b"ADD".as_slice() {
         Some(AtomicOp::Add)

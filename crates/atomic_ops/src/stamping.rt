@@ -1,40 +1,53 @@
 //! Bytes that get a versionstamp.
 
 ghost use Rattle.std.specs.Prelude.{◌≡◌, ◌^◌, ◌<◌, ◌≤◌, true, length, IfOk, IfErr};
+ghost use Rattle.database_rules.specs.Atomics.{offset_size};
 ghost use Rattle.database_rules.specs.States.{has_room, stamp_place, stamped};
 ghost use Rattle.atomic_ops.specs.Faults.{IsUnstamped};
 
 use crate::fault::StampFault;
 use byteorder::{ByteOrder, LittleEndian};
+use database_rules::StampForm;
 use key_bytes::Bytes;
 use std::alloc::{AllocError, Global};
 
-// The place that stamped bytes end in: 4 bytes, the lowest first.
-fn stamp_place(bytes: &[u8]) -> usize
-    requires { 4 ≤ length bytes.now }
-    ensures value { result ≡ stamp_place bytes.now }
+// The place that stamped bytes of a form give: the offset in which they end, the lowest byte first, or the front.
+fn stamp_place(form: StampForm, bytes: &[u8]) -> usize
+    requires { offset_size form ≤ length bytes.now }
+    ensures value { result ≡ stamp_place form bytes.now }
     ensures small { result < 2 ^ 32 }
 {
-    LittleEndian::read_u32(&bytes[bytes.len() - 4..]) as usize
+    let offset = &bytes[bytes.len() - form.offset_size()..];
+    match form {
+        StampForm::Last4 => LittleEndian::read_u32(offset) as usize,
+        StampForm::Last2 => usize::from(LittleEndian::read_u16(offset)),
+        StampForm::Front => 0,
+    }
 }
 
-/// Tells whether stamped bytes have room for a versionstamp: they end in a place of 4 bytes, the lowest first,
-/// and the ten bytes at this place lie within what stands before (API reference, "fdb_transaction_atomic_op").
-pub fn has_room(bytes: &[u8]) -> bool
-    ensures { result ≡ has_room bytes.now }
+/// Tells whether stamped bytes have room for a versionstamp: all bytes of the offset that their form asks for are there,
+/// and the ten bytes at the offset lie within what stands before it (API reference, "fdb_transaction_atomic_op").
+pub fn has_room(form: StampForm, bytes: &[u8]) -> bool
+    ensures { result ≡ has_room form bytes.now }
 {
-    bytes.len() >= 4 && stamp_place(bytes) + 10 <= bytes.len() - 4
+    let size = form.offset_size();
+    bytes.len() >= size && stamp_place(form, bytes) + 10 <= bytes.len() - size
 }
 
-/// Fills a versionstamp into stamped bytes that have room for one: returns what stands before their place, with
-/// the ten bytes at the place replaced by the stamp (API reference, "fdb_transaction_atomic_op").
+/// Fills a versionstamp into stamped bytes that have room for one: returns what stands before their offset, with
+/// the ten bytes at the offset replaced by the stamp (API reference, "fdb_transaction_atomic_op").
 #[tactic(auto, unfolding(database_rules::specs::States::stamped))]
-pub fn stamped(alloc: Global, stamp: &[u8; 10], bytes: &[u8]) -> Result<Bytes, AllocError>
-    requires { has_room bytes.now ≡ true }
-    ensures { IfOk result (λ filled. filled ≡ stamped stamp.now bytes.now) }
+pub fn stamped(
+    alloc: Global,
+    form: StampForm,
+    stamp: &[u8; 10],
+    bytes: &[u8],
+) -> Result<Bytes, AllocError>
+    requires { has_room form bytes.now ≡ true }
+    ensures { IfOk result (λ filled. filled ≡ stamped form stamp.now bytes.now) }
 {
-    let template = &bytes[..bytes.len() - 4];
-    let place = stamp_place(bytes);
+    let template = &bytes[..bytes.len() - form.offset_size()];
+    let place = stamp_place(form, bytes);
     let mut filled = Vec::with_capacity(alloc, template.len())?;
     filled.extend_from_slice(&template[..place])?;
     filled.extend_from_slice(stamp)?;
@@ -42,14 +55,19 @@ pub fn stamped(alloc: Global, stamp: &[u8; 10], bytes: &[u8]) -> Result<Bytes, A
     Bytes::from_vec(filled)
 }
 
-/// Fills a versionstamp into stamped bytes, as their commit does (API reference, "fdb_transaction_atomic_op").
+/// Fills a versionstamp into stamped bytes of a form, as their commit does (API reference, "fdb_transaction_atomic_op").
 /// NoRoom exactly where they have no room for one; NoMemory where memory runs out.
-pub fn resolve_stamp(alloc: Global, bytes: &[u8], stamp: &[u8; 10]) -> Result<Bytes, StampFault>
-    ensures ok { IfOk result (λ filled. (has_room bytes.now ≡ true) × (filled ≡ stamped stamp.now bytes.now)) }
-    ensures err { IfErr result (IsUnstamped bytes.now) }
+pub fn resolve_stamp(
+    alloc: Global,
+    form: StampForm,
+    bytes: &[u8],
+    stamp: &[u8; 10],
+) -> Result<Bytes, StampFault>
+    ensures ok { IfOk result (λ filled. (has_room form bytes.now ≡ true) × (filled ≡ stamped form stamp.now bytes.now)) }
+    ensures err { IfErr result (IsUnstamped form bytes.now) }
 {
-    if !has_room(bytes) {
+    if !has_room(form, bytes) {
         return Err(StampFault::NoRoom);
     }
-    Ok(stamped(alloc, stamp, bytes)?)
+    Ok(stamped(alloc, form, stamp, bytes)?)
 }

@@ -102,7 +102,8 @@ quiet_or_commit setting life transaction (call.Clear key) = inl (write_quiet (cl
 quiet_or_commit setting life transaction (call.ClearRange range) =
     inl (write_quiet (range_code transaction.phase range.begin range.end) transaction (ClearRange range.begin range.end))
 quiet_or_commit setting life transaction (call.Atomic name key operand) =
-    inl (atomic_quiet (atomic_code transaction.phase name key operand) (atomic_named name) transaction key operand)
+    inl (atomic_quiet (atomic_code setting.options.api transaction.phase name key operand) (atomic_named setting.options.api name) transaction
+    key operand)
 quiet_or_commit setting life transaction (call.ReadConflict range) =
     inl (does_quiet (range_code transaction.phase range.begin range.end) transaction _ reply.Done)
 quiet_or_commit setting life transaction (call.WriteConflict range) =

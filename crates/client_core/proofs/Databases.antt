@@ -23,11 +23,13 @@ use Rattle.client_core.proofs.Named.{AllAlike}
 -- a fresh transaction at the last version stands under no name
 pub drawn_apart : (core after : ContentsModel) (world : World) (next : ℕ) (begun : txn.Kept) → next ≡ length core.lives
     → ((setting : Setting) → txn.Keeps core.store core.index setting → txn.StandsFor begun (with_version setting (fresh next)))
-    → after.store ≡ core.store → after.index ≡ core.index → after.transactions ≡ core.transactions → after.lives ≡ with_lives core.lives 1
+    → after.options ≡ core.options → after.store ≡ core.store → after.index ≡ core.index → after.transactions ≡ core.transactions
+    → after.lives ≡ with_lives core.lives 1
     → KeepsWorld core world → txn.StandsFor begun (fresh_at_last world) × KeepsWorld after (drawn_in world)
-drawn_apart core after world next begun counted fresh_one store index transactions lives stands = (
+drawn_apart core after world next begun counted fresh_one options store index transactions lives stands = (
   subst (λ n. txn.StandsFor begun (with_version world.setting (fresh n))) (counted ∙ ap length stands.lives) (fresh_one world.setting stands.keeps),
   record {
+    options = options ∙ stands.options;
     keeps = subst (λ (both : Versions × Index). txn.Keeps both.0 both.1 world.setting) (λ i. (sym store i, sym index i)) stands.keeps;
     transactions = subst (λ (m : KeptTransactions). AllAlike m world.transactions) (sym transactions) stands.transactions;
     lives = lives ∙ ap (λ kept. with_lives kept 1) stands.lives;
@@ -37,10 +39,12 @@ drawn_apart core after world next begun counted fresh_one store index transactio
 -- a core that keeps what a call on such a transaction leaves
 pub apart_stands : (core after : ContentsModel) (world : World) (life drew : ℕ) (outcome : Option Outcome) (left : txn.Kept)
     (before : Transaction) (made : Called)
-    → KeepsWorld core world → txn.Keeps after.store after.index (grown_by world.setting made.commits) → after.transactions ≡ core.transactions
+    → KeepsWorld core world → txn.Keeps after.store after.index (grown_by world.setting made.commits) → after.options ≡ core.options
+    → after.transactions ≡ core.transactions
     → after.lives ≡ decide life outcome (with_lives core.lives drew) → outcome ≡ outcome_by life left.life left.phase
     → life ≡ before.life → drew ≡ made.lives → txn.StandsFor left made.transaction → KeepsWorld after (called_apart world before made)
-apart_stands core after world life drew outcome left before made stands keeps transactions lives becomes is counted left_stands = record {
+apart_stands core after world life drew outcome left before made stands keeps options transactions lives becomes is counted left_stands = record {
+  options = options ∙ stands.options;
   keeps = keeps;
   transactions = subst (λ (m : KeptTransactions). AllAlike m world.transactions) (sym transactions) stands.transactions;
   lives = lives ∙ lives_agree core.lives world.lives life drew made.lives outcome left before made.transaction stands.lives counted is becomes left_stands;
@@ -48,34 +52,34 @@ apart_stands core after world life drew outcome left before made stands keeps tr
 
 -- a call on it
 pub apart_took : (core after : ContentsModel) (world : World) (its_call : TxnCall) (before left : txn.Kept) (given : Reply) (t : Transaction)
-    → MadeOn its_call given before left core.store after.store core.index after.index core.lives after.lives
-    → after.transactions ≡ core.transactions → txn.StandsFor before t → KeepsWorld core world
+    → MadeOn core.options its_call given before left core.store after.store core.index after.index core.lives after.lives
+    → after.options ≡ core.options → after.transactions ≡ core.transactions → txn.StandsFor before t → KeepsWorld core world
     → TookApart given left after world t (called world.setting (next_life world) t its_call)
-apart_took core after world its_call before left given t made transactions stood stands =
+apart_took core after world its_call before left given t made options transactions stood stands =
     let leaves = called world.setting (next_life world) t its_call in
     let told : txn.Answers made.answer left after.store after.index world.setting leaves =
     subst (λ n. txn.Answers made.answer left after.store after.index world.setting (called world.setting n t its_call)) (ap length stands.lives)
-    (made.answers t world.setting stood stands.keeps) in
+    (made.answers t world.setting stood stands.keeps (sym stands.options)) in
     record {
       reply_is = made.reply_is ∙ told.reply;
       stands = told.stands;
       world_stands = apart_stands core after world before.life (cond made.answer.drew_life 1 0) (outcome_by before.life left.life left.phase)
-          left t leaves stands told.keeps transactions made.lives_are refl stood.life told.lives told.stands;
+          left t leaves stands told.keeps options transactions made.lives_are refl stood.life told.lives told.stands;
     }
 
 -- writes of entries on it change nothing of the core
 pub logged_apart : (core after : ContentsModel) (world : World) (life : ℕ) (outcome : Option Outcome) (left : txn.Kept)
     (before : Transaction) (made : Called)
-    → KeepsWorld core world → made.commits ≡ [] → made.lives ≡ 0 → after.store ≡ core.store → after.index ≡ core.index
-    → after.transactions ≡ core.transactions
+    → KeepsWorld core world → made.commits ≡ [] → made.lives ≡ 0 → after.options ≡ core.options → after.store ≡ core.store
+    → after.index ≡ core.index → after.transactions ≡ core.transactions
     → after.lives ≡ decide life outcome (with_lives core.lives 0) → outcome ≡ outcome_by life left.life left.phase
     → life ≡ before.life → txn.StandsFor left made.transaction → KeepsWorld after (called_apart world before made)
-logged_apart core after world life outcome left before made stands none no_life store index transactions lives becomes is left_stands =
+logged_apart core after world life outcome left before made stands none no_life options store index transactions lives becomes is left_stands =
     apart_stands core after world life 0 outcome left before made stands
     (subst (λ (h : History). txn.Keeps after.store after.index (record world.setting { history = h }))
     (sym (ap (λ commits. world.setting.history ++ commits) none ∙ append-nil world.setting.history))
     (subst (λ (both : Versions × Index). txn.Keeps both.0 both.1 world.setting) (λ i. (sym store i, sym index i)) stands.keeps))
-    transactions lives becomes is (sym no_life) left_stands
+    options transactions lives becomes is (sym no_life) left_stands
 
 -- a core that is sound has a version to spare
 pub few_at : (core : ContentsModel) (last_version : ℕ) → IsSound core (2 ^ 62) → last_version ≡ last_of core.store → last_version + 1 < 2 ^ 63

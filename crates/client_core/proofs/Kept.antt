@@ -59,10 +59,10 @@ drawing_keeps answer left store index setting made quiet drew answers =
 
 -- a call on the transaction of a name
 pub named_still : (core : ContentsModel) (store_left : Versions) (index_left : Index) (name : List ℕ) (before : txn.Kept)
-    → finite.get core.transactions name ≡ Some before → StillKeepsOf before core.store store_left core.index index_left
+    → finite.get core.transactions name ≡ Some before → StillKeepsOf core.options before core.store store_left core.index index_left
     → (world : World) → KeepsWorld core world → txn.Keeps store_left index_left world.setting
 named_still core store_left index_left name before found still world stands =
     still (transaction_of world name) world.setting
     (found_stands before (fresh (next_life world)) (finite.get core.transactions name) (finite.get world.transactions name) found
     (stands.transactions name))
-    stands.keeps
+    stands.keeps (sym stands.options)

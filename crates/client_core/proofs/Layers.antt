@@ -68,11 +68,12 @@ pub named_drew : (core after : ContentsModel) (world : World) (name : List ℕ) 
     → finite.get core.transactions name ≡ Some before
     → ((setting : Setting) (t : Transaction) → txn.StandsFor before t → txn.Keeps core.store core.index setting
     → Reaches its_reply left words rest (effect kind layer args setting words t))
-    → after.store ≡ core.store → after.index ≡ core.index → after.transactions ≡ finite.insert core.transactions name left
+    → after.options ≡ core.options → after.store ≡ core.store → after.index ≡ core.index
+    → after.transactions ≡ finite.insert core.transactions name left
     → life ≡ before.life → outcome ≡ outcome_by life left.life left.phase
     → after.lives ≡ decide life outcome (with_lives core.lives 0)
     → KeepsWorld core world → HasWords world words → TookDrawing its_reply after rest (directory_named world name kind layer args)
-named_drew core after world name kind layer args life outcome before left its_reply words rest found reaches store index transactions is
+named_drew core after world name kind layer args life outcome before left its_reply words rest found reaches options store index transactions is
     becomes lives stands has =
     let its = transaction_of world name in
     let stood = found_stands before (fresh (next_life world)) (finite.get core.transactions name) (finite.get world.transactions name) found
@@ -84,6 +85,7 @@ named_drew core after world name kind layer args life outcome before left its_re
       took = record {
         reply_is = told.reply_is;
         stands = record {
+          options = options ∙ stands.options;
           keeps = keeps_still core.store after.store core.index after.index world.setting store index stands.keeps;
           transactions = subst (λ (m : KeptTransactions). AllAlike m (finite.insert world.transactions name reached.transaction))
               (sym transactions)
@@ -108,22 +110,22 @@ pub alone_drew : (core between after : ContentsModel) (world : World) (kind : Di
     → txn.StandsFor begun (fresh_at_last world) → KeepsWorld core (drawn_in world)
     → ((setting : Setting) (t : Transaction) → txn.StandsFor begun t → txn.Keeps core.store core.index setting
     → Reaches its_reply left words rest (effect kind layer args setting words t))
-    → between.store ≡ core.store → between.index ≡ core.index → between.transactions ≡ core.transactions
+    → between.options ≡ core.options → between.store ≡ core.store → between.index ≡ core.index → between.transactions ≡ core.transactions
     → life ≡ begun.life → outcome ≡ outcome_by life left.life left.phase
     → between.lives ≡ decide life outcome (with_lives core.lives 0)
     → ((reached : Reached DirReply) → its_reply ≡ directory_reply reached.end → txn.StandsFor left reached.transaction
     → (there : World) → KeepsWorld between there → Took answered after (commit_made there (directory_called reached)))
     → HasWords world words → TookDrawing (refusing answered) after rest (directory_alone world kind layer args)
-alone_drew core between after world kind layer args life outcome begun left its_reply answered words rest stood stands reaches store index
+alone_drew core between after world kind layer args life outcome begun left its_reply answered words rest stood stands reaches options store index
     transactions is becomes lives commits has =
     let before = fresh_at_last world in
     let reached = effect kind layer args world.setting world.words before in
     let told = reaches_there its_reply left words rest world.words kind layer args world.setting before has
     (reaches world.setting before stood stands.keeps) in
     let drawn = drawn_in (with_drawn world reached.words) in
-    let stands_drawn : KeepsWorld core drawn = record { keeps = stands.keeps; transactions = stands.transactions; lives = stands.lives } in
+    let stands_drawn : KeepsWorld core drawn = record { options = stands.options; keeps = stands.keeps; transactions = stands.transactions; lives = stands.lives } in
     let took = commits reached told.reply_is told.stands (before_commit world kind layer args)
-    (logged_apart core between drawn life outcome left before (directory_called reached) stands_drawn refl refl store index transactions
+    (logged_apart core between drawn life outcome left before (directory_called reached) stands_drawn refl refl options store index transactions
     lives becomes (is ∙ stood.life) told.stands) in
     let still = and_commit_words (with_drawn world reached.words) (λ drawn transaction. directory_called reached) in
     record {

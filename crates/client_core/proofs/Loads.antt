@@ -9,15 +9,15 @@ use Rattle.version_store.specs.Versions as versions
 use Rattle.version_store.specs.Versions.{Versions, last_of}
 use Rattle.database_rules.specs.Transactions.{Transaction}
 use Rattle.command_rules.specs.declared.args.RunArgs.{RunArgs}
-use Rattle.machine_rules.specs.Worlds.{begun}
+use Rattle.machine_rules.specs.Worlds.{begun, database_options, setting_of}
 use Rattle.txn_core.specs.Stands.{Kept, Keeps}
 use Rattle.client_core.specs.Stands.{ContentsModel, KeptTransactions, KeepsWorld, AreAlike}
 
 -- the store keeps the history of the first commit
-pub first_kept : (store : Versions) (index : Index) (pairs : List (List ℕ × List ℕ)) → last_of store ≡ 1 → versions.at store 0 ≡ finite.empty
+pub first_kept : (store : Versions) (index : Index) (pairs : List (List ℕ × List ℕ)) (arguments : RunArgs) → last_of store ≡ 1 → versions.at store 0 ≡ finite.empty
     → versions.at store 1 ≡ do_all (loaded pairs).mutations finite.empty → ((key : List ℕ) → newest_at index key ≡ 0)
-    → Keeps store index (record { history = loaded pairs ∷ [] })
-first_kept store index pairs last empty first unwritten = record { last_is = last; at_is = by_version; newest_is = unwritten }
+    → Keeps store index (setting_of pairs arguments)
+first_kept store index pairs arguments last empty first unwritten = record { last_is = last; at_is = by_version; newest_is = unwritten }
   where
     by_version : (version : ℕ) → version ≤ 1 → versions.at store version ≡ at (loaded pairs ∷ []) version
     by_version zero within = empty
@@ -25,10 +25,12 @@ first_kept store index pairs last empty first unwritten = record { last_is = las
     by_version (suc (suc n)) within = absurd (omega arith)
 
 -- a store of the first version, and no transaction, stand for the beginning
-pub begun_stands : (core : ContentsModel) (pairs : List (List ℕ × List ℕ)) (arguments : RunArgs) → Keeps core.store core.index (record { history = loaded pairs ∷ [] })
+pub begun_stands : (core : ContentsModel) (pairs : List (List ℕ × List ℕ)) (arguments : RunArgs) → core.options ≡ database_options arguments
+    → Keeps core.store core.index (setting_of pairs arguments)
     → core.transactions ≡ finite.empty → core.lives ≡ []
     → KeepsWorld core (begun pairs arguments)
-begun_stands core pairs arguments keeps none lives = record {
+begun_stands core pairs arguments options keeps none lives = record {
+  options = options;
   keeps = keeps;
   transactions = λ name.
       let nothing = finite.get-empty key_cmp name in

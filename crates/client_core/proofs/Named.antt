@@ -49,14 +49,16 @@ alike_inserted m w name kept transaction stands alike = λ q.
 -- a transaction of a new life under a name
 pub new_stands : (core after : ContentsModel) (world : World) (name : List ℕ) (next life : ℕ) (outcome : Option Outcome) (kept : txn.Kept)
     → KeepsWorld core world → next ≡ length core.lives → txn.StandsFor kept (fresh next)
-    → after.store ≡ core.store → after.index ≡ core.index → after.transactions ≡ finite.insert core.transactions name kept
+    → after.options ≡ core.options → after.store ≡ core.store → after.index ≡ core.index
+    → after.transactions ≡ finite.insert core.transactions name kept
     → life ≡ life_of core.transactions name (length core.lives) → outcome ≡ outcome_by life kept.life kept.phase
     → after.lives ≡ decide life outcome (with_lives core.lives 1)
     → KeepsWorld after (with_new world name)
-new_stands core after world name next life outcome kept stands counted fresh_one store index transactions is becomes lives =
+new_stands core after world name next life outcome kept stands counted fresh_one options store index transactions is becomes lives =
     let fresh_there : txn.StandsFor kept (fresh (next_life world)) =
     subst (λ n. txn.StandsFor kept (fresh n)) (counted ∙ ap length stands.lives) fresh_one in
     record {
+      options = options ∙ stands.options;
       keeps = subst (λ (both : Versions × Index). txn.Keeps both.0 both.1 world.setting) (λ i. (sym store i, sym index i)) stands.keeps;
       transactions = subst (λ (m : KeptTransactions). AllAlike m (finite.insert world.transactions name (fresh (next_life world)))) (sym transactions)
           (alike_inserted core.transactions world.transactions name kept (fresh (next_life world)) fresh_there stands.transactions);
@@ -97,18 +99,19 @@ found_stands kept fresh_one (Some x) (Some y) e alike = subst (λ k. txn.StandsF
 -- a call on the transaction of a name, which is there, is the call of the step
 pub named_took : (core after : ContentsModel) (world : World) (name : List ℕ) (call : TxnCall) (before left : txn.Kept) (given : Reply)
     → finite.get core.transactions name ≡ Some before
-    → MadeOn call given before left core.store after.store core.index after.index core.lives after.lives
-    → after.transactions ≡ finite.insert core.transactions name left
+    → MadeOn core.options call given before left core.store after.store core.index after.index core.lives after.lives
+    → after.options ≡ core.options → after.transactions ≡ finite.insert core.transactions name left
     → KeepsWorld core world → Took given after (call_named world name call)
-named_took core after world name call before left given found made transactions stands =
+named_took core after world name call before left given found made options transactions stands =
     let its = transaction_of world name in
     let stood = found_stands before (fresh (next_life world)) (finite.get core.transactions name) (finite.get world.transactions name) found (stands.transactions name) in
     let told = subst (λ n. txn.Answers made.answer left after.store after.index world.setting (called world.setting n its call))
-    (ap length stands.lives) (made.answers its world.setting stood stands.keeps) in
+    (ap length stands.lives) (made.answers its world.setting stood stands.keeps (sym stands.options)) in
     let leaves = called world.setting (next_life world) its call in
     record {
       reply_is = made.reply_is ∙ told.reply;
       stands = record {
+        options = options ∙ stands.options;
         keeps = told.keeps;
         transactions = subst (λ (m : KeptTransactions). AllAlike m (finite.insert world.transactions name leaves.transaction)) (sym transactions)
             (alike_inserted core.transactions world.transactions name left leaves.transaction told.stands stands.transactions);
@@ -121,10 +124,10 @@ named_took core after world name call before left given found made transactions 
 -- and where it is there, that of the step of any name
 pub made_took : (core after : ContentsModel) (world : World) (name : List ℕ) (call : TxnCall) (before left : txn.Kept) (given : Reply)
     → finite.get core.transactions name ≡ Some before
-    → MadeOn call given before left core.store after.store core.index after.index core.lives after.lives
-    → after.transactions ≡ finite.insert core.transactions name left
+    → MadeOn core.options call given before left core.store after.store core.index after.index core.lives after.lives
+    → after.options ≡ core.options → after.transactions ≡ finite.insert core.transactions name left
     → KeepsWorld core world → Took given after (call_named (with_named world name) name call)
-made_took core after world name call before left given found made transactions stands =
+made_took core after world name call before left given found made options transactions stands =
     subst (λ (named : World). Took given after (call_named named name call))
     (sym (named_had core world name stands (ap is_some found)))
-    (named_took core after world name call before left given found made transactions stands)
+    (named_took core after world name call before left given found made options transactions stands)

@@ -113,7 +113,8 @@ called_speaks setting life transaction (call.Clear key) = write_speaks (clear_co
 called_speaks setting life transaction (call.ClearRange range) =
     write_speaks (range_code transaction.phase range.begin range.end) transaction (ClearRange range.begin range.end)
 called_speaks setting life transaction (call.Atomic name key operand) =
-    atomic_speaks (atomic_code transaction.phase name key operand) (atomic_named name) transaction key operand
+    atomic_speaks (atomic_code setting.options.api transaction.phase name key operand) (atomic_named setting.options.api name) transaction
+    key operand
 called_speaks setting life transaction (call.ReadConflict range) =
     does_speaks (range_code transaction.phase range.begin range.end) transaction _ reply.Done refl
 called_speaks setting life transaction (call.WriteConflict range) =

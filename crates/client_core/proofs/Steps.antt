@@ -190,7 +190,7 @@ database_whole contents started words its_reply world given on same has took = r
 -- one that took the start of a machine
 started_keeps : (there_is_room : Bool) (contents : ContentsModel) (world : World) (prefix : List ℕ) → KeepsWorld contents world
     → KeepsWorld contents (start_by there_is_room world prefix).world
-started_keeps true contents world prefix keeps = record { keeps = keeps.keeps; transactions = keeps.transactions; lives = keeps.lives }
+started_keeps true contents world prefix keeps = record { options = keeps.options; keeps = keeps.keeps; transactions = keeps.transactions; lives = keeps.lives }
 started_keeps false contents world prefix keeps = keeps
 
 pub start_whole : (contents : ContentsModel) (started : List (List ℕ)) (words : ℕ → ℕ) (its_reply : Reply) (world : World)
@@ -247,7 +247,7 @@ whole_answers its_reply core words stepped took =
 -- how many requests were taken does not matter for what a core stands for
 pub stands_counted : (core : ContentsModel) (applied : ℕ) (world : World) → KeepsWorld core world
     → KeepsWorld (record core { applied = applied }) world
-stands_counted core applied world stands = record { keeps = stands.keeps; transactions = stands.transactions; lives = stands.lives }
+stands_counted core applied world stands = record { options = stands.options; keeps = stands.keeps; transactions = stands.transactions; lives = stands.lives }
 
 -- what took each step whole from where it stood
 abbrev pub TakesWhole : (core after : ContentsModel) → (started left_started : List (List ℕ)) → (words left : ℕ → ℕ) → Request → Reply → Type 0
@@ -261,7 +261,7 @@ pub sound_taken : (core after : ContentsModel) (started left_started : List (Lis
 sound_taken core after started left_started words left given its_reply applied takes sound =
     let world : World = record sound.world { started = started; words = words } in
     let stands : KeepsWorld core world =
-    record { keeps = sound.stands.keeps; transactions = sound.stands.transactions; lives = sound.stands.lives } in
+    record { options = sound.stands.options; keeps = sound.stands.keeps; transactions = sound.stands.transactions; lives = sound.stands.lives } in
     let few = step_few world given in
     record {
       world = (step world given).world;
@@ -276,7 +276,7 @@ pub taken_speaks : (core after : ContentsModel) (started left_started : List (Li
 taken_speaks core after started left_started words left given its_reply commits takes sound =
     let world : World = record sound.world { started = started; words = words } in
     let stands : KeepsWorld core world =
-    record { keeps = sound.stands.keeps; transactions = sound.stands.transactions; lives = sound.stands.lives } in
+    record { options = sound.stands.options; keeps = sound.stands.keeps; transactions = sound.stands.transactions; lives = sound.stands.lives } in
     ap is_no_memory (takes world stands refl (λ place. refl)).took.reply_is ∙ step_speaks world given
 
 -- a core that is sound has versions to spare

@@ -10,12 +10,19 @@ use Rattle.client_core.specs.declared.contents.Contents.{Contents}
 use Rattle.client_core.specs.Stands.{ContentsModel, CoreModel}
 
 abbrev pub model_of : Contents → ContentsModel
-model_of contents =
-    record { store = contents.store; index = contents.index; transactions = contents.transactions; lives = contents.lives; applied = contents.applied }
+model_of contents = record {
+  options = contents.options;
+  store = contents.store;
+  index = contents.index;
+  transactions = contents.transactions;
+  lives = contents.lives;
+  applied = contents.applied;
+}
 
 -- with the machines that were started, and whether memory ran out
 abbrev pub core_of : Contents → List (List ℕ) → Bool → CoreModel
 core_of contents started is_spent = record {
+  options = contents.options;
   store = contents.store;
   index = contents.index;
   transactions = contents.transactions;

@@ -6,6 +6,7 @@ use Rattle.fdb_calls.specs.declared.Reply.{Reply}
 use Rattle.fdb_calls.specs.declared.Reply.TheVariants as reply
 use Rattle.fdb_calls.specs.declared.TxnCall.{TxnCall}
 use Rattle.fdb_calls.specs.declared.Outcome.{Outcome}
+use Rattle.database_rules.specs.declared.options.DatabaseOptions.{DatabaseOptions}
 use Rattle.database_rules.specs.Histories.{Setting, last}
 use Rattle.database_rules.specs.Transactions.{Transaction}
 use Rattle.fdb_calls.specs.Calling.{Called, called}
@@ -39,10 +40,10 @@ pub record TookWhole (reply : Reply) (core : ContentsModel) (started : List (Lis
 abbrev pub StillKeeps : (old new : ContentsModel) → Type 0
 StillKeeps old new = (world : World) → KeepsWorld old world → txn.Keeps new.store new.index world.setting
 
--- the same where a transaction under no name was called, which stood so
-abbrev pub StillKeepsOf : (before : txn.Kept) → (store store_left : Versions) → (index index_left : Index) → Type 0
-StillKeepsOf before store store_left index index_left = (transaction : Transaction) (setting : Setting) → txn.StandsFor before transaction
-    → txn.Keeps store index setting → txn.Keeps store_left index_left setting
+-- the same where a transaction under no name was called, which stood so, in a database with these options
+abbrev pub StillKeepsOf : DatabaseOptions → (before : txn.Kept) → (store store_left : Versions) → (index index_left : Index) → Type 0
+StillKeepsOf options before store store_left index index_left = (transaction : Transaction) (setting : Setting)
+    → txn.StandsFor before transaction → txn.Keeps store index setting → setting.options ≡ options → txn.Keeps store_left index_left setting
 
 -- the same of a step that may draw random words: those still to come are that world's
 pub record TookDrawing (reply : Reply) (core : ContentsModel) (words : ℕ → ℕ) (stepped : Stepped) : Type 0 where
@@ -55,13 +56,14 @@ pub record TookApart (reply : Reply) (kept : txn.Kept) (core : ContentsModel) (w
   pub stands : txn.StandsFor kept called.transaction
   pub world_stands : KeepsWorld core (called_apart world before called)
 
--- A call on a transaction that was kept so was replied to so: what is left of it, of the store, of the index, and of what became of
--- each life.
-pub record MadeOn (call : TxnCall) (reply : Reply) (before left : txn.Kept) (store store_left : Versions) (index index_left : Index)
+-- A call on a transaction that was kept so was replied to so in a database with these options: what is left of it, of the store, of
+-- the index, and of what became of each life.
+pub record MadeOn (options : DatabaseOptions) (call : TxnCall) (reply : Reply) (before left : txn.Kept) (store store_left : Versions) (index index_left : Index)
     (lives lives_left : List (Option Outcome)) : Type 0 where
   pub answer : Answer
   pub reply_is : reply ≡ answer.reply
   pub answers : (transaction : Transaction) (setting : Setting) → txn.StandsFor before transaction → txn.Keeps store index setting
+      → setting.options ≡ options
       → txn.Answers answer left store_left index_left setting (called setting (length lives) transaction call)
   pub lives_are : lives_left ≡ decide before.life (outcome_by before.life left.life left.phase)
       (with_lives lives (if answer.drew_life then 1 else 0))

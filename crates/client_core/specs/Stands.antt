@@ -5,6 +5,7 @@ use Rattle.fdb_calls.specs.declared.Outcome.{Outcome}
 use Rattle.fdb_calls.specs.declared.Reply.{Reply}
 use Rattle.fdb_calls.specs.declared.Reply.TheVariants as reply
 use Rattle.key_bytes.specs.Keys.{key_cmp}
+use Rattle.database_rules.specs.declared.options.DatabaseOptions.{DatabaseOptions}
 use Rattle.database_rules.specs.Histories.{Setting}
 use Rattle.database_rules.specs.Transactions.{Transaction}
 use Rattle.machine_rules.specs.Worlds.{World, Stepped, HasWords}
@@ -17,9 +18,10 @@ use Rattle.txn_core.specs.Stands as txn
 abbrev pub KeptTransactions : Type 0
 KeptTransactions = finite.FinMap key_cmp txn.Kept
 
--- what a core keeps of the database: the store of its versions, the conflict set, the transactions by name, what became of each
--- life that was drawn, and how many requests it took
+-- what a core keeps of the database: what it was opened with, the store of its versions, the conflict set, the transactions by name,
+-- what became of each life that was drawn, and how many requests it took
 pub record ContentsModel : Type 0 where
+  pub options : DatabaseOptions
   pub store : Versions
   pub index : Index
   pub transactions : KeptTransactions
@@ -29,6 +31,7 @@ pub record ContentsModel : Type 0 where
 -- the same, the prefixes of the machines that were started, by their numbers, and whether memory ran out: a core that is spent
 -- answers each request with NoMemory
 pub record CoreModel : Type 0 where
+  pub options : DatabaseOptions
   pub store : Versions
   pub index : Index
   pub transactions : KeptTransactions
@@ -38,8 +41,14 @@ pub record CoreModel : Type 0 where
   pub is_spent : Bool
 
 abbrev pub contents_in : CoreModel → ContentsModel
-contents_in core =
-    record { store = core.store; index = core.index; transactions = core.transactions; lives = core.lives; applied = core.applied }
+contents_in core = record {
+  options = core.options;
+  store = core.store;
+  index = core.index;
+  transactions = core.transactions;
+  lives = core.lives;
+  applied = core.applied;
+}
 
 -- both are none, or the first stands for the second
 abbrev pub AreAlike : Option txn.Kept → Option Transaction → Type 0
@@ -48,9 +57,10 @@ AreAlike None (Some transaction) = ⊥
 AreAlike (Some kept) None = ⊥
 AreAlike (Some kept) (Some transaction) = txn.StandsFor kept transaction
 
--- The store and the index keep the history of a world in which the same became of each life, and in which each name has a
--- transaction that the kept one stands for, or none where none is kept.
+-- The store and the index keep the history of a world with the same options, in which the same became of each life, and in which
+-- each name has a transaction that the kept one stands for, or none where none is kept.
 pub record KeepsWorld (contents : ContentsModel) (world : World) : Type 0 where
+  pub options : contents.options ≡ world.setting.options
   pub keeps : txn.Keeps contents.store contents.index world.setting
   pub transactions : (name : List ℕ) → AreAlike (finite.get contents.transactions name) (finite.get world.transactions name)
   pub lives : contents.lives ≡ world.lives

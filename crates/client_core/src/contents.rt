@@ -17,6 +17,7 @@ ghost use Rattle.client_core.specs.Contents.{first_begins, model_of};
 
 use crate::lives::{Lives, outcome_after};
 use conflict_ranges::WriteIndex;
+use database_rules::DatabaseOptions;
 use fdb_calls::{Outcome, Reply, TrFault, TxnCall};
 use key_bytes::{Bytes, Key, Pairs};
 use key_map::KeyMap;
@@ -27,6 +28,7 @@ use version_store::Store;
 /// What a core keeps.
 pub struct Contents {
     pub alloc: Global,
+    pub options: DatabaseOptions,
     pub store: Store,
     pub index: WriteIndex,
     pub transactions: KeyMap<Txn>,
@@ -39,6 +41,7 @@ impl Drop for Contents {
     fn drop(self) {
         let Contents {
             alloc: _,
+            options: _,
             store: _,
             index: _,
             transactions: _,
@@ -103,7 +106,14 @@ impl Contents {
     {
         if let Some(transaction) = self.transactions.get_mut(name) {
             let (store, index) = (&mut self.store, &mut self.index);
-            return call_on(transaction, store, index, &mut self.lives, call);
+            return call_on(
+                self.options,
+                transaction,
+                store,
+                index,
+                &mut self.lives,
+                call,
+            );
         }
         self.make_new(name)?;
         self.call_named(name, call)
@@ -120,7 +130,14 @@ impl Contents {
     {
         let transaction = self.transactions.get_mut(name).unwrap();
         let (store, index) = (&mut self.store, &mut self.index);
-        call_on(transaction, store, index, &mut self.lives, call)
+        call_on(
+            self.options,
+            transaction,
+            store,
+            index,
+            &mut self.lives,
+            call,
+        )
     }
 
     /// Makes a call on a transaction of its own at the last version, and commits it. It is refused for want of memory alone:
@@ -174,7 +191,7 @@ impl Contents {
         requires few_commits { last_of self.old.store + 1 < 2 ^ 63 }
         ensures step { IfOk result (λ answered. (world : World) (made : Called) → reply ≡ made.reply → txn.StandsFor transaction made.transaction
             → KeepsWorld (model_of self.old) world → Took answered (model_of self.new) (commit_made world made)) }
-        ensures kept { OnErr result (StillKeepsOf transaction self.old.store self.new.store self.old.index self.new.index) }
+        ensures kept { OnErr result (StillKeepsOf self.old.options transaction self.old.store self.new.store self.old.index self.new.index) }
         ensures applied { self.new.applied ≡ self.old.applied }
     {
         if is_fault(&reply) {
@@ -190,11 +207,18 @@ impl Contents {
         ensures step { IfOk result (λ reply. (t : Transaction) (world : World) → txn.StandsFor transaction.old t
             → KeepsWorld (model_of self.old) world
             → TookApart reply transaction.new (model_of self.new) world t (called world.setting (next_life world) t call.now)) }
-        ensures kept { OnErr result (StillKeepsOf transaction.old self.old.store self.new.store self.old.index self.new.index) }
+        ensures kept { OnErr result (StillKeepsOf self.old.options transaction.old self.old.store self.new.store self.old.index self.new.index) }
         ensures applied { self.new.applied ≡ self.old.applied }
     {
         let (store, index) = (&mut self.store, &mut self.index);
-        call_on(transaction, store, index, &mut self.lives, call)
+        call_on(
+            self.options,
+            transaction,
+            store,
+            index,
+            &mut self.lives,
+            call,
+        )
     }
 
     /// Returns what was promised of a life.
@@ -230,9 +254,10 @@ impl Contents {
     }
 }
 
-// A call on a transaction over a store and its index, and what becomes of its life by it: the reply. After want of memory the
+// A call on a transaction over a store and its index, in a database with these options, and what becomes of its life by it: the reply. After want of memory the
 // store and the index keep the history that they kept: a commit draws no life, so nothing is refused behind it.
 fn call_on(
+    options: DatabaseOptions,
     transaction: &mut Txn,
     store: &mut Store,
     index: &mut WriteIndex,
@@ -240,12 +265,12 @@ fn call_on(
     call: &TxnCall,
 ) -> Result<Reply, AllocError>
     requires { last_of store.old + 1 < 2 ^ 63 }
-    ensures made { IfOk result (λ reply. MadeOn call.now reply transaction.old transaction.new store.old store.new index.old index.new
+    ensures made { IfOk result (λ reply. MadeOn options call.now reply transaction.old transaction.new store.old store.new index.old index.new
         lives.old lives.new) }
-    ensures kept { OnErr result (StillKeepsOf transaction.old store.old store.new index.old index.new) }
+    ensures kept { OnErr result (StillKeepsOf options transaction.old store.old store.new index.old index.new) }
 {
     let life = transaction.life();
-    let answer = transaction.call(store, index, call, lives.next())?;
+    let answer = transaction.call(store, index, options, call, lives.next())?;
     let outcome = outcome_after(life, transaction);
     lives.go_on(answer.drew_life, life, outcome)?;
     Ok(answer.reply)

@@ -20,6 +20,7 @@ use conflict_ranges::WriteIndex;
 use fdb_calls::{Reply, Request};
 use key_bytes::{Bytes, Key, Pairs};
 use key_map::KeyMap;
+use machine_rules::database_options;
 use outside::Words;
 use std::alloc::{AllocError, Global};
 use std::marker::Model;
@@ -80,6 +81,7 @@ impl Core {
         Ok(Core {
             contents: Contents {
                 alloc,
+                options: database_options(arguments),
                 store,
                 index: WriteIndex::new(alloc),
                 transactions: KeyMap::new(alloc),

@@ -2,8 +2,9 @@
 use Rattle.std.proofs.Common.{◌≡◌, ◌∙◌, ◌&&◌, ℕ, ◌+◌, Bool, cond, not, true, false, true≢false, List, [], ◌∷◌, ◌++◌, append-nil, map, length, drop, Option, Some, None, is_some, option_and_then, codes, bytes_eq, refl, sym, ap, ap₂, subst}
 use Rattle.std.proofs.lemmas.Slice.Eq.{bytes_eq-Decides}
 use Rattle.key_bytes.specs.Keys.{begins_with}
+use Rattle.database_rules.specs.declared.Api.{Api}
 use Rattle.command_rules.specs.declared.args.RunArgs.{RunArgs}
-use Rattle.command_rules.specs.Grammar.{Argument, OptionName, seed, polls, WordKind, separator, joined, apart, unknown, positional, argument_by, arguments_in, given, kind_in, option_in, option_names, option_text, placed, positionals_of, polls_given, prefix_in, run_in, run_with, seed_given, values_of, with_argument}
+use Rattle.command_rules.specs.Grammar.{Argument, OptionName, seed, polls, WordKind, separator, joined, apart, unknown, positional, argument_by, arguments_in, given, kind_in, option_in, option_names, option_text, placed, positionals_of, polls_given, prefix_and_api_in, run_in, run_with, seed_given, values_of, with_argument}
 use Rattle.command_laws.specs.Found.{listed}
 use Rattle.command_laws.proofs.Leaves.{Tally, api, nothing, option, prefix, with_value}
 use Rattle.command_laws.proofs.Steps.{Place, first, second, past}
@@ -15,23 +16,23 @@ abbrev pub places_in : Tally → List (List ℕ)
 places_in tally = listed (tally prefix) ++ listed (tally api)
 
 abbrev pub asked : Tally → Option RunArgs
-asked tally = run_with (prefix_in (places_in tally)) (seed_given (listed (tally (option seed)))) (polls_given (listed (tally (option polls))))
+asked tally = run_with (prefix_and_api_in (places_in tally)) (seed_given (listed (tally (option seed)))) (polls_given (listed (tally (option polls))))
 
 -- the same, with more arguments behind them
 abbrev run_after : Tally → List Argument → Option RunArgs
 run_after tally arguments =
-    run_with (prefix_in (places_in tally ++ positionals_of arguments)) (seed_given (listed (tally (option seed)) ++ values_of seed arguments))
+    run_with (prefix_and_api_in (places_in tally ++ positionals_of arguments)) (seed_given (listed (tally (option seed)) ++ values_of seed arguments))
     (polls_given (listed (tally (option polls)) ++ values_of polls arguments))
 
 no_more : (tally : Tally) → asked tally ≡ run_after tally []
-no_more tally = λ i. run_with (prefix_in (sym (append-nil (places_in tally)) i)) (seed_given (sym (append-nil (listed (tally (option seed)))) i))
+no_more tally = λ i. run_with (prefix_and_api_in (sym (append-nil (places_in tally)) i)) (seed_given (sym (append-nil (listed (tally (option seed)))) i))
     (polls_given (sym (append-nil (listed (tally (option polls)))) i))
 
-pub no_seed : (found : Option (List ℕ)) (most : Option ℕ) → run_with found None most ≡ None
+pub no_seed : (found : Option (List ℕ × Api)) (most : Option ℕ) → run_with found None most ≡ None
 no_seed None most = refl
 no_seed (Some found) most = refl
 
-pub no_polls : (found : Option (List ℕ)) (number : Option ℕ) → run_with found number None ≡ None
+pub no_polls : (found : Option (List ℕ × Api)) (number : Option ℕ) → run_with found number None ≡ None
 no_polls None number = refl
 no_polls (Some found) None = refl
 no_polls (Some found) (Some number) = refl
@@ -58,18 +59,18 @@ polls_hyphen [] = refl
 polls_hyphen (x ∷ xs) = refl
 
 -- no argument behind it changes that
-no_seed_given : (found : Option (List ℕ)) (values : List (List ℕ)) (most : Option ℕ) → seed_given values ≡ None → run_with found (seed_given values) most ≡ None
+no_seed_given : (found : Option (List ℕ × Api)) (values : List (List ℕ)) (most : Option ℕ) → seed_given values ≡ None → run_with found (seed_given values) most ≡ None
 no_seed_given found values most none = ap (λ number. run_with found number most) none ∙ no_seed found most
 
-no_polls_given : (found : Option (List ℕ)) (number : Option ℕ) (values : List (List ℕ)) → polls_given values ≡ None → run_with found number (polls_given values) ≡ None
+no_polls_given : (found : Option (List ℕ × Api)) (number : Option ℕ) (values : List (List ℕ)) → polls_given values ≡ None → run_with found number (polls_given values) ≡ None
 no_polls_given found number values none = ap (λ most. run_with found number most) none ∙ no_polls found number
 
 given_hyphen : (name : OptionName) (tally : Tally) (rest : List Argument) → run_after (with_value (option name) (codes "-") tally) rest ≡ None
 given_hyphen seed tally rest =
-    no_seed_given (prefix_in (places_in tally ++ positionals_of rest)) (codes "-" ∷ values_of seed rest)
+    no_seed_given (prefix_and_api_in (places_in tally ++ positionals_of rest)) (codes "-" ∷ values_of seed rest)
     (polls_given (listed (tally (option polls)) ++ values_of polls rest)) (seed_hyphen (values_of seed rest))
 given_hyphen polls tally rest =
-    no_polls_given (prefix_in (places_in tally ++ positionals_of rest)) (seed_given (listed (tally (option seed)) ++ values_of seed rest))
+    no_polls_given (prefix_and_api_in (places_in tally ++ positionals_of rest)) (seed_given (listed (tally (option seed)) ++ values_of seed rest))
     (codes "-" ∷ values_of polls rest) (polls_hyphen (values_of polls rest))
 
 placed_first : (word : List ℕ) (tally : Tally) → IsAt first tally → (rest : List Argument) → run_after (with_value prefix word tally) rest ≡ run_after tally (placed word ∷ rest)
@@ -92,7 +93,7 @@ never : (g : List Argument → Option RunArgs) (o : Option (List Argument)) → 
 never g None none = refl
 never g (Some rest) none = none rest
 
-never_behind : (g : List Argument → Option RunArgs) (argument : Argument) (o : Option (List Argument)) → ((rest : List Argument) → g (argument ∷ rest) ≡ None)
+pub never_behind : {X : Type 0} (g : List Argument → Option X) (argument : Argument) (o : Option (List Argument)) → ((rest : List Argument) → g (argument ∷ rest) ≡ None)
     → option_and_then g (with_argument argument o) ≡ None
 never_behind g argument None none = refl
 never_behind g argument (Some rest) none = none rest

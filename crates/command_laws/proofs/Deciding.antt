@@ -1,6 +1,6 @@
 -- `clap` refuses exactly the words that the grammar doesn't have, but for the values of arguments; else what it finds asks for
 -- what the grammar says.
-use Rattle.std.proofs.Common.{◌≡◌, ◌∙◌, ◌⊎◌, ◌||◌, ◌++◌, ℕ, Bool, cond, true, false, true≢false, inl, inr, List, [], ◌∷◌, Option, Some, None, option_map, option_and_then, is_some, fold, codes, bytes_eq, slice_get, refl, sym, ap, subst}
+use Rattle.std.proofs.Common.{◌≡◌, ◌∙◌, ◌⊎◌, ⊎_elim, ◌||◌, ◌++◌, ℕ, Bool, cond, true, false, true≢false, inl, inr, List, [], ◌∷◌, Option, Some, None, option_map, option_and_then, is_some, fold, codes, bytes_eq, slice_get, refl, sym, ap, subst}
 use Rattle.std.specs.Option.{option_map_or}
 use Rattle.std.proofs.lemmas.Slice.Eq.{bytes_eq-Decides}
 use Rattle.clap.specs.Lexer.{long_of, short_of}
@@ -14,15 +14,18 @@ use Rattle.clap.specs.declared.error.kind.ErrorKind.{ErrorKind}
 use Rattle.clap.specs.declared.error.kind.ErrorKind.TheVariants.{InvalidSubcommand, MissingRequiredArgument, MissingSubcommand, UnknownArgument}
 use Rattle.clap.proofs.WalkLemmas.{walk_stopped}
 use Rattle.clap.proofs.FaultLemmas.{past as past_first, stopped_fault}
-use Rattle.command_rules.specs.declared.args.Args.TheVariants.{Run, Replay, Gen}
-use Rattle.command_rules.specs.Grammar.{WordKind, apart, args_of, gen_in, joined, kind_in, polls, polls_given, positional, prefix_in, run_in, run_with, seed, seed_given, separator, unknown}
-use Rattle.command_laws.specs.Found.{EachUtf8, asked_by, asked_in, listed, workers_asked_in}
+use Rattle.command_rules.specs.declared.args.Args.{Args}
+use Rattle.command_rules.specs.declared.args.Args.TheVariants.{Run, Replay, Gen, Watch, Asm, Disasm}
+use Rattle.command_rules.specs.Grammar.{CommandName, WordKind, apart, args_of, asked_of, asm, command_in, command_names, command_text, disasm, gen, gen_in, joined, kind_in, polls, polls_given, positional, prefix_and_api_in, replay, run, run_in, run_with, seed, seed_given, separator, unknown, watch}
+use Rattle.command_laws.specs.Found.{EachUtf8, asked_by, asked_in, asked_with, listed, workers_asked_in}
 use Rattle.command_laws.specs.Program.{program}
-use Rattle.command_laws.proofs.WordKinds.{IsUnknown, Meets, by_character, by_name, is_separator, meets}
+use Rattle.command_laws.proofs.WordKinds.{IsIn, IsUnknown, Meets, by_character, by_name, is_separator, meets}
 use Rattle.command_laws.proofs.Leaves.{ArgumentId, Holds, Tally, api, holds_nothing, id_text, leaf, nothing, option, prefix, row_for, run_rules}
 use Rattle.command_laws.proofs.Steps.{at, first}
 use Rattle.command_laws.proofs.Readings.{Agrees, end_rows, fault_from, read_words, reads}
 use Rattle.command_laws.proofs.Asking.{asked, asks_run}
+use Rattle.command_laws.proofs.Faults.{first_clear, none_behind, second_clear}
+use Rattle.command_laws.proofs.Bare.{bare_decided, bare_fault, bare_rows}
 use Rattle.command_laws.proofs.Workers.{gen_decided, gen_fault, gen_rows}
 
 -- ---- what the matches hold
@@ -36,22 +39,8 @@ first_is id rows tally holds = ap (option_and_then (λ (r : Row). slice_get r.va
 
 asked_is : (rows : List Row) (tally : Tally) → Holds rows tally → asked_in rows ≡ asked tally
 asked_is rows tally holds =
-    λ i. run_with (prefix_in (listed (first_is prefix rows tally holds i) ++ listed (first_is api rows tally holds i)))
+    λ i. run_with (prefix_and_api_in (listed (first_is prefix rows tally holds i) ++ listed (first_is api rows tally holds i)))
     (seed_given (listed (first_is (option seed) rows tally holds i))) (polls_given (listed (first_is (option polls) rows tally holds i)))
-
--- ---- faults in turn
-
-first_clear : (a b : Kinds) → or_else a b ≡ [] → a ≡ []
-first_clear [] b none = refl
-first_clear (k ∷ ks) b none = none
-
-second_clear : (a b : Kinds) → or_else a b ≡ [] → b ≡ []
-second_clear [] b none = none
-second_clear (k ∷ ks) b none = cc
-
-none_behind : (a : Kinds) → or_else a [] ≡ a
-none_behind [] = refl
-none_behind (k ∷ ks) = refl
 
 -- ---- after the walk
 
@@ -194,65 +183,67 @@ top_end words = walk top.rules names nothing_held words
 fault_parts : (words : List (List ℕ)) → fault_of program words ≡ or_else (walk_fault top names top_start words) (behind_walk (top_end words))
 fault_parts words = refl
 
-abbrev stopped_at : List ℕ → List (List ℕ) → Walk
-stopped_at name words = record top_start { stopped = Some (name, words) }
+abbrev stopped_at : CommandName → List (List ℕ) → Walk
+stopped_at command words = record top_start { stopped = Some (command_text command, words) }
 
-run_stops : (words : List (List ℕ)) → top_end (codes "run" ∷ words) ≡ stopped_at (codes "run") words
+command_stops : (command : CommandName) (words : List (List ℕ)) → top_end (command_text command ∷ words) ≡ stopped_at command words
 unfolding walked
-run_stops words = sym (walk_stopped top.rules names top_start (codes "run") [] words)
+command_stops run words = sym (walk_stopped top.rules names top_start (codes "run") [] words)
+command_stops replay words = sym (walk_stopped top.rules names top_start (codes "replay") [] words)
+command_stops gen words = sym (walk_stopped top.rules names top_start (codes "gen") [] words)
+command_stops watch words = sym (walk_stopped top.rules names top_start (codes "watch") [] words)
+command_stops asm words = sym (walk_stopped top.rules names top_start (codes "asm") [] words)
+command_stops disasm words = sym (walk_stopped top.rules names top_start (codes "disasm") [] words)
 
-replay_stops : (words : List (List ℕ)) → top_end (codes "replay" ∷ words) ≡ stopped_at (codes "replay") words
-unfolding walked
-replay_stops words = sym (walk_stopped top.rules names top_start (codes "replay") [] words)
-
-gen_stops : (words : List (List ℕ)) → top_end (codes "gen" ∷ words) ≡ stopped_at (codes "gen") words
-unfolding walked
-gen_stops words = sym (walk_stopped top.rules names top_start (codes "gen") [] words)
-
-run_walks : (words : List (List ℕ)) → walk_fault top names top_start (codes "run" ∷ words) ≡ []
+command_passes : (command : CommandName) (words : List (List ℕ)) → walk_fault top names top_start (command_text command ∷ words) ≡ []
 unfolding walk_fault walked
-run_walks words = stopped_fault top names top_start (codes "run", []) words
+command_passes run words = stopped_fault top names top_start (codes "run", []) words
+command_passes replay words = stopped_fault top names top_start (codes "replay", []) words
+command_passes gen words = stopped_fault top names top_start (codes "gen", []) words
+command_passes watch words = stopped_fault top names top_start (codes "watch", []) words
+command_passes asm words = stopped_fault top names top_start (codes "asm", []) words
+command_passes disasm words = stopped_fault top names top_start (codes "disasm", []) words
 
-replay_walks : (words : List (List ℕ)) → walk_fault top names top_start (codes "replay" ∷ words) ≡ []
-unfolding walk_fault walked
-replay_walks words = stopped_fault top names top_start (codes "replay", []) words
+-- what `clap` finds amiss in the words behind a command, and what it finds
+abbrev command_fault : CommandName → List (List ℕ) → Kinds
+command_fault run words = leaf_fault (codes "run") words
+command_fault replay words = leaf_fault (codes "replay") words
+command_fault gen words = gen_fault words
+command_fault watch words = bare_fault (codes "watch") words
+command_fault asm words = bare_fault (codes "asm") words
+command_fault disasm words = bare_fault (codes "disasm") words
 
-gen_walks : (words : List (List ℕ)) → walk_fault top names top_start (codes "gen" ∷ words) ≡ []
-unfolding walk_fault walked
-gen_walks words = stopped_fault top names top_start (codes "gen", []) words
+abbrev command_rows : CommandName → List (List ℕ) → List Row
+command_rows run words = leaf_rows words
+command_rows replay words = leaf_rows words
+command_rows gen words = gen_rows words
+command_rows watch words = bare_rows words
+command_rows asm words = bare_rows words
+command_rows disasm words = bare_rows words
 
-run_behind : (words : List (List ℕ)) → behind_walk (stopped_at (codes "run") words) ≡ leaf_fault (codes "run") words
+behind_command : (command : CommandName) (words : List (List ℕ)) → behind_walk (stopped_at command words) ≡ command_fault command words
 unfolding defaults_fault
-run_behind words = none_behind (leaf_fault (codes "run") words)
+behind_command run words = none_behind (leaf_fault (codes "run") words)
+behind_command replay words = none_behind (leaf_fault (codes "replay") words)
+behind_command gen words = none_behind (gen_fault words)
+behind_command watch words = none_behind (bare_fault (codes "watch") words)
+behind_command asm words = none_behind (bare_fault (codes "asm") words)
+behind_command disasm words = none_behind (bare_fault (codes "disasm") words)
 
-replay_behind : (words : List (List ℕ)) → behind_walk (stopped_at (codes "replay") words) ≡ leaf_fault (codes "replay") words
-unfolding defaults_fault
-replay_behind words = none_behind (leaf_fault (codes "replay") words)
+fault_is : (command : CommandName) (words : List (List ℕ)) → fault_of program (command_text command ∷ words) ≡ command_fault command words
+fault_is command words =
+    fault_parts (command_text command ∷ words) ∙ past_first _ _ (command_passes command words) ∙ ap behind_walk (command_stops command words) ∙ behind_command command words
 
-gen_behind : (words : List (List ℕ)) → behind_walk (stopped_at (codes "gen") words) ≡ gen_fault words
-unfolding defaults_fault
-gen_behind words = none_behind (gen_fault words)
+entered_is : (command : CommandName) (words : List (List ℕ)) → entered (built program) (Some (command_text command, words)) ≡ Some (command_text command, command_rows command words)
+entered_is run words = refl
+entered_is replay words = refl
+entered_is gen words = refl
+entered_is watch words = refl
+entered_is asm words = refl
+entered_is disasm words = refl
 
-run_fault : (words : List (List ℕ)) → fault_of program (codes "run" ∷ words) ≡ leaf_fault (codes "run") words
-run_fault words =
-    fault_parts (codes "run" ∷ words) ∙ past_first _ _ (run_walks words) ∙ ap behind_walk (run_stops words) ∙ run_behind words
-
-replay_fault : (words : List (List ℕ)) → fault_of program (codes "replay" ∷ words) ≡ leaf_fault (codes "replay") words
-replay_fault words =
-    fault_parts (codes "replay" ∷ words) ∙ past_first _ _ (replay_walks words) ∙ ap behind_walk (replay_stops words) ∙ replay_behind words
-
-gen_is_fault : (words : List (List ℕ)) → fault_of program (codes "gen" ∷ words) ≡ gen_fault words
-gen_is_fault words =
-    fault_parts (codes "gen" ∷ words) ∙ past_first _ _ (gen_walks words) ∙ ap behind_walk (gen_stops words) ∙ gen_behind words
-
-run_found : (words : List (List ℕ)) → subcommand_of program (codes "run" ∷ words) ≡ Some (codes "run", leaf_rows words)
-run_found words = ap (λ (end : Walk). entered (built program) end.stopped) (run_stops words)
-
-replay_found : (words : List (List ℕ)) → subcommand_of program (codes "replay" ∷ words) ≡ Some (codes "replay", leaf_rows words)
-replay_found words = ap (λ (end : Walk). entered (built program) end.stopped) (replay_stops words)
-
-gen_found : (words : List (List ℕ)) → subcommand_of program (codes "gen" ∷ words) ≡ Some (codes "gen", gen_rows words)
-gen_found words = ap (λ (end : Walk). entered (built program) end.stopped) (gen_stops words)
+found_is : (command : CommandName) (words : List (List ℕ)) → subcommand_of program (command_text command ∷ words) ≡ Some (command_text command, command_rows command words)
+found_is command words = ap (λ (end : Walk). entered (built program) end.stopped) (command_stops command words) ∙ entered_is command words
 
 -- ---- words that begin with no command
 
@@ -260,28 +251,30 @@ no_words : fault_of program [] ≡ MissingSubcommand ∷ []
 unfolding walk_fault defaults_fault
 no_words = refl
 
-module _ (word : List ℕ) (not_run : bytes_eq (codes "run") word ≡ false) (not_replay : bytes_eq (codes "replay") word ≡ false)
-    (not_gen : bytes_eq (codes "gen") word ≡ false) where
+abbrev IsNone : List ℕ → Type 0
+IsNone word = (command : CommandName) → bytes_eq (command_text command) word ≡ false
+
+module _ (word : List ℕ) (other : IsNone word) where
   abbrev first_fault : Kinds
   first_fault = turn_fault top names top_start word
 
   long_fails : (name : List ℕ) (value : Option (List ℕ)) → is_separator word ≡ false → long_of word ≡ Some (name, value) → first_fault ≡ UnknownArgument ∷ []
-  long_fails name value e long = rw (not_run, not_replay, not_gen, e, long) refl
+  long_fails name value e long = rw (other run, other replay, other gen, other watch, other asm, other disasm, e, long) refl
 
   unknown_fails : is_separator word ≡ false → IsUnknown word → first_fault ≡ UnknownArgument ∷ []
   unfolding flags_fault
-  unknown_fails e (by_name name value long differs) = rw (not_run, not_replay, not_gen, e, long) refl
-  unknown_fails e (by_character x xs c long short is) = rw (not_run, not_replay, not_gen, e, long, short, is) refl
+  unknown_fails e (by_name name value long differs) = rw (other run, other replay, other gen, other watch, other asm, other disasm, e, long) refl
+  unknown_fails e (by_character x xs c long short is) = rw (other run, other replay, other gen, other watch, other asm, other disasm, e, long, short, is) refl
 
   plain_fails : is_separator word ≡ false → long_of word ≡ None → short_of word ≡ None → first_fault ≡ UnknownArgument ∷ InvalidSubcommand ∷ []
-  plain_fails e long short = rw (not_run, not_replay, not_gen, e, long, short) refl
+  plain_fails e long short = rw (other run, other replay, other gen, other watch, other asm, other disasm, e, long, short) refl
 
   separator_passes : is_separator word ≡ true → first_fault ≡ []
-  separator_passes e = rw (not_run, not_replay, not_gen, e) refl
+  separator_passes e = rw (other run, other replay, other gen, other watch, other asm, other disasm, e) refl
 
   separator_walks : is_separator word ≡ true → walked top.rules names top_start word ≡ record top_start { is_trailing = true }
   unfolding walked
-  separator_walks e = rw (not_run, not_replay, not_gen, e) refl
+  separator_walks e = rw (other run, other replay, other gen, other watch, other asm, other disasm, e) refl
 
 abbrev behind_separator : Walk
 behind_separator = record top_start { is_trailing = true }
@@ -315,13 +308,12 @@ refused_behind word (other ∷ words) walks none =
     ap (λ (w : Walk). turn_fault top names w other) walks ∙ something_behind other in
     cc
 
-no_command : (word : List ℕ) (words : List (List ℕ)) → bytes_eq (codes "run") word ≡ false → bytes_eq (codes "replay") word ≡ false
-    → bytes_eq (codes "gen") word ≡ false → (of_word : WordKind) → Meets of_word word → fault_of program (word ∷ words) ≡ [] → ⊥
-no_command word words not_run not_replay not_gen separator met = refused_behind word words (separator_walks word not_run not_replay not_gen met)
-no_command word words not_run not_replay not_gen (joined name value) met = refused_at word words _ _ (long_fails word not_run not_replay not_gen _ _ met.0 met.1)
-no_command word words not_run not_replay not_gen (apart name) met = refused_at word words _ _ (long_fails word not_run not_replay not_gen _ _ met.0 met.1)
-no_command word words not_run not_replay not_gen unknown met = refused_at word words _ _ (unknown_fails word not_run not_replay not_gen met.0 met.1)
-no_command word words not_run not_replay not_gen positional met = refused_at word words _ _ (plain_fails word not_run not_replay not_gen met.0 met.1 met.2)
+no_command : (word : List ℕ) (words : List (List ℕ)) → IsNone word → (of_word : WordKind) → Meets of_word word → fault_of program (word ∷ words) ≡ [] → ⊥
+no_command word words other separator met = refused_behind word words (separator_walks word other met)
+no_command word words other (joined name value) met = refused_at word words _ _ (long_fails word other _ _ met.0 met.1)
+no_command word words other (apart name) met = refused_at word words _ _ (long_fails word other _ _ met.0 met.1)
+no_command word words other unknown met = refused_at word words _ _ (unknown_fails word other met.0 met.1)
+no_command word words other positional met = refused_at word words _ _ (plain_fails word other met.0 met.1 met.2)
 
 -- ---- every list of words
 
@@ -332,21 +324,47 @@ Decided words =
     ((fault_of program words ≡ []) × (asked_by (subcommand_of program words) ≡ args_of words))
     ⊎ ((fault_of program words ≡ [] → ⊥) × (args_of words ≡ None))
 
-run_decided : (words : List (List ℕ)) → LeafDecided (codes "run") words → Decided (codes "run" ∷ words)
-run_decided words (inl passes) = inl (run_fault words ∙ passes.0, ap asked_by (run_found words) ∙ ap (option_map Run) passes.1)
-run_decided words (inr refuses) = inr (λ none. refuses.0 (sym (run_fault words) ∙ none), ap (option_map Run) refuses.1)
+abbrev CommandDecided : CommandName → List (List ℕ) → Type 0
+CommandDecided command words =
+    ((command_fault command words ≡ []) × (asked_with command (command_rows command words) ≡ asked_of command words))
+    ⊎ ((command_fault command words ≡ [] → ⊥) × (asked_of command words ≡ None))
 
-replay_decided : (words : List (List ℕ)) → LeafDecided (codes "replay") words → Decided (codes "replay" ∷ words)
-replay_decided words (inl passes) = inl (replay_fault words ∙ passes.0, ap asked_by (replay_found words) ∙ ap (option_map Replay) passes.1)
-replay_decided words (inr refuses) = inr (λ none. refuses.0 (sym (replay_fault words) ∙ none), ap (option_map Replay) refuses.1)
+-- so it is of what is asked for, as a command
+as_command : {X : Type 0} (command : X → Args) (fault : Kinds) (found asks : Option X) → ((fault ≡ []) × (found ≡ asks)) ⊎ ((fault ≡ [] → ⊥) × (asks ≡ None))
+    → ((fault ≡ []) × (option_map command found ≡ option_map command asks)) ⊎ ((fault ≡ [] → ⊥) × (option_map command asks ≡ None))
+as_command command fault found asks (inl passes) = inl (passes.0, ap (option_map command) passes.1)
+as_command command fault found asks (inr refuses) = inr (refuses.0, ap (option_map command) refuses.1)
 
-gen_by : (words : List (List ℕ)) → EachUtf8 words → Decided (codes "gen" ∷ words)
-gen_by words each = go (gen_decided words each)
+command_decided : (command : CommandName) (words : List (List ℕ)) → EachUtf8 words → CommandDecided command words
+command_decided run words each = as_command Run (leaf_fault (codes "run") words) (asked_in (leaf_rows words)) (run_in words) (leaf_decided (codes "run") words each)
+command_decided replay words each = as_command Replay (leaf_fault (codes "replay") words) (asked_in (leaf_rows words)) (run_in words) (leaf_decided (codes "replay") words each)
+command_decided gen words each = as_command Gen (gen_fault words) (workers_asked_in (gen_rows words)) (gen_in words) (gen_decided words each)
+command_decided watch words each = bare_decided (codes "watch") Watch words each
+command_decided asm words each = bare_decided (codes "asm") Asm words each
+command_decided disasm words each = bare_decided (codes "disasm") Disasm words each
+
+named_by_text : (command : CommandName) → command_in command_names (command_text command) ≡ Some command
+named_by_text run = refl
+named_by_text replay = refl
+named_by_text gen = refl
+named_by_text watch = refl
+named_by_text asm = refl
+named_by_text disasm = refl
+
+by_command : (command : CommandName) (words : List (List ℕ)) → CommandDecided command words → Decided (command_text command ∷ words)
+by_command command words = ⊎_elim passes refuses
   where
-    go : ((gen_fault words ≡ []) × (workers_asked_in (gen_rows words) ≡ gen_in words)) ⊎ ((gen_fault words ≡ [] → ⊥) × (gen_in words ≡ None))
-        → Decided (codes "gen" ∷ words)
-    go (inl passes) = inl (gen_is_fault words ∙ passes.0, ap asked_by (gen_found words) ∙ ap (option_map Gen) passes.1)
-    go (inr refuses) = inr (λ none. refuses.0 (sym (gen_is_fault words) ∙ none), ap (option_map Gen) refuses.1)
+    asks : args_of (command_text command ∷ words) ≡ asked_of command words
+    asks = ap (option_and_then (λ name. asked_of name words)) (named_by_text command)
+
+    found : asked_by (Some (command_text command, command_rows command words)) ≡ asked_with command (command_rows command words)
+    found = ap (option_and_then (λ name. asked_with name (command_rows command words))) (named_by_text command)
+
+    passes : (command_fault command words ≡ []) × (asked_with command (command_rows command words) ≡ asked_of command words) → Decided (command_text command ∷ words)
+    passes facts = inl (fault_is command words ∙ facts.0, ap asked_by (found_is command words) ∙ found ∙ facts.1 ∙ sym asks)
+
+    refuses : (command_fault command words ≡ [] → ⊥) × (asked_of command words ≡ None) → Decided (command_text command ∷ words)
+    refuses facts = inr (λ none. facts.0 (sym (fault_is command words) ∙ none), asks ∙ facts.1)
 
 turned : (a b : List ℕ) → bytes_eq a b ≡ false → bytes_eq b a ≡ false
 turned a b e = go (bytes_eq b a) refl
@@ -355,27 +373,38 @@ turned a b e = go (bytes_eq b a) refl
     go false same = refl
     go true same = absurd (true≢false (sym ((bytes_eq-Decides a b).1 (sym ((bytes_eq-Decides b a).0 same))) ∙ e))
 
+each_command : (command : CommandName) → IsIn command command_names
+each_command run = inl refl
+each_command replay = inr (inl refl)
+each_command gen = inr (inr (inl refl))
+each_command watch = inr (inr (inr (inl refl)))
+each_command asm = inr (inr (inr (inr (inl refl))))
+each_command disasm = inr (inr (inr (inr (inr (inl refl)))))
+
+-- a word is the text of a command, or names none, where each command is among these or has another text
+named_or_none : (commands : List CommandName) (word : List ℕ) → ((command : CommandName) → IsIn command commands ⊎ (bytes_eq (command_text command) word ≡ false))
+    → ((command : CommandName) × (word ≡ command_text command)) ⊎ (IsNone word × (command_in commands word ≡ None))
+named_or_none [] word each = inr (λ command. ⊎_elim (λ none. absurd none) (λ other. other) (each command), refl)
+named_or_none (first_command ∷ rest) word each = go (bytes_eq word (command_text first_command)) refl (named_or_none rest word)
+  where
+    go : (b : Bool) → bytes_eq word (command_text first_command) ≡ b
+        → (((command : CommandName) → IsIn command rest ⊎ (bytes_eq (command_text command) word ≡ false))
+        → ((command : CommandName) × (word ≡ command_text command)) ⊎ (IsNone word × (command_in rest word ≡ None)))
+        → ((command : CommandName) × (word ≡ command_text command)) ⊎ (IsNone word × (cond b (Some first_command) (command_in rest word) ≡ None))
+    go true same next = inl (first_command, (bytes_eq-Decides word (command_text first_command)).0 same)
+    go false other next =
+        next (λ command. ⊎_elim (⊎_elim (λ is. inr (subst (λ c. bytes_eq (command_text c) word ≡ false) (sym is) (turned word (command_text first_command) other))) (λ in_rest. inl in_rest)) (λ differs. inr differs) (each command))
+
 pub decided : (words : List (List ℕ)) → EachUtf8 words → Decided words
 decided [] each = inr (λ none. nothing_missing (sym no_words ∙ none), refl)
   where
     nothing_missing : ◌≡◌ {A = Kinds} (MissingSubcommand ∷ []) [] → ⊥
     nothing_missing e = cc
-decided (word ∷ words) each = go (bytes_eq word (codes "run")) refl (bytes_eq word (codes "replay")) refl (bytes_eq word (codes "gen")) refl
+decided (word ∷ words) each = ⊎_elim named none (named_or_none command_names word (λ command. inl (each_command command)))
   where
-    go : (b : Bool) → bytes_eq word (codes "run") ≡ b → (c : Bool) → bytes_eq word (codes "replay") ≡ c → (d : Bool) → bytes_eq word (codes "gen") ≡ d
-        → Decided (word ∷ words)
-    go true same c replay d gen =
-        let is : word ≡ codes "run" = (bytes_eq-Decides word (codes "run")).0 same in
-        subst (λ w. Decided (w ∷ words)) (sym is) (run_decided words (leaf_decided (codes "run") words each.1))
-    go false run true same d gen =
-        let is : word ≡ codes "replay" = (bytes_eq-Decides word (codes "replay")).0 same in
-        subst (λ w. Decided (w ∷ words)) (sym is) (replay_decided words (leaf_decided (codes "replay") words each.1))
-    go false run false replay true same =
-        let is : word ≡ codes "gen" = (bytes_eq-Decides word (codes "gen")).0 same in
-        subst (λ w. Decided (w ∷ words)) (sym is) (gen_by words each.1)
-    go false run false replay false gen =
-        inr (
-          no_command word words (turned word (codes "run") run) (turned word (codes "replay") replay) (turned word (codes "gen") gen) (kind_in word)
-              (meets word each.0),
-          rw (run, replay, gen) refl,
-        )
+    named : (command : CommandName) × (word ≡ command_text command) → Decided (word ∷ words)
+    named is = subst (λ w. Decided (w ∷ words)) (sym is.1) (by_command is.0 words (command_decided is.0 words each.1))
+
+    none : IsNone word × (command_in command_names word ≡ None) → Decided (word ∷ words)
+    none facts =
+        inr (no_command word words facts.0 (kind_in word) (meets word each.0), ap (option_and_then (λ command. asked_of command words)) facts.1)

@@ -4,7 +4,9 @@ pub mod Leaves
 pub mod Steps
 pub mod Readings
 pub mod Asking
+pub mod Faults
 pub mod Deciding
 pub mod Workers
+pub mod Bare
 pub mod Numbers
 pub mod Calling

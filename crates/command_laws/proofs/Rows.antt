@@ -1,38 +1,39 @@
 -- The grammar, computed on command lines.
 use Rattle.std.proofs.Common.{◌≡◌, [], ◌∷◌, Some, None, replicate, codes, refl, true}
 use Rattle.clap.specs.Words.{is_simple_and_free}
+use Rattle.database_rules.specs.declared.Api.TheVariants.{V630, V500}
 use Rattle.command_rules.specs.Grammar.{args_of}
 use Rattle.command_laws.specs.Program.{program}
-use Rattle.command_rules.specs.declared.args.Args.TheVariants.{Run, Replay, Gen}
+use Rattle.command_rules.specs.declared.args.Args.TheVariants.{Run, Replay, Gen, Watch, Asm, Disasm}
 
-run_plain : args_of (codes "run" ∷ codes "t" ∷ codes "630" ∷ []) ≡ Some (Run (record { prefix = codes "t"; seed = 0; polls = 10000 }))
+run_plain : args_of (codes "run" ∷ codes "t" ∷ codes "630" ∷ []) ≡ Some (Run (record { prefix = codes "t"; api = V630; seed = 0; polls = 10000 }))
 run_plain = refl
 
-replay_plain : args_of (codes "replay" ∷ codes "t" ∷ codes "630" ∷ []) ≡ Some (Replay (record { prefix = codes "t"; seed = 0; polls = 10000 }))
+replay_plain : args_of (codes "replay" ∷ codes "t" ∷ codes "630" ∷ []) ≡ Some (Replay (record { prefix = codes "t"; api = V630; seed = 0; polls = 10000 }))
 replay_plain = refl
 
-options_joined : args_of (codes "run" ∷ codes "--seed=7" ∷ codes "t" ∷ codes "--polls=1" ∷ codes "630" ∷ []) ≡ Some (Run (record { prefix = codes "t"; seed = 7; polls = 1 }))
+options_joined : args_of (codes "run" ∷ codes "--seed=7" ∷ codes "t" ∷ codes "--polls=1" ∷ codes "630" ∷ []) ≡ Some (Run (record { prefix = codes "t"; api = V630; seed = 7; polls = 1 }))
 options_joined = refl
 
-options_apart : args_of (codes "replay" ∷ codes "t" ∷ codes "630" ∷ codes "--polls" ∷ codes "100000" ∷ codes "--seed" ∷ codes "18446744073709551615" ∷ []) ≡ Some (Replay (record { prefix = codes "t"; seed = 18446744073709551615; polls = 100000 }))
+options_apart : args_of (codes "replay" ∷ codes "t" ∷ codes "630" ∷ codes "--polls" ∷ codes "100000" ∷ codes "--seed" ∷ codes "18446744073709551615" ∷ []) ≡ Some (Replay (record { prefix = codes "t"; api = V630; seed = 18446744073709551615; polls = 100000 }))
 options_apart = refl
 
-hyphen_alone_is_a_prefix : args_of (codes "run" ∷ codes "-" ∷ codes "630" ∷ []) ≡ Some (Run (record { prefix = codes "-"; seed = 0; polls = 10000 }))
+hyphen_alone_is_a_prefix : args_of (codes "run" ∷ codes "-" ∷ codes "630" ∷ []) ≡ Some (Run (record { prefix = codes "-"; api = V630; seed = 0; polls = 10000 }))
 hyphen_alone_is_a_prefix = refl
 
-empty_prefix : args_of (codes "run" ∷ codes "" ∷ codes "630" ∷ []) ≡ Some (Run (record { prefix = codes ""; seed = 0; polls = 10000 }))
+empty_prefix : args_of (codes "run" ∷ codes "" ∷ codes "630" ∷ []) ≡ Some (Run (record { prefix = codes ""; api = V630; seed = 0; polls = 10000 }))
 empty_prefix = refl
 
-separator_is_dropped : args_of (codes "run" ∷ codes "--seed" ∷ codes "0" ∷ codes "--" ∷ codes "t" ∷ codes "630" ∷ []) ≡ Some (Run (record { prefix = codes "t"; seed = 0; polls = 10000 }))
+separator_is_dropped : args_of (codes "run" ∷ codes "--seed" ∷ codes "0" ∷ codes "--" ∷ codes "t" ∷ codes "630" ∷ []) ≡ Some (Run (record { prefix = codes "t"; api = V630; seed = 0; polls = 10000 }))
 separator_is_dropped = refl
 
-behind_the_separator_words_are_positional : args_of (codes "run" ∷ codes "--" ∷ codes "--seed=1" ∷ codes "630" ∷ []) ≡ Some (Run (record { prefix = codes "--seed=1"; seed = 0; polls = 10000 }))
+behind_the_separator_words_are_positional : args_of (codes "run" ∷ codes "--" ∷ codes "--seed=1" ∷ codes "630" ∷ []) ≡ Some (Run (record { prefix = codes "--seed=1"; api = V630; seed = 0; polls = 10000 }))
 behind_the_separator_words_are_positional = refl
 
-second_separator_is_positional : args_of (codes "run" ∷ codes "--" ∷ codes "--" ∷ codes "630" ∷ []) ≡ Some (Run (record { prefix = codes "--"; seed = 0; polls = 10000 }))
+second_separator_is_positional : args_of (codes "run" ∷ codes "--" ∷ codes "--" ∷ codes "630" ∷ []) ≡ Some (Run (record { prefix = codes "--"; api = V630; seed = 0; polls = 10000 }))
 second_separator_is_positional = refl
 
-separator_last : args_of (codes "run" ∷ codes "t" ∷ codes "630" ∷ codes "--" ∷ []) ≡ Some (Run (record { prefix = codes "t"; seed = 0; polls = 10000 }))
+separator_last : args_of (codes "run" ∷ codes "t" ∷ codes "630" ∷ codes "--" ∷ []) ≡ Some (Run (record { prefix = codes "t"; api = V630; seed = 0; polls = 10000 }))
 separator_last = refl
 
 no_words : args_of ([]) ≡ None
@@ -74,6 +75,33 @@ gen_with_an_option = refl
 gen_with_an_option_behind : args_of (codes "gen" ∷ codes "5" ∷ codes "--seed" ∷ codes "1" ∷ []) ≡ None
 gen_with_an_option_behind = refl
 
+watch_plain : args_of (codes "watch" ∷ []) ≡ Some Watch
+watch_plain = refl
+
+watch_separator : args_of (codes "watch" ∷ codes "--" ∷ []) ≡ Some Watch
+watch_separator = refl
+
+watch_two_separators : args_of (codes "watch" ∷ codes "--" ∷ codes "--" ∷ []) ≡ None
+watch_two_separators = refl
+
+watch_with_a_word : args_of (codes "watch" ∷ codes "t" ∷ []) ≡ None
+watch_with_a_word = refl
+
+asm_plain : args_of (codes "asm" ∷ []) ≡ Some Asm
+asm_plain = refl
+
+asm_with_a_hyphen : args_of (codes "asm" ∷ codes "-" ∷ []) ≡ None
+asm_with_a_hyphen = refl
+
+disasm_plain : args_of (codes "disasm" ∷ []) ≡ Some Disasm
+disasm_plain = refl
+
+disasm_with_an_option : args_of (codes "disasm" ∷ codes "--seed=1" ∷ []) ≡ None
+disasm_with_an_option = refl
+
+disasm_waits_for_a_value : args_of (codes "disasm" ∷ codes "--polls" ∷ []) ≡ None
+disasm_waits_for_a_value = refl
+
 command_behind_the_separator : args_of (codes "--" ∷ codes "run" ∷ codes "t" ∷ codes "630" ∷ []) ≡ None
 command_behind_the_separator = refl
 
@@ -86,8 +114,17 @@ no_places = refl
 no_api : args_of (codes "run" ∷ codes "t" ∷ []) ≡ None
 no_api = refl
 
-other_api : args_of (codes "run" ∷ codes "t" ∷ codes "500" ∷ []) ≡ None
+run_500 : args_of (codes "run" ∷ codes "t" ∷ codes "500" ∷ []) ≡ Some (Run (record { prefix = codes "t"; api = V500; seed = 0; polls = 10000 }))
+run_500 = refl
+
+replay_500 : args_of (codes "replay" ∷ codes "t" ∷ codes "--" ∷ codes "500" ∷ []) ≡ Some (Replay (record { prefix = codes "t"; api = V500; seed = 0; polls = 10000 }))
+replay_500 = refl
+
+other_api : args_of (codes "run" ∷ codes "t" ∷ codes "510" ∷ []) ≡ None
 other_api = refl
+
+longer_api : args_of (codes "run" ∷ codes "t" ∷ codes "0500" ∷ []) ≡ None
+longer_api = refl
 
 third_place : args_of (codes "run" ∷ codes "t" ∷ codes "630" ∷ codes "x" ∷ []) ≡ None
 third_place = refl
@@ -150,7 +187,7 @@ too_many_polls : args_of (codes "run" ∷ codes "t" ∷ codes "630" ∷ codes "-
 too_many_polls = refl
 
 -- a prefix has at most 1,000 bytes
-longest_prefix : args_of (codes "run" ∷ replicate 1000 97 ∷ codes "630" ∷ []) ≡ Some (Run (record { prefix = replicate 1000 97; seed = 0; polls = 10000 }))
+longest_prefix : args_of (codes "run" ∷ replicate 1000 97 ∷ codes "630" ∷ []) ≡ Some (Run (record { prefix = replicate 1000 97; api = V630; seed = 0; polls = 10000 }))
 longest_prefix = refl
 
 longer_prefix : args_of (codes "run" ∷ replicate 1001 97 ∷ codes "630" ∷ []) ≡ None

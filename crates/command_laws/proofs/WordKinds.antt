@@ -107,7 +107,7 @@ same_length : (name : OptionName) → length (option_text name ++ codes "=") ≡
 same_length seed = refl
 same_length polls = refl
 
-abbrev IsIn : OptionName → List OptionName → Type 0
+abbrev pub IsIn : {X : Type 0} → X → List X → Type 0
 IsIn name [] = ⊥
 IsIn name (other ∷ others) = (name ≡ other) ⊎ IsIn name others
 

@@ -57,7 +57,7 @@ unfolding walked
 separator_walks_met worker word e = rw e refl
 
 -- an option, whichever it is
-abbrev IsOption : List ℕ → Type 0
+abbrev pub IsOption : List ℕ → Type 0
 IsOption word = (is_separator word ≡ false)
     × (((name : List ℕ) × (value : Option (List ℕ)) × (long_of word ≡ Some (name, value))) ⊎ IsUnknown word)
 

@@ -1,12 +1,11 @@
 -- What the matches of `clap` ask for: the first value of each argument, read as the grammar reads it.
-use Rattle.std.specs.Prelude.{ℕ, Bool, not, ◌&&◌, ◌||◌, ◌==◌, if◌then◌else◌, length, List, [], ◌∷◌, ◌++◌, Option, Some, None, option_map, codes, IsUtf8}
-use Rattle.std.specs.Str.{bytes_eq}
+use Rattle.std.specs.Prelude.{ℕ, Bool, not, ◌&&◌, ◌||◌, ◌==◌, length, List, [], ◌∷◌, ◌++◌, Option, Some, None, option_map, option_and_then, codes, IsUtf8}
 use Rattle.clap.specs.Words.{Row, first_of}
 use Rattle.key_bytes.specs.Keys.{begins_with}
 use Rattle.command_rules.specs.declared.args.RunArgs.{RunArgs}
 use Rattle.command_rules.specs.declared.args.Args.{Args}
-use Rattle.command_rules.specs.declared.args.Args.TheVariants.{Run, Replay, Gen}
-use Rattle.command_rules.specs.Grammar.{polls_given, prefix_in, run_with, seed_given, workers_in}
+use Rattle.command_rules.specs.declared.args.Args.TheVariants.{Run, Replay, Gen, Watch, Asm, Disasm}
+use Rattle.command_rules.specs.Grammar.{CommandName, run, replay, gen, watch, asm, disasm, command_in, command_names, polls_given, prefix_and_api_in, run_with, seed_given, workers_in}
 
 -- a value as the list of an argument's values, which has one or none
 abbrev pub listed : Option (List ℕ) → List (List ℕ)
@@ -16,25 +15,26 @@ listed (Some value) = value ∷ []
 -- of `run` or `replay`, with the rows of its arguments
 abbrev pub asked_in : List Row → Option RunArgs
 asked_in rows =
-    run_with (prefix_in (listed (first_of (codes "prefix") rows) ++ listed (first_of (codes "api") rows)))
+    run_with (prefix_and_api_in (listed (first_of (codes "prefix") rows) ++ listed (first_of (codes "api") rows)))
     (seed_given (listed (first_of (codes "seed") rows))) (polls_given (listed (first_of (codes "polls") rows)))
 
 -- of `gen`
 abbrev pub workers_asked_in : List Row → Option ℕ
 workers_asked_in rows = workers_in (listed (first_of (codes "workers") rows))
 
--- of the subcommand of this name
-abbrev pub asked_as : List ℕ → List Row → Option Args
-asked_as name rows =
-    if bytes_eq name (codes "run") then option_map Run (asked_in rows)
-    else (if bytes_eq name (codes "replay") then option_map Replay (asked_in rows)
-    else (if bytes_eq name (codes "gen") then option_map Gen (workers_asked_in rows)
-    else None))
+-- of a command, with the rows of its arguments
+abbrev pub asked_with : CommandName → List Row → Option Args
+asked_with run rows = option_map Run (asked_in rows)
+asked_with replay rows = option_map Replay (asked_in rows)
+asked_with gen rows = option_map Gen (workers_asked_in rows)
+asked_with watch rows = Some Watch
+asked_with asm rows = Some Asm
+asked_with disasm rows = Some Disasm
 
 -- of the subcommand that was met, with its matches
 abbrev pub asked_by : Option (List ℕ × List Row) → Option Args
 asked_by None = None
-asked_by (Some found) = asked_as found.0 found.1
+asked_by (Some found) = option_and_then (λ command. asked_with command found.1) (command_in command_names found.0)
 
 -- each word is a text
 abbrev pub EachUtf8 : List (List ℕ) → Type 0

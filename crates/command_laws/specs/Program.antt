@@ -21,6 +21,10 @@ run_app name =
 abbrev pub gen_app : App
 gen_app = with_rule (new_app (codes "gen")) (positional_rule (codes "workers"))
 
+-- `watch`, `asm` and `disasm`, which have no argument
+abbrev pub bare_app : List ℕ → App
+bare_app name = new_app name
+
 -- no program's name comes first, there are no words for help, and a command must be named
 abbrev pub top_shape : Shape
 top_shape = record (new_shape (codes "fdbtester")) {
@@ -35,6 +39,10 @@ run_program =
     with_subcommand (with_subcommand (record { top = top_shape; subs = [] }) (run_app (codes "run")).top)
     (run_app (codes "replay")).top
 
--- with `gen`
+-- with `gen` and `watch`
+abbrev pub watch_program : App
+watch_program = with_subcommand (with_subcommand run_program gen_app.top) (bare_app (codes "watch")).top
+
+-- with `asm` and `disasm`
 abbrev pub program : App
-program = with_subcommand run_program gen_app.top
+program = with_subcommand (with_subcommand watch_program (bare_app (codes "asm")).top) (bare_app (codes "disasm")).top

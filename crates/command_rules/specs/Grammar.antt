@@ -3,9 +3,11 @@ use Rattle.std.specs.Prelude.{ℕ, ◌+◌, Bool, not, ◌&&◌, ◌||◌, ◌==
 use Rattle.std.specs.Str.{bytes_eq, all_ascii_digits}
 use Rattle.std.specs.Str.Parse.{digits_value}
 use Rattle.key_bytes.specs.Keys.{begins_with}
+use Rattle.database_rules.specs.declared.Api.{Api}
+use Rattle.database_rules.specs.declared.Api.TheVariants.{V630, V500}
 use Rattle.command_rules.specs.declared.args.RunArgs.{RunArgs}
 use Rattle.command_rules.specs.declared.args.Args.{Args}
-use Rattle.command_rules.specs.declared.args.Args.TheVariants.{Run, Replay, Gen}
+use Rattle.command_rules.specs.declared.args.Args.TheVariants.{Run, Replay, Gen, Watch, Asm, Disasm}
 
 -- ---- one word
 
@@ -119,23 +121,31 @@ polls_given = number_given 10000 1 100000
 
 -- ---- commands
 
--- the two positional arguments of a run: a prefix of at most 1,000 bytes, and the API version 630
-abbrev pub prefix_in : List (List ℕ) → Option (List ℕ)
-prefix_in [] = None
-prefix_in (prefix ∷ []) = None
-prefix_in (prefix ∷ api ∷ []) =
-    if nat_le (length prefix) 1000 && bytes_eq api (codes "630") then Some prefix else None
-prefix_in (prefix ∷ api ∷ other ∷ more) = None
+-- the API version that a word names
+abbrev pub api_in : List ℕ → Option Api
+api_in word =
+    if bytes_eq word (codes "630") then Some V630
+    else (if bytes_eq word (codes "500") then Some V500
+    else None)
 
-abbrev pub run_with : Option (List ℕ) → Option ℕ → Option ℕ → Option RunArgs
-run_with (Some prefix) (Some first) (Some most) = Some (record { prefix = prefix; seed = first; polls = most })
-run_with (Some prefix) (Some first) None = None
-run_with (Some prefix) None most = None
+-- the two positional arguments of a run: a prefix of at most 1,000 bytes, and the API version
+abbrev pub prefix_and_api_in : List (List ℕ) → Option (List ℕ × Api)
+prefix_and_api_in [] = None
+prefix_and_api_in (prefix ∷ []) = None
+prefix_and_api_in (prefix ∷ word ∷ []) =
+    if nat_le (length prefix) 1000 then option_map (λ api. (prefix, api)) (api_in word) else None
+prefix_and_api_in (prefix ∷ word ∷ other ∷ more) = None
+
+abbrev pub run_with : Option (List ℕ × Api) → Option ℕ → Option ℕ → Option RunArgs
+run_with (Some places) (Some first) (Some most) =
+    Some (record { prefix = places.0; api = places.1; seed = first; polls = most })
+run_with (Some places) (Some first) None = None
+run_with (Some places) None most = None
 run_with None first most = None
 
 abbrev pub run_of : List Argument → Option RunArgs
 run_of arguments =
-    run_with (prefix_in (positionals_of arguments)) (seed_given (values_of seed arguments)) (polls_given (values_of polls arguments))
+    run_with (prefix_and_api_in (positionals_of arguments)) (seed_given (values_of seed arguments)) (polls_given (values_of polls arguments))
 
 -- what the words after `run` or `replay` ask for
 abbrev pub run_in : List (List ℕ) → Option RunArgs
@@ -157,11 +167,48 @@ workers_of (placed word ∷ other ∷ more) = None
 abbrev pub gen_in : List (List ℕ) → Option ℕ
 gen_in words = option_and_then workers_of (arguments_in None words)
 
+-- `watch`, `asm` and `disasm` have neither an argument nor an option
+abbrev pub bare_of : Args → List Argument → Option Args
+bare_of command [] = Some command
+bare_of command (argument ∷ more) = None
+
+abbrev pub bare_in : Args → List (List ℕ) → Option Args
+bare_in command words = option_and_then (bare_of command) (arguments_in None words)
+
+pub data CommandName : Type 0 where
+  run : CommandName
+  replay : CommandName
+  gen : CommandName
+  watch : CommandName
+  asm : CommandName
+  disasm : CommandName
+
+abbrev pub command_names : List CommandName
+command_names = run ∷ replay ∷ gen ∷ watch ∷ asm ∷ disasm ∷ []
+
+abbrev pub command_text : CommandName → List ℕ
+command_text run = codes "run"
+command_text replay = codes "replay"
+command_text gen = codes "gen"
+command_text watch = codes "watch"
+command_text asm = codes "asm"
+command_text disasm = codes "disasm"
+
+-- the command that a word names
+abbrev pub command_in : List CommandName → List ℕ → Option CommandName
+command_in [] word = None
+command_in (name ∷ names) word = if bytes_eq word (command_text name) then Some name else command_in names word
+
+-- what the words after a command ask for
+abbrev pub asked_of : CommandName → List (List ℕ) → Option Args
+asked_of run words = option_map Run (run_in words)
+asked_of replay words = option_map Replay (run_in words)
+asked_of gen words = option_map Gen (gen_in words)
+asked_of watch words = bare_in Watch words
+asked_of asm words = bare_in Asm words
+asked_of disasm words = bare_in Disasm words
+
 -- what the words after the program's name ask for
 abbrev pub args_of : List (List ℕ) → Option Args
 args_of [] = None
-args_of (command ∷ words) =
-    if bytes_eq command (codes "run") then option_map Run (run_in words)
-    else (if bytes_eq command (codes "replay") then option_map Replay (run_in words)
-    else (if bytes_eq command (codes "gen") then option_map Gen (gen_in words)
-    else None))
+args_of (word ∷ words) = option_and_then (λ command. asked_of command words) (command_in command_names word)

@@ -1,5 +1,6 @@
 //! What a command line asks for.
 
+use database_rules::Api;
 use key_bytes::Bytes;
 
 /// What a run is asked to do.
@@ -7,6 +8,8 @@ use key_bytes::Bytes;
 pub struct RunArgs {
     /// The prefix of the instructions of machine 0.
     pub prefix: Bytes,
+    /// The version of the API that the run speaks.
+    pub api: Api,
     /// The seed of the random words.
     pub seed: u64,
     /// How often the polls of one wait may be answered that it isn't decided yet.
@@ -22,4 +25,10 @@ pub enum Args {
     Replay(RunArgs),
     /// Runs the instructions that are made for so many workers, and tells of the run in a summary.
     Gen(u32),
+    /// Reads events of watches, and writes what comes of them.
+    Watch,
+    /// Reads instruction text, and writes it as lines of an input.
+    Asm,
+    /// Reads lines of an input, and writes them as instruction text.
+    Disasm,
 }

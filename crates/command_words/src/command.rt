@@ -4,7 +4,7 @@ ghost use Rattle.std.specs.Prelude.{◌≡◌, IfOk, Some, false};
 ghost use Rattle.clap.specs.Walk.{rule_of};
 ghost use Rattle.clap.specs.Simple.{app_of, new_rule};
 ghost use Rattle.clap.specs.declared.Command.TheViews.{out-Command};
-ghost use Rattle.command_laws.specs.Program.{gen_app, positional_rule, program, run_app, run_program};
+ghost use Rattle.command_laws.specs.Program.{bare_app, gen_app, positional_rule, program, run_app, run_program, watch_program};
 
 use clap::{Arg, Command};
 use std::alloc::{AllocError, Global};
@@ -45,6 +45,14 @@ fn gen_command<'a>(alloc: Global) -> Result<Command<'a>, AllocError>
     Command::new(alloc, "gen").arg(positional(alloc, "workers"))
 }
 
+// `watch`, `asm` or `disasm`.
+fn bare_command<'a>(alloc: Global, name: &'a str) -> Command<'a>
+    ensures app { app_of result ≡ bare_app name.entry.now }
+    ensures local { (out-Command result).has_globals ≡ false }
+{
+    Command::new(alloc, name)
+}
+
 // The command with `run` and `replay`. It has no words for help, and its first word is no program's name.
 fn run_program<'a>(alloc: Global) -> Result<Command<'a>, AllocError>
     ensures app { IfOk result (λ command. app_of command ≡ run_program) }
@@ -58,9 +66,20 @@ fn run_program<'a>(alloc: Global) -> Result<Command<'a>, AllocError>
         .subcommand(run_command(alloc, "replay")?)
 }
 
-// The whole command.
+// With `gen` and `watch`.
+fn watch_program<'a>(alloc: Global) -> Result<Command<'a>, AllocError>
+    ensures app { IfOk result (λ command. app_of command ≡ watch_program) }
+{
+    run_program(alloc)?
+        .subcommand(gen_command(alloc)?)?
+        .subcommand(bare_command(alloc, "watch"))
+}
+
+// The whole command, with `asm` and `disasm` too.
 pub(crate) fn program<'a>(alloc: Global) -> Result<Command<'a>, AllocError>
     ensures app { IfOk result (λ command. app_of command ≡ program) }
 {
-    run_program(alloc)?.subcommand(gen_command(alloc)?)
+    watch_program(alloc)?
+        .subcommand(bare_command(alloc, "asm"))?
+        .subcommand(bare_command(alloc, "disasm"))
 }

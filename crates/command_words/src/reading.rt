@@ -6,7 +6,7 @@ ghost use Rattle.clap.specs.Matches.{found_of};
 ghost use Rattle.clap.specs.Walk.{rows_of};
 ghost use Rattle.clap.specs.Simple.{subcommand_rows_of};
 ghost use Rattle.clap.specs.declared.error.kind.ErrorKind.TheVariants.{OutOfMemory};
-ghost use Rattle.command_rules.specs.Grammar.{args_of, number_given, number_in, prefix_in};
+ghost use Rattle.command_rules.specs.Grammar.{api_in, args_of, number_given, number_in, prefix_and_api_in};
 ghost use Rattle.command_laws.specs.Found.{asked_by, asked_in, is_marked, listed, workers_asked_in};
 
 use crate::args::ArgWords;
@@ -15,14 +15,12 @@ use crate::fault::ArgFault;
 use clap::error::ErrorKind;
 use clap::{ArgMatches, Error};
 use command_rules::{Args, RunArgs};
+use database_rules::Api;
 use key_bytes::Bytes;
 use std::alloc::Global;
 
 // The longest prefix, in bytes.
 const PREFIX_LIMIT: usize = 1_000;
-
-// The API version that is spoken.
-const API_VERSION: &str = "630";
 
 // How many polls a wait has where the words don't say it.
 const POLLS: u64 = 10_000;
@@ -64,14 +62,14 @@ fn args_found(alloc: Global, matches: &ArgMatches) -> Result<Args, ArgFault>
     let Some((name, found)) = matches.subcommand() else {
         return Err(ArgFault::Usage);
     };
-    if name == "run" {
-        Ok(Args::Run(run_found(alloc, found)?))
-    } else if name == "replay" {
-        Ok(Args::Replay(run_found(alloc, found)?))
-    } else if name == "gen" {
-        Ok(Args::Gen(workers_found(found)?))
-    } else {
-        Err(ArgFault::Usage)
+    match name {
+        "run" => Ok(Args::Run(run_found(alloc, found)?)),
+        "replay" => Ok(Args::Replay(run_found(alloc, found)?)),
+        "gen" => Ok(Args::Gen(workers_found(found)?)),
+        "watch" => Ok(Args::Watch),
+        "asm" => Ok(Args::Asm),
+        "disasm" => Ok(Args::Disasm),
+        _ => Err(ArgFault::Usage),
     }
 }
 
@@ -80,7 +78,10 @@ fn run_found(alloc: Global, matches: &ArgMatches) -> Result<RunArgs, ArgFault>
     ensures { MatchResult result (λ asked. asked_in (rows_of (found_of matches.now)) ≡ Some asked)
         (λ fault. fault ≡ ArgFault.Usage → asked_in (rows_of (found_of matches.now)) ≡ None) }
 {
-    let Some(prefix) = prefix_found(matches.get_str("prefix"), matches.get_str("api")) else {
+    let Some((prefix, api)) = prefix_and_api_found(
+        matches.get_str("prefix"),
+        matches.get_str("api"),
+    ) else {
         return Err(ArgFault::Usage);
     };
     let Some(seed) = number_found(matches.get_str("seed"), 0, 0, u64::MAX) else {
@@ -91,6 +92,7 @@ fn run_found(alloc: Global, matches: &ArgMatches) -> Result<RunArgs, ArgFault>
     };
     Ok(RunArgs {
         prefix: Bytes::from_slice(alloc, prefix.as_bytes())?,
+        api,
         seed,
         polls: polls as u32,
     })
@@ -110,15 +112,27 @@ fn workers_found(matches: &ArgMatches) -> Result<u32, ArgFault>
     }
 }
 
-// The prefix, where it isn't too long and the API version is the one that is spoken.
-fn prefix_found<'a>(prefix: Option<&'a str>, api: Option<&str>) -> Option<&'a str>
-    ensures { option_map (λ word. word.now) result
-        ≡ prefix_in (listed (option_map (λ word. word.now) prefix.entry) ++ listed (option_map (λ word. word.now) api.entry)) }
+// The prefix and the API version, where the prefix isn't too long and the version is spoken.
+fn prefix_and_api_found<'a>(prefix: Option<&'a str>, api: Option<&str>) -> Option<(&'a str, Api)>
+    ensures { option_map (λ found. (found.0.now, found.1)) result
+        ≡ prefix_and_api_in (listed (option_map (λ word. word.now) prefix.entry) ++ listed (option_map (λ word. word.now) api.entry)) }
 {
     match (prefix, api) {
-        (Some(prefix), Some(api)) if prefix.len() <= PREFIX_LIMIT && api == API_VERSION => {
-            Some(prefix)
+        (Some(prefix), Some(word)) if prefix.len() <= PREFIX_LIMIT => {
+            let api = api_found(word)?;
+            Some((prefix, api))
         }
+        _ => None,
+    }
+}
+
+// The API version that a word names.
+fn api_found(word: &str) -> Option<Api>
+    ensures { result ≡ api_in word.now }
+{
+    match word {
+        "630" => Some(Api::V630),
+        "500" => Some(Api::V500),
         _ => None,
     }
 }

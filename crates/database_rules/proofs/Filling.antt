@@ -15,6 +15,8 @@ plain_itself stamp (Clear key) plain = refl
 plain_itself stamp (ClearRange begin end) plain = refl
 plain_itself stamp (Atomic atomic.SetVersionstampedKey key operand) plain = absurd cc
 plain_itself stamp (Atomic atomic.SetVersionstampedValue key operand) plain = absurd cc
+plain_itself stamp (Atomic atomic.OldStampedKey key operand) plain = absurd cc
+plain_itself stamp (Atomic atomic.OldStampedValue key operand) plain = absurd cc
 plain_itself stamp (Atomic op key operand) plain = refl
 
 pub none_unreadable : (mutation : Mutation) → is_plain mutation ≡ true → unreadable_by mutation ≡ []
@@ -23,6 +25,8 @@ none_unreadable (Clear key) plain = refl
 none_unreadable (ClearRange begin end) plain = refl
 none_unreadable (Atomic atomic.SetVersionstampedKey key operand) plain = absurd cc
 none_unreadable (Atomic atomic.SetVersionstampedValue key operand) plain = absurd cc
+none_unreadable (Atomic atomic.OldStampedKey key operand) plain = absurd cc
+none_unreadable (Atomic atomic.OldStampedValue key operand) plain = absurd cc
 none_unreadable (Atomic op key operand) plain = refl
 
 pub filled_is_plain : (stamp : List ℕ) (mutation : Mutation) → is_plain (filled stamp mutation) ≡ true
@@ -31,6 +35,8 @@ filled_is_plain stamp (Clear key) = refl
 filled_is_plain stamp (ClearRange begin end) = refl
 filled_is_plain stamp (Atomic atomic.SetVersionstampedKey key operand) = refl
 filled_is_plain stamp (Atomic atomic.SetVersionstampedValue key operand) = refl
+filled_is_plain stamp (Atomic atomic.OldStampedKey key operand) = refl
+filled_is_plain stamp (Atomic atomic.OldStampedValue key operand) = refl
 filled_is_plain stamp (Atomic op key operand) = refl
 
 -- ---- many

@@ -1,8 +1,12 @@
 -- What an atomic operation makes of a value (API reference of release 6.3, "fdb_transaction_atomic_op").
-use Rattle.std.specs.Prelude.{ℕ, zero, suc, ◌+◌, ◌-◌, ◌*◌, ◌/◌, ◌%◌, ◌^◌, Bool, true, false, ◌||◌, if◌then◌else◌, List, [], ◌∷◌, ◌++◌, length, map, take, replicate, zip, nat_lt, nat_le, bit_and, bit_or, bit_xor, Option, Some, None, bytes_eq, codes}
+use Rattle.std.specs.Prelude.{ℕ, zero, suc, ◌+◌, ◌-◌, ◌*◌, ◌/◌, ◌%◌, ◌^◌, Bool, true, false, ◌||◌, if◌then◌else◌, List, [], ◌∷◌, ◌++◌, length, map, take, replicate, zip, nat_lt, nat_le, bit_and, bit_or, bit_xor, Option, Some, None, option_map, bytes_eq, codes}
 use Rattle.key_bytes.specs.Keys.{lesser, greater}
 use Rattle.key_bytes.specs.Numbers.{number_low}
 use Rattle.database_rules.specs.declared.TheConstants.{VALUE_LIMIT}
+use Rattle.database_rules.specs.declared.Api.{Api}
+use Rattle.database_rules.specs.declared.Api.TheVariants as api
+use Rattle.database_rules.specs.declared.StampForm.{StampForm}
+use Rattle.database_rules.specs.declared.StampForm.TheVariants as form
 use Rattle.database_rules.specs.declared.AtomicOp.{AtomicOp}
 use Rattle.database_rules.specs.declared.AtomicOp.TheVariants as atomic
 
@@ -56,6 +60,22 @@ is_versionstamped atomic.ByteMax = false
 is_versionstamped atomic.CompareAndClear = false
 is_versionstamped atomic.SetVersionstampedKey = true
 is_versionstamped atomic.SetVersionstampedValue = true
+is_versionstamped atomic.OldAnd = false
+is_versionstamped atomic.OldMin = false
+is_versionstamped atomic.OldStampedKey = true
+is_versionstamped atomic.OldStampedValue = true
+
+-- how the stamped bytes of an operation with a versionstamp say where it goes
+abbrev pub stamp_form : AtomicOp → StampForm
+stamp_form atomic.OldStampedKey = form.Last2
+stamp_form atomic.OldStampedValue = form.Front
+stamp_form op = form.Last4
+
+-- how many bytes the offset has at the end of stamped bytes of this form
+abbrev pub offset_size : StampForm → ℕ
+offset_size form.Last4 = 4
+offset_size form.Last2 = 2
+offset_size form.Front = 0
 
 -- what it makes where there is no value
 abbrev pub atom_of_none : AtomicOp → List ℕ → Option (List ℕ)
@@ -71,6 +91,10 @@ atom_of_none atomic.ByteMax operand = Some operand
 atom_of_none atomic.CompareAndClear operand = None
 atom_of_none atomic.SetVersionstampedKey operand = None
 atom_of_none atomic.SetVersionstampedValue operand = None
+atom_of_none atomic.OldAnd operand = Some (replicate (length operand) 0)
+atom_of_none atomic.OldMin operand = Some (replicate (length operand) 0)
+atom_of_none atomic.OldStampedKey operand = None
+atom_of_none atomic.OldStampedValue operand = None
 
 -- what it makes of a value
 abbrev pub atom_of_value : AtomicOp → List ℕ → List ℕ → Option (List ℕ)
@@ -86,6 +110,10 @@ atom_of_value atomic.ByteMax old operand = Some (greater old operand)
 atom_of_value atomic.CompareAndClear old operand = cleared_where_equal old operand
 atom_of_value atomic.SetVersionstampedKey old operand = Some old
 atom_of_value atomic.SetVersionstampedValue old operand = Some old
+atom_of_value atomic.OldAnd old operand = Some (bytewise bit_and (fitted old operand) operand)
+atom_of_value atomic.OldMin old operand = Some (little_min (fitted old operand) operand)
+atom_of_value atomic.OldStampedKey old operand = Some old
+atom_of_value atomic.OldStampedValue old operand = Some old
 
 -- what an operation makes of the old value, with its operand; None is no value. Those with a versionstamp change nothing here
 unfoldable pub atom : AtomicOp → Option (List ℕ) → List ℕ → Option (List ℕ)
@@ -94,9 +122,9 @@ atom op (Some old) operand = atom_of_value op old operand
 
 -- ---- names
 
--- the operation of a name (bindingApiTester.md, "ATOMIC_OP"); AND, OR and XOR are the older names of three
-unfoldable pub atomic_named : List ℕ → Option AtomicOp
-atomic_named name =
+-- the operation of a name under API version 630 (bindingApiTester.md, "ATOMIC_OP"); AND, OR and XOR are the older names of three
+unfoldable pub named : List ℕ → Option AtomicOp
+named name =
     if bytes_eq name (codes "ADD") then Some atomic.Add
     else if bytes_eq name (codes "BIT_AND") || bytes_eq name (codes "AND") then Some atomic.BitAnd
     else if bytes_eq name (codes "BIT_OR") || bytes_eq name (codes "OR") then Some atomic.BitOr
@@ -110,3 +138,16 @@ atomic_named name =
     else if bytes_eq name (codes "SET_VERSIONSTAMPED_KEY") then Some atomic.SetVersionstampedKey
     else if bytes_eq name (codes "SET_VERSIONSTAMPED_VALUE") then Some atomic.SetVersionstampedValue
     else None
+
+-- an operation as an API version has it: 500 has four in an older form
+abbrev pub under : Api → AtomicOp → AtomicOp
+under api.V630 op = op
+under api.V500 atomic.BitAnd = atomic.OldAnd
+under api.V500 atomic.Min = atomic.OldMin
+under api.V500 atomic.SetVersionstampedKey = atomic.OldStampedKey
+under api.V500 atomic.SetVersionstampedValue = atomic.OldStampedValue
+under api.V500 op = op
+
+-- the operation that a name means under an API version
+unfoldable pub atomic_named : Api → List ℕ → Option AtomicOp
+atomic_named api name = option_map (under api) (named name)

@@ -3,6 +3,7 @@ use Rattle.std.specs.Prelude.{ℕ, Bool, true, false, List, [], ◌∷◌, ◌++
 use Rattle.std.specs.List.{list_any}
 use Rattle.std.specs.FinMap as finite
 use Rattle.key_bytes.specs.declared.range.KeyRange.{KeyRange}
+use Rattle.database_rules.specs.declared.options.DatabaseOptions.{DatabaseOptions}
 use Rattle.database_rules.specs.Atomics.{little_bytes}
 use Rattle.database_rules.specs.Databases.{Database, Mutation, Set, Clear, ClearRange, Atomic, do_all}
 use Rattle.database_rules.specs.States.{range_from, filled}
@@ -102,9 +103,10 @@ conflicts history version reads = list_any (λ commit. any_meet commit.write_con
 
 -- ---- what a call is made in
 
--- the history so far
+-- the history so far, and what the database was opened with
 pub record Setting : Type 0 where
   pub history : History
+  pub options : DatabaseOptions
 
 -- the setting after more commits
 abbrev pub grown_by : Setting → List Commit → Setting

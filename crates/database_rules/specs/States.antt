@@ -7,7 +7,9 @@ use Rattle.key_bytes.specs.Keys.{within, after}
 use Rattle.database_rules.specs.declared.AtomicOp.{AtomicOp}
 use Rattle.database_rules.specs.declared.AtomicOp.TheVariants as atomic
 use Rattle.key_bytes.specs.Numbers.{number_low}
-use Rattle.database_rules.specs.Atomics.{atom, is_versionstamped}
+use Rattle.database_rules.specs.declared.StampForm.{StampForm}
+use Rattle.database_rules.specs.declared.StampForm.TheVariants as form
+use Rattle.database_rules.specs.Atomics.{atom, is_versionstamped, offset_size}
 use Rattle.database_rules.specs.Databases.{Database, Mutation, Set, Clear, ClearRange, Atomic, do_all}
 
 -- ---- sets of keys
@@ -77,44 +79,55 @@ value_in (Depends mutations) old = all_atoms mutations old
 
 -- ---- versionstamps (API reference, "fdb_transaction_atomic_op")
 
--- the stamped bytes end in 4 bytes with the place of the stamp, the lowest first; the template is what stands before
-abbrev pub template : List ℕ → List ℕ
-template bytes = take (length bytes - 4) bytes
+-- the stamped bytes end in an offset, the lowest byte first, of as many bytes as their form has; the template is what stands
+-- before. The old stamped value has no offset: the template is the whole operand, and the place is 0
+abbrev pub template : StampForm → List ℕ → List ℕ
+template form bytes = take (length bytes - offset_size form) bytes
 
-abbrev pub stamp_place : List ℕ → ℕ
-stamp_place bytes = number_low (drop (length bytes - 4) bytes)
+abbrev pub stamp_place : StampForm → List ℕ → ℕ
+stamp_place form bytes = number_low (drop (length bytes - offset_size form) bytes)
 
--- the stamped bytes have 4 bytes of place, and the ten bytes at the place lie within the template
-abbrev pub has_room : List ℕ → Bool
-has_room bytes = nat_le 4 (length bytes) && nat_le (stamp_place bytes + 10) (length (template bytes))
+-- the stamped bytes have all bytes of the offset, and the ten bytes at the place lie within the template
+abbrev pub has_room : StampForm → List ℕ → Bool
+has_room form bytes =
+    nat_le (offset_size form) (length bytes) && nat_le (stamp_place form bytes + 10) (length (template form bytes))
 
 -- the stamped bytes of an operation with a versionstamp: its key, or its operand
 abbrev pub stamped_bytes : AtomicOp → List ℕ → List ℕ → List ℕ
 stamped_bytes atomic.SetVersionstampedKey key operand = key
+stamped_bytes atomic.OldStampedKey key operand = key
 stamped_bytes op key operand = operand
 
 -- the template with the ten bytes at its place replaced by a stamp
-unfoldable pub stamped : List ℕ → List ℕ → List ℕ
-stamped stamp bytes = take (stamp_place bytes) (template bytes) ++ stamp ++ drop (stamp_place bytes + 10) (template bytes)
+unfoldable pub stamped : StampForm → List ℕ → List ℕ → List ℕ
+stamped form stamp bytes =
+    take (stamp_place form bytes) (template form bytes) ++ stamp ++ drop (stamp_place form bytes + 10) (template form bytes)
 
 -- the mutation as a commit with this stamp does it
 abbrev pub filled : List ℕ → Mutation → Mutation
 filled stamp (Set key value) = Set key value
 filled stamp (Clear key) = Clear key
 filled stamp (ClearRange begin end) = ClearRange begin end
-filled stamp (Atomic atomic.SetVersionstampedKey key operand) = Set (stamped stamp key) operand
-filled stamp (Atomic atomic.SetVersionstampedValue key operand) = Set key (stamped stamp operand)
+filled stamp (Atomic atomic.SetVersionstampedKey key operand) = Set (stamped form.Last4 stamp key) operand
+filled stamp (Atomic atomic.SetVersionstampedValue key operand) = Set key (stamped form.Last4 stamp operand)
+filled stamp (Atomic atomic.OldStampedKey key operand) = Set (stamped form.Last2 stamp key) operand
+filled stamp (Atomic atomic.OldStampedValue key operand) = Set key (stamped form.Front stamp operand)
 filled stamp (Atomic op key operand) = Atomic op key operand
 
 abbrev pub all_filled : List ℕ → List Mutation → List Mutation
 all_filled stamp mutations = map (filled stamp) mutations
 
+-- the keys from the template with ten 00 up to the template with ten FF
+abbrev pub stamped_keys : StampForm → List ℕ → KeyRange
+stamped_keys form key = range_from (stamped form (replicate 10 0) key) (after (stamped form (replicate 10 255) key))
+
 -- the keys that a mutation makes unreadable until its life ends: that of a stamped value, and each that lies from the
 -- template with ten 00 up to the template with ten FF, of a stamped key
 abbrev pub unreadable_by : Mutation → List KeyRange
-unreadable_by (Atomic atomic.SetVersionstampedKey key operand) =
-    range_from (stamped (replicate 10 0) key) (after (stamped (replicate 10 255) key)) ∷ []
+unreadable_by (Atomic atomic.SetVersionstampedKey key operand) = stamped_keys form.Last4 key ∷ []
 unreadable_by (Atomic atomic.SetVersionstampedValue key operand) = range_from key (after key) ∷ []
+unreadable_by (Atomic atomic.OldStampedKey key operand) = stamped_keys form.Last2 key ∷ []
+unreadable_by (Atomic atomic.OldStampedValue key operand) = range_from key (after key) ∷ []
 unreadable_by mutation = []
 
 abbrev pub unreadable : List Mutation → List KeyRange

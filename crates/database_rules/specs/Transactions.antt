@@ -8,9 +8,11 @@ use Rattle.database_rules.specs.declared.TheConstants.{ACCESSED_UNREADABLE, CLIE
 use Rattle.database_rules.specs.declared.Phase.{Phase}
 use Rattle.database_rules.specs.declared.Phase.TheVariants as phase
 use Rattle.database_rules.specs.declared.Tried.TheVariants as tried
+use Rattle.database_rules.specs.declared.Api.{Api}
+use Rattle.database_rules.specs.declared.StampForm.TheVariants as form
 use Rattle.database_rules.specs.declared.AtomicOp.{AtomicOp}
 use Rattle.database_rules.specs.declared.AtomicOp.TheVariants as atomic
-use Rattle.database_rules.specs.Atomics.{atomic_named, is_versionstamped}
+use Rattle.database_rules.specs.Atomics.{atomic_named, is_versionstamped, stamp_form}
 use Rattle.database_rules.specs.Databases.{Database, Mutation, Set, Clear, ClearRange, Atomic}
 use Rattle.database_rules.specs.States.{has_room, seen, stamped, stamped_bytes, unreadable}
 use Rattle.database_rules.specs.Intervals.{any_meet, interval}
@@ -122,12 +124,13 @@ range_code phase begin end = first_failing (after_phase phase
 
 -- the key that the checks of an atomic operation ask: of a stamped key, its template with ten 00
 abbrev pub key_asked : AtomicOp → List ℕ → List ℕ
-key_asked atomic.SetVersionstampedKey key = stamped (replicate 10 0) key
+key_asked atomic.SetVersionstampedKey key = stamped form.Last4 (replicate 10 0) key
+key_asked atomic.OldStampedKey key = stamped form.Last2 (replicate 10 0) key
 key_asked op key = key
 
 -- stamped bytes have no room for the versionstamp
 abbrev pub lacks_room : AtomicOp → (key operand : List ℕ) → Bool
-lacks_room op key operand = is_versionstamped op && not (has_room (stamped_bytes op key operand))
+lacks_room op key operand = is_versionstamped op && not (has_room (stamp_form op) (stamped_bytes op key operand))
 
 abbrev pub op_checks : AtomicOp → (key operand : List ℕ) → List (Bool × ℕ)
 op_checks op key operand = (lacks_room op key operand, CLIENT_INVALID_OPERATION) ∷ key_checks (key_asked op key) operand
@@ -135,13 +138,13 @@ op_checks op key operand = (lacks_room op key operand, CLIENT_INVALID_OPERATION)
 unfoldable pub op_code : Phase → AtomicOp → (key operand : List ℕ) → Option ℕ
 op_code phase op key operand = first_failing (after_phase phase (op_checks op key operand))
 
--- an atomic operation by its name, where the name is one of an operation
+-- an atomic operation by its name, where the name is one of an operation under the API version
 abbrev pub named_checks : Option AtomicOp → (key operand : List ℕ) → List (Bool × ℕ)
 named_checks None key operand = (true, INVALID_MUTATION_TYPE) ∷ []
 named_checks (Some op) key operand = op_checks op key operand
 
-unfoldable pub atomic_code : Phase → (name key operand : List ℕ) → Option ℕ
-atomic_code phase name key operand = first_failing (after_phase phase (named_checks (atomic_named name) key operand))
+unfoldable pub atomic_code : Api → Phase → (name key operand : List ℕ) → Option ℕ
+atomic_code api phase name key operand = first_failing (after_phase phase (named_checks (atomic_named api name) key operand))
 
 -- of a call with no other check
 unfoldable pub phase_code : Phase → Option ℕ

@@ -15,7 +15,7 @@ mod options;
 mod selector;
 
 pub use mode::Mode;
-pub use options::RangeOptions;
+pub use options::{DatabaseOptions, RangeOptions};
 pub use selector::Selector;
 
 /// The longest key of a write, in bytes.
@@ -101,10 +101,22 @@ pub enum Phase {
     Tried(Tried),
 }
 
+/// The version of the API that a client asks for (API reference, "API versioning").
+///
+/// Under 500 five names of atomic operations mean the older form of theirs: `atomic_named` in `specs/Atomics.antt`.
+#[derive(Clone, Copy, Debug, PartialEq, Eq)]
+pub enum Api {
+    /// API version 630, that of release 6.3.
+    V630,
+    /// API version 500.
+    V500,
+}
+
 /// What an atomic operation does to the value of a key: the mutation is named, and has an operand.
 ///
 /// What each makes of an old value and its operand is `atom` in `specs/Atomics.antt` (API reference of release 6.3,
-/// "fdb_transaction_atomic_op").
+/// "fdb_transaction_atomic_op"). The last four are those of API version 500 alone; they differ from the operation of the same
+/// name in what an absent value counts as, or in how the place of a versionstamp is given.
 #[derive(Clone, Copy, Debug, PartialEq, Eq)]
 pub enum AtomicOp {
     /// The sum of the two as little-endian numbers, in as many bytes as the operand has.
@@ -131,10 +143,30 @@ pub enum AtomicOp {
     SetVersionstampedKey,
     /// Sets a value that has the commit's versionstamp in it.
     SetVersionstampedValue,
+    /// Each byte of the value "and" that of the operand; an absent value counts as bytes of 00.
+    OldAnd,
+    /// The lesser of the two as little-endian numbers, in as many bytes as the operand has; an absent value counts as 0.
+    OldMin,
+    /// Sets a key that has the commit's versionstamp in it, at an offset of 2 bytes.
+    OldStampedKey,
+    /// Sets a value that begins with the commit's versionstamp.
+    OldStampedValue,
+}
+
+/// How stamped bytes say where the versionstamp goes: what stands before their offset is the template, in which ten bytes from
+/// the offset on are replaced.
+#[derive(Clone, Copy, Debug, PartialEq, Eq)]
+pub enum StampForm {
+    /// They end in an offset of 4 bytes, the lowest first.
+    Last4,
+    /// They end in an offset of 2 bytes, the lowest first.
+    Last2,
+    /// They have no offset: all of them are the template, and the versionstamp goes to the front.
+    Front,
 }
 
 impl AtomicOp {
-    ghost use Rattle.database_rules.specs.Atomics.{is_versionstamped};
+    ghost use Rattle.database_rules.specs.Atomics.{is_versionstamped, stamp_form};
 
     /// Tells whether a commit fills its versionstamp into the key or the value.
     pub fn is_versionstamped(self) -> bool
@@ -142,7 +174,36 @@ impl AtomicOp {
     {
         matches!(
             self,
-            AtomicOp::SetVersionstampedKey | AtomicOp::SetVersionstampedValue
+            AtomicOp::SetVersionstampedKey
+                | AtomicOp::SetVersionstampedValue
+                | AtomicOp::OldStampedKey
+                | AtomicOp::OldStampedValue
         )
+    }
+
+    /// Returns how the operation's stamped bytes say where its versionstamp goes; `Last4` of an operation without one.
+    pub fn stamp_form(self) -> StampForm
+        ensures { result ≡ stamp_form self }
+    {
+        match self {
+            AtomicOp::OldStampedKey => StampForm::Last2,
+            AtomicOp::OldStampedValue => StampForm::Front,
+            _ => StampForm::Last4,
+        }
+    }
+}
+
+impl StampForm {
+    ghost use Rattle.database_rules.specs.Atomics.{offset_size};
+
+    /// Returns how many bytes the offset has.
+    pub fn offset_size(self) -> usize
+        ensures { result ≡ offset_size self }
+    {
+        match self {
+            StampForm::Last4 => 4,
+            StampForm::Last2 => 2,
+            StampForm::Front => 0,
+        }
     }
 }

@@ -1,1 +1,2 @@
 pub mod EventReading
+pub mod Lawful

@@ -1,9 +1,9 @@
 //! Reading of lines of events, one after the other.
 
-ghost use Rattle.std.specs.Prelude.{◌≡◌, ◌+◌, ◌^◌, ◌<◌, ◌≤◌, ◌∷◌, length};
+ghost use Rattle.std.specs.Prelude.{◌≡◌, ◌+◌, ◌^◌, ◌<◌, ◌≤◌, ◌∷◌, length, IfOk};
 ghost use Rattle.line_rules.specs.Reading.{size_of, lines_of};
 ghost use Rattle.dump_text.specs.Reading.{Gives};
-ghost use Rattle.event_rules.specs.Events.{next_place, is_too_many, read_event, events_of};
+ghost use Rattle.event_rules.specs.Events.{next_place, is_too_many, read_event, events_of, AreEventsOf};
 ghost use Rattle.event_lines.specs.Lines.{line_is, place_is};
 
 use crate::line::{EventLine, read_event};
@@ -101,9 +101,8 @@ fn read_at(alloc: Global, place: Place, line: &EventLine<'_>) -> Result<Event, L
     read_event(alloc, line)
 }
 
-/// Reads lines of events: `W key`, `C key`, or `K key\=value`. An error is the first fault, with its line and its
-/// place, or that memory ran out; nothing of what was read is kept then.
-pub fn read_events(alloc: Global, bytes: &[u8]) -> Result<Events, LineFault>
+// The events of all lines, or the first fault.
+fn read_each(alloc: Global, bytes: &[u8]) -> Result<Events, LineFault>
     ensures { Gives (λ events. events) result (events_of bytes.now) }
 {
     let mut events = List::new(alloc);
@@ -123,4 +122,15 @@ pub fn read_events(alloc: Global, bytes: &[u8]) -> Result<Events, LineFault>
         number += 1;
     }
     Ok(events)
+}
+
+/// Reads lines of events: `W key`, `C key`, or `K key\=value`. An error is the first fault, with its line and its
+/// place, or that memory ran out; nothing of what was read is kept then.
+pub fn read_events(alloc: Global, bytes: &[u8]) -> Result<Events, LineFault>
+    // What is read is spelled so, and within the limits.
+    ensures found { IfOk result (λ events. AreEventsOf bytes.now events) }
+    // Which fault it is.
+    ensures exact { Gives (λ events. events) result (events_of bytes.now) }
+{
+    read_each(alloc, bytes)
 }

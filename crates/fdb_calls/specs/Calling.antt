@@ -6,6 +6,7 @@ use Rattle.database_rules.specs.declared.Code.{Code}
 use Rattle.database_rules.specs.declared.Tried.TheVariants as tried
 use Rattle.database_rules.specs.declared.Phase.{Phase}
 use Rattle.database_rules.specs.declared.Phase.TheVariants as phase
+use Rattle.database_rules.specs.declared.Api.{Api}
 use Rattle.database_rules.specs.declared.AtomicOp.{AtomicOp}
 use Rattle.database_rules.specs.Atomics.{atomic_named}
 use Rattle.database_rules.specs.Databases.{Mutation, Set, Clear, ClearRange, Atomic}
@@ -153,10 +154,10 @@ clear_range_called transaction begin end = write_by (range_code transaction.phas
 abbrev pub atomic_called : Transaction → AtomicOp → List ℕ → List ℕ → Called
 atomic_called transaction op key operand = write_by (op_code transaction.phase op key operand) transaction (Atomic op key operand)
 
--- one by its name
-abbrev pub named_atomic_called : Transaction → List ℕ → List ℕ → List ℕ → Called
-named_atomic_called transaction name key operand =
-    atomic_by (atomic_code transaction.phase name key operand) (atomic_named name) transaction key operand
+-- one by its name, which means what it means under the API version
+abbrev pub named_atomic_called : Api → Transaction → List ℕ → List ℕ → List ℕ → Called
+named_atomic_called api transaction name key operand =
+    atomic_by (atomic_code api transaction.phase name key operand) (atomic_named api name) transaction key operand
 
 abbrev pub read_conflict_called : Transaction → KeyRange → Called
 read_conflict_called transaction range =
@@ -207,7 +208,7 @@ called setting life transaction (call.GetKeyRange range options snapshot) =
 called setting life transaction (call.Set key value) = set_called transaction key value
 called setting life transaction (call.Clear key) = clear_called transaction key
 called setting life transaction (call.ClearRange range) = clear_range_called transaction range.begin range.end
-called setting life transaction (call.Atomic name key operand) = named_atomic_called transaction name key operand
+called setting life transaction (call.Atomic name key operand) = named_atomic_called setting.options.api transaction name key operand
 called setting life transaction (call.ReadConflict range) = read_conflict_called transaction range
 called setting life transaction (call.WriteConflict range) = write_conflict_called transaction range
 called setting life transaction call.NoWriteConflict = no_write_conflict_called transaction

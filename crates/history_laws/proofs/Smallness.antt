@@ -11,6 +11,8 @@ use Rattle.database_rules.specs.declared.AtomicOp.{AtomicOp}
 use Rattle.database_rules.specs.declared.AtomicOp.TheVariants as atomic
 use Rattle.database_rules.specs.declared.Phase.{Phase}
 use Rattle.database_rules.specs.declared.Phase.TheVariants as phase
+use Rattle.database_rules.specs.declared.StampForm.{StampForm}
+use Rattle.database_rules.specs.declared.StampForm.TheVariants as form
 use Rattle.database_rules.specs.Atomics.{is_versionstamped}
 use Rattle.database_rules.specs.Databases.{Database, Mutation, Set, Clear, ClearRange, Atomic, do_all}
 use Rattle.database_rules.specs.Histories.{stamp_of}
@@ -19,7 +21,7 @@ use Rattle.database_rules.specs.States.{covers, filled, all_filled, has_room, se
 use Rattle.database_rules.specs.Transactions.{after_phase, first_failing, key_asked, key_checks, lacks_room, op_checks, op_code, set_code}
 use Rattle.database_rules.proofs.KeyByKey.{get-do_all, versionstamped_same}
 use Rattle.database_rules.proofs.Stamps.{stamp_is}
-use Rattle.history_laws.specs.Small.{IsBelowTop, is_small, are_small}
+use Rattle.history_laws.specs.Small.{IsBelowTop, is_small, is_small_stamped, are_small}
 use Rattle.history_laws.proofs.Views.{get-seen}
 
 -- ---- through writes
@@ -28,6 +30,7 @@ use Rattle.history_laws.proofs.Views.{get-seen}
 atomic_small : (op : AtomicOp) (key operand : List ℕ) → is_small (Atomic op key operand) ≡ true
     → (is_versionstamped op ≡ true) ⊎ (key_lt key top ≡ true)
 atomic_small atomic.SetVersionstampedKey key operand small = inl refl
+atomic_small atomic.OldStampedKey key operand small = inl refl
 atomic_small _ key operand small = inr small
 
 -- a small write leaves a value only at a key less than FF, where a value before it stood only at such a key
@@ -92,15 +95,16 @@ stamp_low : (version : ℕ) → version < 2 ^ 63 → (a : ℕ) × (x : List ℕ)
 stamp_low version short = (version / 2 ^ 56 % 256, _, omega arith, stamp_is version)
 
 -- a stamped key that is less than FF with ten 00 is so with the stamp of a version
-pub stamped_small : (version : ℕ) (key : List ℕ) → version < 2 ^ 63 → key_lt (stamped (replicate 10 0) key) top ≡ true
-    → key_lt (stamped (stamp_of version) key) top ≡ true
+pub stamped_small : (version : ℕ) (form : StampForm) (key : List ℕ) → version < 2 ^ 63 → is_small_stamped form key ≡ true
+    → key_lt (stamped form (stamp_of version) key) top ≡ true
 unfolding stamped
-stamped_small version key short small =
+stamped_small version form key short small =
     let low = stamp_low version short in
-    let front = take (stamp_place key) (template key) in
-    let rest = drop (stamp_place key + 10) (template key) in
+    let front = take (stamp_place form key) (template form key) in
+    let rest = drop (stamp_place form key + 10) (template form key) in
     ap (λ stamp. key_lt (front ++ stamp ++ rest) top) low.3
-    ∙ middle_small front low.0 0 low.1 (replicate 9 0) rest low.2 small
+    ∙ middle_small front low.0 0 low.1 (replicate 9 0) rest low.2
+    (and_parts (has_room form key) (key_lt (stamped form (replicate 10 0) key) top) small).1
 
 -- a small write stays small with the stamp of a version
 one_filled_small : (version : ℕ) (mutation : Mutation) → version < 2 ^ 63 → is_small mutation ≡ true
@@ -108,9 +112,10 @@ one_filled_small : (version : ℕ) (mutation : Mutation) → version < 2 ^ 63 �
 one_filled_small version (Set key value) short small = small
 one_filled_small version (Clear key) short small = small
 one_filled_small version (ClearRange begin end) short small = small
-one_filled_small version (Atomic atomic.SetVersionstampedKey key operand) short small =
-    stamped_small version key short (and_parts (has_room key) (key_lt (stamped (replicate 10 0) key) top) small).1
+one_filled_small version (Atomic atomic.SetVersionstampedKey key operand) short small = stamped_small version form.Last4 key short small
+one_filled_small version (Atomic atomic.OldStampedKey key operand) short small = stamped_small version form.Last2 key short small
 one_filled_small version (Atomic atomic.SetVersionstampedValue key operand) short small = small
+one_filled_small version (Atomic atomic.OldStampedValue key operand) short small = small
 one_filled_small version (Atomic op key operand) short small = small
 
 -- and so do many
@@ -154,6 +159,12 @@ op_small phase op key operand none =
     let parts = none_fails _ _ _ (after_phase_none phase (op_checks op key operand) none) in
     by op parts.0 (key_none (key_asked op key) operand parts.1)
   where
+    by_form : (form : StampForm) → not (has_room form key) ≡ false → key_lt (stamped form (replicate 10 0) key) top ≡ true
+        → is_small_stamped form key ≡ true
+    by_form form room low =
+        and_from (has_room form key) (key_lt (stamped form (replicate 10 0) key) top) (not-false (has_room form key) room) low
+
     by : (op : AtomicOp) → lacks_room op key operand ≡ false → key_lt (key_asked op key) top ≡ true → is_small (Atomic op key operand) ≡ true
-    by atomic.SetVersionstampedKey room low = and_from (has_room key) (key_lt (stamped (replicate 10 0) key) top) (not-false (has_room key) room) low
+    by atomic.SetVersionstampedKey room low = by_form form.Last4 room low
+    by atomic.OldStampedKey room low = by_form form.Last2 room low
     by _ room low = low

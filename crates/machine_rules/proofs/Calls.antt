@@ -169,7 +169,7 @@ module _ (setting : Setting) (Holds : Transaction → Type 0) (calls : AreCallsK
   called_quiet life t (call.ClearRange range) holds =
       inl (write_quiet setting Holds calls.acts t (ClearRange range.begin range.end) holds)
   called_quiet life t (call.Atomic name key operand) holds =
-      inl (atomic_quiet setting Holds calls.acts t (atomic_named name) key operand holds)
+      inl (atomic_quiet setting Holds calls.acts t (atomic_named setting.options.api name) key operand holds)
   called_quiet life t (call.ReadConflict range) holds =
       inl (does_quiet Holds (range_code t.phase range.begin range.end) t (with_read_range t range) _ holds
       (λ none. calls.read_conflict t range holds))

@@ -5,6 +5,8 @@ use Rattle.fdb_tuple.specs.declared.fault.UnpackFault.{UnpackFault}
 use Rattle.fdb_tuple.specs.Tuples.{Elements}
 use Rattle.fdb_tuple.specs.Listed.{elements_of}
 use Rattle.fdb_tuple.specs.Reading.{read_tuple}
+use Rattle.database_rules.specs.declared.Api.{Api}
+use Rattle.database_rules.specs.declared.Api.TheVariants as api
 use Rattle.machine_rules.specs.declared.StackOperation.{StackOperation}
 use Rattle.machine_rules.specs.declared.StackOperation.TheVariants as operation
 use Rattle.machine_rules.specs.declared.TransactionOperation.{TransactionOperation}
@@ -192,6 +194,17 @@ abbrev pub instruction_read : Result Elements UnpackFault → Option Instruction
 instruction_read (Ok tuple) = instruction_in (elements_of tuple)
 instruction_read (Err fault) = None
 
--- the instruction that a value packs, if it is one
+-- the instruction that a value packs, if it is one under the last API version
 unfoldable pub instruction_of : List ℕ → Option Instruction
 instruction_of value = instruction_read (read_tuple value)
+
+-- ---- API versions
+
+-- an instruction where it is one under an API version: API version 500 has no TUPLE_PACK_WITH_VERSIONSTAMP
+abbrev pub if_known : Api → Instruction → Option Instruction
+if_known api.V500 (instruction.OnStack operation.TuplePackWithVersionstamp) = None
+if_known api instruction = Some instruction
+
+-- the instruction that a value packs under an API version, if it is one there
+unfoldable pub instruction_under : Api → List ℕ → Option Instruction
+instruction_under api value = option_and_then (if_known api) (instruction_of value)

@@ -7,7 +7,7 @@ use Rattle.fdb_calls.specs.declared.Reply.{Reply}
 use Rattle.machine_rules.specs.declared.Item.{Item}
 use Rattle.machine_rules.specs.declared.State.{State}
 use Rattle.machine_rules.specs.declared.State.TheVariants as state
-use Rattle.machine_rules.specs.Instructions.{instruction_of}
+use Rattle.machine_rules.specs.Instructions.{instruction_under}
 use Rattle.machine_rules.specs.Machines.{Machine, Progress, Act, Does, Stops, Asks, silent, acted, next_act, advance_by, advance, replied_act, resumed, resumed_by}
 use Rattle.machine_rules.specs.WaitLaws.{Errand, AtOnce, errand_of, HasItsItem, effort, room, IsBoundedAct, act_bounded, replied_bounded}
 use Rattle.machine_rules.specs.Runs.{Run, is_running, has_stopped, rested, at_rest, take_place, run_from}
@@ -144,7 +144,7 @@ HasItsItemIn machine = HasItsItem (errand_in machine.state) machine.registers.st
 
 -- what a machine that awaits a reply has still to poll for and to log
 abbrev pub effort_in : Machine → ℕ
-effort_in machine = effort machine.polls (errand_in machine.state) machine.registers.stack
+effort_in machine = effort machine.options.polls (errand_in machine.state) machine.registers.stack
 
 quiet_by : (state : State) (stack : List Item) → is_awaiting state ≡ false → HasItsItem (errand_in state) stack
 quiet_by state.Running stack e = tt
@@ -156,7 +156,7 @@ pub quiet_item : (machine : Machine) → is_awaiting machine.state ≡ false →
 quiet_item machine e = quiet_by machine.state machine.registers.stack e
 
 -- an item waits also where one is polled for after a step
-act_item : (machine : Machine) (bound : ℕ) (act : Act) → IsBoundedAct machine.polls bound act → HasItsItemIn (acted machine act).machine
+act_item : (machine : Machine) (bound : ℕ) (act : Act) → IsBoundedAct machine.options.polls bound act → HasItsItemIn (acted machine act).machine
 act_item machine bound (Does registers) bounded = tt
 act_item machine bound (Stops registers end) bounded = tt
 act_item machine bound (Asks registers request awaits) bounded = bounded.waits
@@ -164,8 +164,8 @@ act_item machine bound (Asks registers request awaits) bounded = bounded.waits
 next_item : (machine : Machine) (value : Option (List ℕ)) → HasItsItemIn (acted machine (next_act machine value)).machine
 next_item machine None = tt
 next_item machine (Some value) =
-    act_item machine (room machine.polls machine.registers.stack) (next_act machine (Some value))
-    (act_bounded machine.polls machine.next machine.registers (instruction_of value))
+    act_item machine (room machine.options.polls machine.registers.stack) (next_act machine (Some value))
+    (act_bounded machine.options.polls machine.next machine.registers (instruction_under machine.options.api value))
 
 state_item : (state : State) (machine : Machine) → HasItsItemIn machine → HasItsItemIn (advance_by state machine).machine
 state_item state.Running machine item = next_item machine (slice_get machine.instructions machine.next)
@@ -181,7 +181,7 @@ resumed_item_by : (state : State) (machine : Machine) (given : Reply) → machin
     → HasItsItemIn (resumed_by state machine given).machine
 resumed_item_by state.Running machine given is item = item
 resumed_item_by (state.Awaiting awaits) machine given is item =
-    act_item machine (effort machine.polls (errand_of awaits) machine.registers.stack) (replied_act awaits machine given)
+    act_item machine (effort machine.options.polls (errand_of awaits) machine.registers.stack) (replied_act awaits machine given)
     (replied_bounded awaits machine given (subst (λ (s : State). HasItsItem (errand_in s) machine.registers.stack) is item))
 resumed_item_by (state.Stopped end) machine given is item = item
 
@@ -202,7 +202,7 @@ pub data GoesOn (before : Machine) (progress : Progress) : Type 0 where
   Halts : (instructions_are : progress.machine.instructions ≡ before.instructions) (next_is : progress.machine.next ≡ before.next)
       (stops : has_stopped progress.machine.state ≡ true) (silent_is : progress.asks ≡ None) → GoesOn before progress
 
-act_goes : (machine : Machine) (act : Act) → IsBoundedAct machine.polls (effort_in machine) act → GoesOn machine (acted machine act)
+act_goes : (machine : Machine) (act : Act) → IsBoundedAct machine.options.polls (effort_in machine) act → GoesOn machine (acted machine act)
 act_goes machine (Does registers) bounded = Further refl refl refl refl
 act_goes machine (Stops registers end) bounded = Halts refl refl refl refl
 act_goes machine (Asks registers request awaits) bounded = Again refl refl refl request refl bounded.below
@@ -212,7 +212,7 @@ resumed_goes_by : (state : State) (machine : Machine) (given : Reply) → machin
 resumed_goes_by state.Running machine given is e item = not_running e
 resumed_goes_by (state.Awaiting awaits) machine given is e item =
     act_goes machine (replied_act awaits machine given)
-    (subst (λ (s : State). IsBoundedAct machine.polls (effort machine.polls (errand_in s) machine.registers.stack)
+    (subst (λ (s : State). IsBoundedAct machine.options.polls (effort machine.options.polls (errand_in s) machine.registers.stack)
     (replied_act awaits machine given)) (sym is)
     (replied_bounded awaits machine given (subst (λ (s : State). HasItsItem (errand_in s) machine.registers.stack) is item)))
 resumed_goes_by (state.Stopped end) machine given is e item = not_running e

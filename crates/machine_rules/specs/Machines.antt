@@ -13,6 +13,7 @@ use Rattle.fdb_calls.specs.declared.Request.TheVariants as request
 use Rattle.fdb_calls.specs.declared.Reply.{Reply}
 use Rattle.fdb_calls.specs.declared.Reply.TheVariants as reply
 use Rattle.machine_rules.specs.declared.TheConstants.{LOG_BATCH}
+use Rattle.machine_rules.specs.declared.MachineOptions.{MachineOptions}
 use Rattle.machine_rules.specs.declared.Item.{Item}
 use Rattle.machine_rules.specs.declared.ItemValue.{ItemValue}
 use Rattle.machine_rules.specs.declared.ItemValue.TheVariants as value
@@ -37,7 +38,7 @@ use Rattle.machine_rules.specs.declared.directories.Object.TheVariants as object
 use Rattle.machine_rules.specs.Directories as directories
 use Rattle.machine_rules.specs.Directories.{Directories, Directed, with_object, one_or_zero, fault_name, appends, directed}
 use Rattle.machine_rules.specs.Calls.{Calls, call_of, request_in, request_of, awaits_of, start_request, prefix_end, log_entries}
-use Rattle.machine_rules.specs.Instructions.{instruction_of}
+use Rattle.machine_rules.specs.Instructions.{instruction_under}
 
 -- ---- a machine
 
@@ -59,8 +60,8 @@ pub record Machine : Type 0 where
   -- the values of its instructions, and the number of the next one
   pub instructions : List (List ℕ)
   pub next : ℕ
-  -- how often the polls of one wait may be answered that it isn't decided yet
-  pub polls : ℕ
+  -- what the arguments of the run say of every machine
+  pub options : MachineOptions
   pub registers : Registers
   pub state : State
 
@@ -233,7 +234,7 @@ act_of number registers (Some instruction.WaitEmpty) = waits_empty number regist
 -- what a running machine does next: an instruction, or its end where all were run
 abbrev pub next_act : Machine → Option (List ℕ) → Act
 next_act machine None = Stops machine.registers end.Ended
-next_act machine (Some value) = act_of machine.next machine.registers (instruction_of value)
+next_act machine (Some value) = act_of machine.next machine.registers (instruction_under machine.options.api value)
 
 abbrev pub advance_by : State → Machine → Progress
 advance_by state.Running machine = acted machine (next_act machine (slice_get machine.instructions machine.next))
@@ -424,14 +425,14 @@ after_watch polls number registers prefix polled reply = Does registers
 
 -- the instruction that a machine stands at
 abbrev pub instruction_at : Machine → Option Instruction
-instruction_at machine = option_and_then instruction_of (slice_get machine.instructions machine.next)
+instruction_at machine = option_and_then (instruction_under machine.options.api) (slice_get machine.instructions machine.next)
 
 abbrev pub replied_act : Awaits → Machine → Reply → Act
 replied_act (awaits.Stamp wait) machine reply =
-    after_poll machine.polls machine.next machine.registers wait (λ registers. act_of machine.next registers (instruction_at machine)) awaits.Stamp reply
+    after_poll machine.options.polls machine.next machine.registers wait (λ registers. act_of machine.next registers (instruction_at machine)) awaits.Stamp reply
 replied_act (awaits.LoggedStamp prefix wait) machine reply =
-    after_poll machine.polls machine.next machine.registers wait (λ registers. logs_on registers prefix) (awaits.LoggedStamp prefix) reply
-replied_act (awaits.Empty prefix polled) machine reply = after_watch machine.polls machine.next machine.registers prefix polled reply
+    after_poll machine.options.polls machine.next machine.registers wait (λ registers. logs_on registers prefix) (awaits.LoggedStamp prefix) reply
+replied_act (awaits.Empty prefix polled) machine reply = after_watch machine.options.polls machine.next machine.registers prefix polled reply
 replied_act awaits machine reply = used machine.next machine.registers (use_of awaits reply)
 
 abbrev pub resumed_by : State → Machine → Reply → Progress

@@ -9,6 +9,7 @@ use Rattle.fdb_calls.specs.declared.Reply.{Reply}
 use Rattle.fdb_calls.specs.declared.Reply.TheVariants as reply
 use Rattle.line_rules.specs.Printing.{machine_line, item_line, error_line, order_line, pair_line}
 use Rattle.command_rules.specs.declared.args.RunArgs.{RunArgs}
+use Rattle.machine_rules.specs.declared.MachineOptions.{MachineOptions}
 use Rattle.machine_rules.specs.declared.End.TheVariants as end
 use Rattle.machine_rules.specs.declared.State.{State}
 use Rattle.machine_rules.specs.declared.State.TheVariants as state
@@ -39,15 +40,18 @@ at_rest progress = rested (length progress.machine.instructions - progress.machi
 abbrev pub first_registers : (prefix : List ℕ) → Registers
 first_registers prefix = record { name = prefix; last_seen = pos 0; stack = []; errors = []; directories = first_directories }
 
--- a machine of a number, as it is started under a prefix: the values of these pairs are its instructions, and each of its waits
--- has so many polls
-unfoldable pub started : (number : ℕ) → (prefix : List ℕ) → (polls : ℕ) → Entries → Machine
-started number prefix polls pairs = record {
+-- the options that the arguments of a run give to each of its machines
+abbrev pub machine_options : RunArgs → MachineOptions
+machine_options arguments = record { api = arguments.api; polls = arguments.polls }
+
+-- a machine of a number, as it is started under a prefix with these options: the values of these pairs are its instructions
+unfoldable pub started : (number : ℕ) → (prefix : List ℕ) → MachineOptions → Entries → Machine
+started number prefix options pairs = record {
   number = number;
   prefix = prefix;
   instructions = map (λ pair. pair.1) pairs;
   next = 0;
-  polls = polls;
+  options = options;
   registers = first_registers prefix;
   state = state.Running;
 }
@@ -64,25 +68,24 @@ abbrev pub start : List (List ℕ × List ℕ) → RunArgs → Run
 start pairs arguments =
     let world = begun pairs arguments in
     let pairs_under = instruction_pairs arguments.prefix (newest world) in
-    record { world = world; machines = at_rest (silent (started 0 arguments.prefix arguments.polls pairs_under)) ∷ [] }
+    record { world = world; machines = at_rest (silent (started 0 arguments.prefix (machine_options arguments) pairs_under)) ∷ [] }
 
 -- the prefix under which a request starts a machine, if it starts one
 abbrev pub start_prefix : Request → Option (List ℕ)
 start_prefix (request.Start prefix) = Some prefix
 start_prefix _ = None
 
--- the machine that was started under a prefix by this reply, at its first request or its end; its waits have as many polls as
--- those of its starter
-abbrev pub started_by : (prefix : Option (List ℕ)) → (polls : ℕ) → Reply → List Progress
-started_by (Some prefix) polls (reply.Started number pairs) = at_rest (silent (started number prefix polls pairs)) ∷ []
-started_by prefix polls reply = []
+-- the machine that was started under a prefix by this reply, at its first request or its end; its options are those of its starter
+abbrev pub started_by : (prefix : Option (List ℕ)) → MachineOptions → Reply → List Progress
+started_by (Some prefix) options (reply.Started number pairs) = at_rest (silent (started number prefix options pairs)) ∷ []
+started_by prefix options reply = []
 
 -- a machine's request was taken: its machine has the reply, and stands at its next request or its end; so does a machine that
 -- it started
 abbrev pub replied : Run → ℕ → Machine → Request → Stepped → Run
 replied run machine_number machine request stepped = record {
   world = stepped.world;
-  machines = slice_set run.machines machine_number (at_rest (resumed machine stepped.reply)) ++ started_by (start_prefix request) machine.polls stepped.reply;
+  machines = slice_set run.machines machine_number (at_rest (resumed machine stepped.reply)) ++ started_by (start_prefix request) machine.options stepped.reply;
 }
 
 abbrev pub taken : Run → ℕ → Progress → Option Run

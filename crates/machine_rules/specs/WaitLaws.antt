@@ -620,13 +620,13 @@ watch_bounded polls number registers prefix polled given = tt
 
 -- what a machine asks with a reply is less than it had to do before, and it polls only where an item waits
 pub replied_bounded : (awaiting : Awaits) (machine : Machine) (given : Reply) → HasItsItem (errand_of awaiting) machine.registers.stack
-    → IsBoundedAct machine.polls (effort machine.polls (errand_of awaiting) machine.registers.stack) (replied_act awaiting machine given)
+    → IsBoundedAct machine.options.polls (effort machine.options.polls (errand_of awaiting) machine.registers.stack) (replied_act awaiting machine given)
 replied_bounded (awaits.Stamp wait) machine given item =
-    poll_bounded machine.polls machine.next machine.registers wait (λ registers. act_of machine.next registers (instruction_at machine))
-    awaits.Stamp given (λ known. act_bounded machine.polls machine.next known (instruction_at machine)) refl item
+    poll_bounded machine.options.polls machine.next machine.registers wait (λ registers. act_of machine.next registers (instruction_at machine))
+    awaits.Stamp given (λ known. act_bounded machine.options.polls machine.next known (instruction_at machine)) refl item
 replied_bounded (awaits.LoggedStamp prefix wait) machine given item =
-    poll_bounded machine.polls machine.next machine.registers wait (λ registers. logs_on registers prefix)
-    (awaits.LoggedStamp prefix) given (λ known. logs_bounded machine.polls known prefix) refl item
+    poll_bounded machine.options.polls machine.next machine.registers wait (λ registers. logs_on registers prefix)
+    (awaits.LoggedStamp prefix) given (λ known. logs_bounded machine.options.polls known prefix) refl item
 replied_bounded (awaits.Empty prefix polled) machine given item =
-    watch_bounded machine.polls machine.next machine.registers prefix polled given
-replied_bounded awaiting machine given item = used_bounded machine.polls machine.next machine.registers awaiting given
+    watch_bounded machine.options.polls machine.next machine.registers prefix polled given
+replied_bounded awaiting machine given item = used_bounded machine.options.polls machine.next machine.registers awaiting given

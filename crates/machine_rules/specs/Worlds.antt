@@ -3,6 +3,7 @@ use Rattle.std.specs.Prelude.{◌≡◌, ℕ, ◌+◌, ◌==◌, nat_lt, Bool, t
 use Rattle.std.specs.FinMap as finite
 use Rattle.std.specs.List.{filter, list_any}
 use Rattle.key_bytes.specs.Keys.{begins_with, key_cmp, within}
+use Rattle.database_rules.specs.declared.options.DatabaseOptions.{DatabaseOptions}
 use Rattle.database_rules.specs.Databases.{Database}
 use Rattle.database_rules.specs.Histories.{Setting, at, last, loaded, grown_by}
 use Rattle.database_rules.specs.Slices.{Entries}
@@ -39,7 +40,7 @@ abbrev pub Transactions : Type 0
 Transactions = finite.FinMap key_cmp Transaction
 
 pub record World : Type 0 where
-  -- the history so far
+  -- the history so far, and what the database was opened with
   pub setting : Setting
   pub transactions : Transactions
   -- what became of each life that was drawn, at its number, once it is decided
@@ -49,11 +50,19 @@ pub record World : Type 0 where
   -- the random words still to come, by their places from 0
   pub words : ℕ → ℕ
 
--- the world at the beginning: the pairs of the input are the first commit, no name has a transaction, machine 0 was started
--- under the prefix, and the random words are those of the seed
+-- what the arguments of a run open the database with
+abbrev pub database_options : RunArgs → DatabaseOptions
+database_options arguments = record { api = arguments.api }
+
+-- the setting at the beginning, where the pairs of the input are the first commit
+abbrev pub setting_of : List (List ℕ × List ℕ) → RunArgs → Setting
+setting_of pairs arguments = record { history = loaded pairs ∷ []; options = database_options arguments }
+
+-- the world at the beginning: no name has a transaction, machine 0 was started under the prefix, and the random words are those
+-- of the seed
 abbrev pub begun : List (List ℕ × List ℕ) → RunArgs → World
 begun pairs arguments = record {
-  setting = record { history = loaded pairs ∷ [] };
+  setting = setting_of pairs arguments;
   transactions = finite.empty;
   lives = [];
   started = arguments.prefix ∷ [];

@@ -13,6 +13,8 @@
 
 mod directories;
 
+use command_rules::RunArgs;
+use database_rules::{Api, DatabaseOptions};
 pub use directories::{DirectoryOperation, Object};
 use directory_types::{Boxed, Layer};
 use fdb_tuple::Elem;
@@ -32,6 +34,36 @@ pub enum ItemValue {
 pub struct Item {
     pub value: ItemValue,
     pub instruction: u64,
+}
+
+/// What the arguments of a run say of every machine of the run: a machine has them from its starter.
+#[derive(Clone, Copy, Debug, PartialEq, Eq)]
+pub struct MachineOptions {
+    /// The API version, by which operations have their names.
+    pub api: Api,
+    /// How often the polls of one wait may be answered that it isn't decided yet.
+    pub polls: u32,
+}
+
+ghost use Rattle.std.specs.Prelude.{◌≡◌};
+ghost use Rattle.machine_rules.specs.Worlds.{database_options};
+ghost use Rattle.machine_rules.specs.Runs.{machine_options};
+
+/// Returns the options that the arguments of a run give to each of its machines.
+pub fn machine_options(arguments: &RunArgs) -> MachineOptions
+    ensures { result ≡ machine_options arguments.now }
+{
+    MachineOptions {
+        api: arguments.api,
+        polls: arguments.polls,
+    }
+}
+
+/// Returns the options with which a run opens its database.
+pub fn database_options(arguments: &RunArgs) -> DatabaseOptions
+    ensures { result ≡ database_options arguments.now }
+{
+    DatabaseOptions { api: arguments.api }
 }
 
 /// How a machine has ended.

@@ -20,6 +20,7 @@ use Rattle.network.specs.declared.post.Post.TheVariants.{Ask}
 use Rattle.network.specs.Posts.{asked_by, asked_in, cell_by, cells_in, is_over, overs_in}
 use Rattle.network.specs.Pairing.{AsksFor}
 use Rattle.network.specs.Clients.{client_line, client_machine}
+use Rattle.machine_rules.specs.declared.MachineOptions.{MachineOptions}
 use Rattle.machine_rules.specs.Machines.{Machine, Progress, resumed, silent}
 use Rattle.machine_rules.specs.Runs.{at_rest, start_prefix, started_by}
 use Rattle.thread_laws.specs.Alone.{IsAlone, after_reply, anew, asked_over, begun_as}
@@ -100,13 +101,13 @@ asked_more before after waiters asks request setter waiter reply had asks_it cel
 
 -- the machine that was started by that reply, if one was
 pub started_last : (before : SuspendedMachine) (waiters : List (Waiter Reply Wake)) (asks : List Post) (request : Request) (setter : Setter Reply Wake)
-    (waiter : Waiter Reply Wake) (reply : Reply) (prefix : Option (List ℕ)) (polls : ℕ) (started : Option SuspendedMachine)
+    (waiter : Waiter Reply Wake) (reply : Reply) (prefix : Option (List ℕ)) (options : MachineOptions) (started : Option SuspendedMachine)
     → HasAsked before waiters asks → shown waiter ≡ Some reply → prefix ≡ start_prefix request
-    → map progress_of (option_to_list started) ≡ started_by prefix polls reply → IfSome started IsSuspended
+    → map progress_of (option_to_list started) ≡ started_by prefix options reply → IfSome started IsSuspended
     → IfSome started (λ (suspended : SuspendedMachine). IsSuspended suspended × IsStartedBy (asks ++ Ask before.machine.machine.number request setter ∷ [])
-    (shown_by (waiters ++ waiter ∷ [])) polls (progress_of suspended))
-started_last before waiters asks request setter waiter reply prefix polls None had is_shown prefix_is is is_suspended = tt
-started_last before waiters asks request setter waiter reply prefix polls (Some suspended) had is_shown prefix_is is is_suspended = (
+    (shown_by (waiters ++ waiter ∷ [])) options (progress_of suspended))
+started_last before waiters asks request setter waiter reply prefix options None had is_shown prefix_is is is_suspended = tt
+started_last before waiters asks request setter waiter reply prefix options (Some suspended) had is_shown prefix_is is is_suspended = (
   is_suspended,
   record {
     earlier = requests_in asks;
@@ -121,7 +122,7 @@ started_last before waiters asks request setter waiter reply prefix polls (Some 
       append-nil (map Some (had.replies ++ reply ∷ [])) ∙ map-append Some had.replies (reply ∷ [])
           ∙ (λ i. sym had.replies_are i ++ sym is_shown i ∷ []) ∙ sym (map-append shown waiters (waiter ∷ [])),
     );
-    is = is ∙ ap (λ (p : Option (List ℕ)). started_by p polls reply) prefix_is;
+    is = is ∙ ap (λ (p : Option (List ℕ)). started_by p options reply) prefix_is;
   },
 )
 
@@ -206,15 +207,15 @@ module _ (before after : ThreadedMachine) (request : Request) (waiter : Waiter R
       (shown waiter ∷ [], sym (ap shown_by once.waiters ∙ map-append shown before.waiters.items (waiter ∷ []))) once.line
 
   pub started_by_it : (prefix : Option (List ℕ)) (started : Option SuspendedMachine) → prefix ≡ start_prefix request
-      → map progress_of (option_to_list started) ≡ started_by prefix (machine_in before).polls reply → IfSome started IsSuspended
+      → map progress_of (option_to_list started) ≡ started_by prefix (machine_in before).options reply → IfSome started IsSuspended
       → IfSome started (λ (suspended : SuspendedMachine). IsSuspended suspended
-      × IsStartedBy (history_of after).posted (replies_to after) (machine_in after).polls (progress_of suspended))
+      × IsStartedBy (history_of after).posted (replies_to after) (machine_in after).options (progress_of suspended))
   started_by_it prefix started prefix_is is all_is_suspended =
       subst (λ (posts : List Post). IfSome started (λ (suspended : SuspendedMachine). IsSuspended suspended
-      × IsStartedBy posts (replies_to after) (machine_in after).polls (progress_of suspended))) (sym posted)
+      × IsStartedBy posts (replies_to after) (machine_in after).options (progress_of suspended))) (sym posted)
       (subst (λ (waiters : List (Waiter Reply Wake)). IfSome started (λ (suspended : SuspendedMachine). IsSuspended suspended
-      × IsStartedBy asked (shown_by waiters) (machine_in after).polls (progress_of suspended))) (sym once.waiters)
-      (subst (λ polls. IfSome started (λ (suspended : SuspendedMachine). IsSuspended suspended
-      × IsStartedBy asked (shown_by (before.waiters.items ++ waiter ∷ [])) polls (progress_of suspended))) (sym (ap (λ (m : Machine). m.polls) kept))
+      × IsStartedBy asked (shown_by waiters) (machine_in after).options (progress_of suspended))) (sym once.waiters)
+      (subst (λ options. IfSome started (λ (suspended : SuspendedMachine). IsSuspended suspended
+      × IsStartedBy asked (shown_by (before.waiters.items ++ waiter ∷ [])) options (progress_of suspended))) (sym (ap (λ (m : Machine). m.options) kept))
       (started_last before.suspended before.waiters.items (history_of before).posted request once.setter waiter reply prefix
-      (machine_in before).polls started once.running.asked once.is_shown prefix_is is all_is_suspended)))
+      (machine_in before).options started once.running.asked once.is_shown prefix_is is all_is_suspended)))

@@ -9,6 +9,7 @@ use Rattle.request_line.specs.declared.history.History.{History}
 use Rattle.request_line.specs.History.{lower_half, upper_half, AreTogether, IsInSpan}
 use Rattle.network.specs.declared.post.Post.{Post}
 use Rattle.network.specs.Clients.{client_line}
+use Rattle.machine_rules.specs.declared.MachineOptions.{MachineOptions}
 use Rattle.machine_rules.specs.Machines.{Machine, Progress, silent}
 use Rattle.machine_rules.specs.Runs.{at_rest, start_prefix, started, started_by}
 use Rattle.thread_laws.specs.Alone.{begun_as}
@@ -17,7 +18,7 @@ use Rattle.suspended_machine.specs.declared.suspended.SuspendedMachine.{Suspende
 use Rattle.suspended_machine.specs.SuspendedMachines.{progress_of}
 use Rattle.machine_threads.specs.declared.threaded.ThreadedMachine.{ThreadedMachine}
 use Rattle.machine_threads.specs.Threaded.{history_of, machine_in, replies_to, HasEnded, HasStarted, IsLater, IsStartedBy}
-use Rattle.machine_threads.specs.Teams.{HasPollsOf, IsTeamOf}
+use Rattle.machine_threads.specs.Teams.{HasOptionsOf, IsTeamOf}
 use Rattle.machine_threads.proofs.Lists.{Any_back, Any_first, Any_front, prefix_trans}
 use Rattle.machine_threads.proofs.Running.{later_trans}
 
@@ -33,7 +34,7 @@ one_team machine own later ended room = record {
   have_started = All-nil (λ (other : ThreadedMachine). Any (λ (starter : ThreadedMachine). HasStarted starter other) (own ∷ []));
   one_line = All-cons (λ (one : ThreadedMachine). client_line one.client ≡ client_line machine.client) own [] later.line
       (All-nil (λ (one : ThreadedMachine). client_line one.client ≡ client_line machine.client));
-  same_polls = All-cons (HasPollsOf machine) own [] (ap (λ (m : Machine). m.polls) later.begun) (All-nil (HasPollsOf machine));
+  same_options = All-cons (HasOptionsOf machine) own [] (ap (λ (m : Machine). m.options) later.begun) (All-nil (HasOptionsOf machine));
   cover = λ p inside. Any_first (λ (one : ThreadedMachine). IsInSpan (history_of one) p) own [] (
     subst (λ n. n ≤ p) (sym later.number) inside.0,
     subst (λ n. p < n) (λ i. sym later.number i + 2 ^ sym room i) inside.1,
@@ -52,8 +53,8 @@ earlier_team before machine ended later room team = record {
   have_started = team.have_started;
   one_line = All-weaker (λ (one : ThreadedMachine). client_line one.client ≡ client_line machine.client)
       (λ (one : ThreadedMachine). client_line one.client ≡ client_line before.client) (λ one is. is ∙ later.line) ended team.one_line;
-  same_polls = All-weaker (HasPollsOf machine) (HasPollsOf before)
-      (λ it is. is ∙ ap (λ (m : Machine). m.polls) later.begun) ended team.same_polls;
+  same_options = All-weaker (HasOptionsOf machine) (HasOptionsOf before)
+      (λ it is. is ∙ ap (λ (m : Machine). m.options) later.begun) ended team.same_options;
   cover = λ p inside. team.cover p (
     subst (λ n. n ≤ p) (sym later.number) inside.0,
     subst (λ n. p < n) (λ i. sym later.number i + 2 ^ sym room i) inside.1,
@@ -62,15 +63,15 @@ earlier_team before machine ended later room team = record {
 
 -- ---- a machine and one that it started
 
--- a machine that was started has the polls of its starter
-begun_polls : (prefix : Option (List ℕ)) (polls : ℕ) (given : Reply) (begun : Progress) → begun ∷ [] ≡ started_by prefix polls given
-    → begun.machine.polls ≡ polls
+-- a machine that was started has the options of its starter
+begun_options : (prefix : Option (List ℕ)) (options : MachineOptions) (given : Reply) (begun : Progress) → begun ∷ [] ≡ started_by prefix options given
+    → begun.machine.options ≡ options
 unfolding started
-begun_polls None polls given begun is = absurd (cons≢nil is)
-begun_polls (Some prefix) polls (reply.Started number pairs) begun is =
-    ap (λ (p : Progress). p.machine.polls) (head-eq_of_cons-eq is)
-    ∙ ap (λ (m : Machine). m.polls) (at_rest_anew (silent (started number prefix polls pairs)))
-begun_polls (Some prefix) polls given begun is = absurd (cons≢nil is)
+begun_options None options given begun is = absurd (cons≢nil is)
+begun_options (Some prefix) options (reply.Started number pairs) begun is =
+    ap (λ (p : Progress). p.machine.options) (head-eq_of_cons-eq is)
+    ∙ ap (λ (m : Machine). m.options) (at_rest_anew (silent (started number prefix options pairs)))
+begun_options (Some prefix) options given begun is = absurd (cons≢nil is)
 
 -- a machine before and after its sender was split, and one that it started and that got the other half
 pub record StandBeside (machine kept other : ThreadedMachine) (begun : Progress) : Type 0 where
@@ -79,15 +80,15 @@ pub record StandBeside (machine kept other : ThreadedMachine) (begun : Progress)
   pub other_is : history_of other ≡ upper_half (history_of machine)
   pub together : AreTogether (history_of kept) (history_of other) (history_of machine)
   pub one_line : client_line other.client ≡ client_line machine.client
-  pub started : IsStartedBy (history_of machine).posted (replies_to machine) (machine_in machine).polls begun
+  pub started : IsStartedBy (history_of machine).posted (replies_to machine) (machine_in machine).options begun
   pub begun_is : begun_as (machine_in other) ≡ begun
-  pub polls_are : (machine_in other).polls ≡ (machine_in machine).polls
+  pub options_are : (machine_in other).options ≡ (machine_in machine).options
 
 -- such machines, where the other is seated as it was started
 pub stand_beside : (machine kept other : ThreadedMachine) (suspended : SuspendedMachine) → IsLater machine kept
     → history_of kept ≡ lower_half (history_of machine) → history_of other ≡ upper_half (history_of machine)
     → AreTogether (history_of kept) (history_of other) (history_of machine) → client_line other.client ≡ client_line machine.client
-    → IsStartedBy (history_of machine).posted (replies_to machine) (machine_in machine).polls (progress_of suspended) → other.suspended ≡ suspended
+    → IsStartedBy (history_of machine).posted (replies_to machine) (machine_in machine).options (progress_of suspended) → other.suspended ≡ suspended
     → StandBeside machine kept other (progress_of suspended)
 stand_beside machine kept other suspended later kept_is other_is together one_line started its_suspended = record {
   later = later;
@@ -97,9 +98,9 @@ stand_beside machine kept other suspended later kept_is other_is together one_li
   one_line = one_line;
   started = started;
   begun_is = ap (λ (s : SuspendedMachine). begun_as s.machine.machine) its_suspended
-      ∙ sym (begun_by (start_prefix started.request) (machine_in machine).polls started.reply (progress_of suspended) started.is);
-  polls_are = ap (λ (s : SuspendedMachine). s.machine.machine.polls) its_suspended
-      ∙ begun_polls (start_prefix started.request) (machine_in machine).polls started.reply (progress_of suspended) started.is;
+      ∙ sym (begun_by (start_prefix started.request) (machine_in machine).options started.reply (progress_of suspended) started.is);
+  options_are = ap (λ (s : SuspendedMachine). s.machine.machine.options) its_suspended
+      ∙ begun_options (start_prefix started.request) (machine_in machine).options started.reply (progress_of suspended) started.is;
 }
 
 abbrev IsStartedIn : List ThreadedMachine → ThreadedMachine → Type 0
@@ -113,7 +114,7 @@ module _ (machine kept other : ThreadedMachine) (begun : Progress) (first second
   its_posted_before : (history_of two.own).posted_before ≡ (history_of machine).posted
   its_posted_before = two.later.posted_before ∙ ap (λ (h : History Post). h.posted_before) beside.other_is
 
-  started_by_own : IsStartedBy (history_of machine).posted (replies_to one.own) (machine_in one.own).polls (begun_as (machine_in two.own))
+  started_by_own : IsStartedBy (history_of machine).posted (replies_to one.own) (machine_in one.own).options (begun_as (machine_in two.own))
   started_by_own = record {
     earlier = beside.started.earlier;
     request = beside.started.request;
@@ -124,14 +125,14 @@ module _ (machine kept other : ThreadedMachine) (begun : Progress) (first second
     replies_are = prefix_trans (map Some (beside.started.earlier_replies ++ beside.started.reply ∷ [])) (replies_to machine)
         (replies_to one.own) beside.started.replies_are own_later.replies;
     is = (λ i. (ap (λ (m : Machine). at_rest (silent m)) two.later.begun ∙ beside.begun_is) i ∷ []) ∙ beside.started.is
-        ∙ ap (λ (m : Machine). started_by (start_prefix beside.started.request) m.polls beside.started.reply) (sym own_later.begun);
+        ∙ ap (λ (m : Machine). started_by (start_prefix beside.started.request) m.options beside.started.reply) (sym own_later.begun);
   }
 
   own_started : HasStarted one.own two.own
   own_started = record {
     maker = two.later.maker ∙ ap (λ (h : History Post). h.maker) beside.other_is ∙ sym own_later.number;
     posted = subst (λ (posts : List Post). IsPrefix posts (history_of one.own).posted) (sym its_posted_before) own_later.posted;
-    by_it = subst (λ (posts : List Post). IsStartedBy posts (replies_to one.own) (machine_in one.own).polls (begun_as (machine_in two.own)))
+    by_it = subst (λ (posts : List Post). IsStartedBy posts (replies_to one.own) (machine_in one.own).options (begun_as (machine_in two.own)))
         (sym its_posted_before) started_by_own;
   }
 
@@ -164,10 +165,10 @@ module _ (machine kept other : ThreadedMachine) (begun : Progress) (first second
         (λ (it : ThreadedMachine). client_line it.client ≡ client_line machine.client) (λ it is. is ∙ beside.later.line) first one.one_line)
         (All-weaker (λ (it : ThreadedMachine). client_line it.client ≡ client_line other.client)
         (λ (it : ThreadedMachine). client_line it.client ≡ client_line machine.client) (λ it is. is ∙ beside.one_line) second two.one_line);
-    same_polls = All-append (HasPollsOf machine) first second
-        (All-weaker (HasPollsOf kept) (HasPollsOf machine) (λ it is. is ∙ ap (λ (m : Machine). m.polls) beside.later.begun) first
-        one.same_polls)
-        (All-weaker (HasPollsOf other) (HasPollsOf machine) (λ it is. is ∙ beside.polls_are) second two.same_polls);
+    same_options = All-append (HasOptionsOf machine) first second
+        (All-weaker (HasOptionsOf kept) (HasOptionsOf machine) (λ it is. is ∙ ap (λ (m : Machine). m.options) beside.later.begun) first
+        one.same_options)
+        (All-weaker (HasOptionsOf other) (HasOptionsOf machine) (λ it is. is ∙ beside.options_are) second two.same_options);
     cover = λ p inside.
         ⊎_elim (λ low. Any_front (λ (it : ThreadedMachine). IsInSpan (history_of it) p) first second (one.cover p low))
         (λ high. Any_back (λ (it : ThreadedMachine). IsInSpan (history_of it) p) first second (two.cover p high))

@@ -6,12 +6,12 @@ use Rattle.network.specs.Clients.{client_line}
 use Rattle.machine_threads.specs.declared.threaded.ThreadedMachine.{ThreadedMachine}
 use Rattle.machine_threads.specs.Threaded.{history_of, machine_in, HasEnded, HasStarted, IsLater}
 
--- the waits of one have as many polls as those of the other
-abbrev pub HasPollsOf : ThreadedMachine → ThreadedMachine → Type 0
-HasPollsOf machine other = (machine_in other).polls ≡ (machine_in machine).polls
+-- one has the options of the other
+abbrev pub HasOptionsOf : ThreadedMachine → ThreadedMachine → Type 0
+HasOptionsOf machine other = (machine_in other).options ≡ (machine_in machine).options
 
--- The first is this machine at its end, and each other was started by one of them. Their senders are of its line, their waits
--- have its polls, and their spans cover its span.
+-- The first is this machine at its end, and each other was started by one of them. Their senders are of its line, they have its
+-- options, and their spans cover its span.
 pub record IsTeamOf (machine : ThreadedMachine) (ended : List ThreadedMachine) : Type 0 where
   pub own : ThreadedMachine
   pub others : List ThreadedMachine
@@ -20,5 +20,5 @@ pub record IsTeamOf (machine : ThreadedMachine) (ended : List ThreadedMachine) :
   pub have_ended : All HasEnded ended
   pub have_started : All (λ (other : ThreadedMachine). Any (λ (starter : ThreadedMachine). HasStarted starter other) ended) others
   pub one_line : All (λ (one : ThreadedMachine). client_line one.client ≡ client_line machine.client) ended
-  pub same_polls : All (HasPollsOf machine) ended
+  pub same_options : All (HasOptionsOf machine) ended
   pub cover : (p : ℕ) → IsInSpan (history_of machine) p → Any (λ (one : ThreadedMachine). IsInSpan (history_of one) p) ended

@@ -14,6 +14,7 @@ use Rattle.network.specs.Posts.{asked_in, cells_in, overs_in}
 use Rattle.network.specs.Pairing.{AsksFor}
 use Rattle.network.specs.Serving.{started_by as starts_in}
 use Rattle.network.specs.Clients.{client_machine, client_line, client_history}
+use Rattle.machine_rules.specs.declared.MachineOptions.{MachineOptions}
 use Rattle.machine_rules.specs.Machines.{Machine, Progress}
 use Rattle.machine_rules.specs.Runs.{start_prefix, started_by}
 use Rattle.thread_laws.specs.Alone.{IsAlone, anew, begun_as}
@@ -96,7 +97,7 @@ owed_by (Err refused) = owed_of refused
 -- ---- machines that start one another
 
 -- A machine that began so was started by the last request of these posts, by the reply that stands at its place among these.
-pub record IsStartedBy (posts : List Post) (replies : List (Option Reply)) (polls : ℕ) (begun : Progress) : Type 0 where
+pub record IsStartedBy (posts : List Post) (replies : List (Option Reply)) (options : MachineOptions) (begun : Progress) : Type 0 where
   pub earlier : List Request
   pub request : Request
   pub requests_are : requests_in posts ≡ earlier ++ request ∷ []
@@ -104,10 +105,10 @@ pub record IsStartedBy (posts : List Post) (replies : List (Option Reply)) (poll
   pub reply : Reply
   pub as_many : length earlier_replies ≡ length earlier
   pub replies_are : IsPrefix (map Some (earlier_replies ++ reply ∷ [])) replies
-  pub is : begun ∷ [] ≡ started_by (start_prefix request) polls reply
+  pub is : begun ∷ [] ≡ started_by (start_prefix request) options reply
 
 -- one machine started another: it had posted the request before its sender was split
 pub record HasStarted (starter other : ThreadedMachine) : Type 0 where
   pub maker : (history_of other).maker ≡ (history_of starter).number
   pub posted : IsPrefix (history_of other).posted_before (history_of starter).posted
-  pub by_it : IsStartedBy (history_of other).posted_before (replies_to starter) (machine_in starter).polls (begun_as (machine_in other))
+  pub by_it : IsStartedBy (history_of other).posted_before (replies_to starter) (machine_in starter).options (begun_as (machine_in other))

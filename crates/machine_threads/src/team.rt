@@ -72,7 +72,7 @@ fn run_beside<R: Threads + Wait + Sync, G: Gate>(
     requires room { MACHINES ≤ (history_of machine).room + newest + 1 }
     requires is_suspended { IsSuspended suspended }
     requires unposted { overs_of machine ≡ 0 }
-    requires started { IsStartedBy (history_of machine).posted (replies_to machine) (machine_in machine).polls (progress_of suspended) }
+    requires started { IsStartedBy (history_of machine).posted (replies_to machine) (machine_in machine).options (progress_of suspended) }
     ensures team { result.cut ≡ None → IsTeamOf machine (machines_in result.crew) }
     ensures over { AreOver 2 machine (machines_in result.crew) }
 {

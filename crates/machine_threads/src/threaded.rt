@@ -80,7 +80,7 @@ impl ThreadedMachine {
         ensures later { OnOk result (IsLater self.old self.new) }
         ensures room { OnOk result ((history_of self.new).room ≡ (history_of self.old).room) }
         ensures started { IfOk result (λ started. IfSome started (λ suspended. IsSuspended suspended
-            × IsStartedBy (history_of self.new).posted (replies_to self.new) (machine_in self.new).polls (progress_of suspended))) }
+            × IsStartedBy (history_of self.new).posted (replies_to self.new) (machine_in self.new).options (progress_of suspended))) }
         ensures ended { result ≡ Ok None → self.new.suspended.asks ≡ None }
         ensures overs { overs_of self.new ≡ overs_of self.old }
         ensures owes { starts_to self.new ≡ starts_to self.old + owed_by result }
@@ -112,7 +112,7 @@ impl ThreadedMachine {
         ensures later { OnOk result (IsLater self.old self.new) }
         ensures room { OnOk result ((history_of self.new).room ≡ (history_of self.old).room) }
         ensures started { IfOk result (λ started. IfSome started (λ suspended. IsSuspended suspended
-            × IsStartedBy (history_of self.new).posted (replies_to self.new) (machine_in self.new).polls (progress_of suspended))) }
+            × IsStartedBy (history_of self.new).posted (replies_to self.new) (machine_in self.new).options (progress_of suspended))) }
         ensures overs { overs_of self.new ≡ overs_of self.old }
         ensures owes { starts_to self.new ≡ starts_to self.old + owed_by result }
     {
@@ -201,7 +201,7 @@ fn hear<R: Wait>(
     ensures cell { waiter_cell result.0 ≡ waiter_cell asked }
     ensures heard { (reply : ReplySaid) × (shown result.0 ≡ Some reply) × (owed_by result.1 ≡ starts_in (Some reply ∷ []))
         × OnOk result.1 (progress_of suspended.new ≡ at_rest (resumed suspended.old.machine.machine reply))
-        × IfOk result.1 (λ started. map progress_of (option_to_list started) ≡ started_by prefix suspended.old.machine.machine.polls reply) }
+        × IfOk result.1 (λ started. map progress_of (option_to_list started) ≡ started_by prefix suspended.old.machine.machine.options reply) }
     ensures is_suspended { OnOk result.1 (IsSuspended suspended.new) }
     ensures started { IfOk result.1 (λ started. IfSome started IsSuspended) }
 {
@@ -223,7 +223,7 @@ fn use_reply(
     ensures rests { OnOk result (progress_of suspended.new ≡ at_rest (resumed suspended.old.machine.machine reply.now)) }
     ensures is_suspended { OnOk result (IsSuspended suspended.new) }
     ensures started { IfOk result (λ started. map progress_of (option_to_list started)
-        ≡ started_by prefix suspended.old.machine.machine.polls reply.now) }
+        ≡ started_by prefix suspended.old.machine.machine.options reply.now) }
     ensures started_is_suspended { IfOk result (λ started. IfSome started IsSuspended) }
     ensures owes { owed_by result ≡ starts_in (Some reply.now ∷ []) }
 {
@@ -247,15 +247,15 @@ fn suspended_both(
     ensures rests { OnOk result (progress_of suspended.new ≡ at_rest (resumed suspended.old.machine.machine reply.now)) }
     ensures is_suspended { OnOk result (IsSuspended suspended.new) }
     ensures started { IfOk result (λ started. map progress_of (option_to_list started)
-        ≡ started_by prefix suspended.old.machine.machine.polls reply.now) }
+        ≡ started_by prefix suspended.old.machine.machine.options reply.now) }
     ensures started_is_suspended { IfOk result (λ started. IfSome started IsSuspended) }
 {
     if is_no_memory(reply) {
         return Err(AllocError);
     }
-    let polls = suspended.machine.polls();
+    let options = suspended.machine.options();
     suspended.use_awaited(reply)?;
-    suspended_started_by(alloc, prefix, polls, reply)
+    suspended_started_by(alloc, prefix, options, reply)
 }
 
 // The number of the machine that was started by a reply, if one was.

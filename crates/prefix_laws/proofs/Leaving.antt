@@ -57,6 +57,9 @@ filled_leaves stamp (Atomic atomic.SetVersionstampedKey other operand) key untou
     unfilled_leaves atomic.SetVersionstampedKey other operand key refl
 filled_leaves stamp (Atomic atomic.SetVersionstampedValue other operand) key untouched =
     unfilled_leaves atomic.SetVersionstampedValue other operand key refl
+filled_leaves stamp (Atomic atomic.OldStampedKey other operand) key untouched = unfilled_leaves atomic.OldStampedKey other operand key refl
+filled_leaves stamp (Atomic atomic.OldStampedValue other operand) key untouched =
+    unfilled_leaves atomic.OldStampedValue other operand key refl
 filled_leaves stamp (Atomic op other operand) key untouched = untouched_leaves (Atomic op other operand) key untouched
 
 -- ---- many mutations and the keys of a subspace

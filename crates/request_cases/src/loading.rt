@@ -1,23 +1,35 @@
-//! What a case of requests begins with: the pairs of the database, and the random words.
+//! What a case of requests begins with: the API version, the pairs of the database, and the random words.
 
 use crate::asking::{bytes, pair_of, word};
 use crate::spell_fault::SpellFault;
 use crate::spelling::{number, read_words};
-use case_files::blocks::is_line_feed;
+use case_files::blocks::{is_line_feed, value_of};
 use client_core::Core;
 use command_rules::RunArgs;
+use database_rules::Api;
 use key_bytes::{Bytes, Pair, Pairs};
 use std::alloc::{AllocError, Global};
 
-/// Loads the pairs of a case.
+/// Loads the pairs of a case under its API version.
 pub fn load(alloc: Global, block: &[u8]) -> Result<Core, SpellFault> {
+    let api = read_api(value_of(block, b"api "))?;
     let pairs = read_pairs(alloc, block)?;
-    Ok(Core::load(alloc, &arguments(alloc)?, pairs)?)
+    Ok(Core::load(alloc, &arguments(alloc, api)?, pairs)?)
 }
 
-fn arguments(alloc: Global) -> Result<RunArgs, AllocError> {
+// The API version of a line `api`; 630 where there is none.
+fn read_api(line: Option<&[u8]>) -> Result<Api, SpellFault> {
+    match line.unwrap_or(b"630") {
+        b"630" => Ok(Api::V630),
+        b"500" => Ok(Api::V500),
+        _ => Err(SpellFault::Unknown),
+    }
+}
+
+fn arguments(alloc: Global, api: Api) -> Result<RunArgs, AllocError> {
     Ok(RunArgs {
         prefix: Bytes::from_slice(alloc, b"p")?,
+        api,
         seed: 0,
         polls: 10,
     })

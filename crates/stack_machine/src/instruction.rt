@@ -6,12 +6,13 @@ ghost use Rattle.fdb_tuple.specs.Tuples.{Empty, Single, Text};
 ghost use Rattle.machine_rules.specs.Operands.{bytes_of};
 ghost use Rattle.machine_rules.specs.Instructions.{stack_operation, transaction_operation, directory_operation, operation_in, read_scope, write_scope};
 ghost use Rattle.machine_rules.specs.Instructions.{database_names, creation_names, removal_names, listing_names, subspace_names};
-ghost use Rattle.machine_rules.specs.Instructions.{bare_instruction, named_instruction, instruction_in, instruction_of};
+ghost use Rattle.machine_rules.specs.Instructions.{bare_instruction, named_instruction, instruction_in, instruction_of, instruction_under};
 ghost use Rattle.stack_machine.specs.Pushes.{PushesAnElement};
 ghost use Rattle.fdb_tuple.specs.Listed.{IsElement};
 ghost use Rattle.fdb_tuple.specs.Zeros.{HasNoZero};
 ghost use Rattle.stack_directories.specs.Directing.{AreElements};
 
+use database_rules::Api;
 use fdb_tuple::{Elem, UnpackFault, unpack};
 use key_bytes::Bytes;
 use machine_rules::{
@@ -21,9 +22,27 @@ use stack_items::bytes_of;
 use std::alloc::{AllocError, Global};
 
 /// Returns the instruction that a value packs: a tuple of a name, a Unicode or a byte string, and for PUSH one
-/// element more. None where the value is no such tuple.
+/// element more. None where the value is no such tuple, or the name none of this API version.
+#[tactic(auto, unfolding(machine_rules::specs::Instructions::instruction_under))]
+pub fn instruction_under(
+    alloc: Global,
+    api: Api,
+    value: &[u8],
+) -> Result<Option<Instruction>, AllocError>
+    ensures instruction { IfOk result (λ instruction. instruction ≡ instruction_under api value.now) }
+    ensures element { IfOk result PushesAnElement }
+{
+    match (api, instruction_of(alloc, value)?) {
+        (Api::V500, Some(Instruction::OnStack(StackOperation::TuplePackWithVersionstamp))) => {
+            Ok(None)
+        }
+        (_, instruction) => Ok(instruction),
+    }
+}
+
+// The instruction that the value packs under the last API version.
 #[tactic(auto, unfolding(machine_rules::specs::Instructions::instruction_of))]
-pub fn instruction_of(alloc: Global, value: &[u8]) -> Result<Option<Instruction>, AllocError>
+fn instruction_of(alloc: Global, value: &[u8]) -> Result<Option<Instruction>, AllocError>
     ensures instruction { IfOk result (λ instruction. instruction ≡ instruction_of value.now) }
     ensures element { IfOk result PushesAnElement }
 {

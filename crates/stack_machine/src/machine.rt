@@ -9,11 +9,11 @@ ghost use Rattle.stack_machine.specs.Acts.{act_with};
 
 use crate::act::Act;
 use crate::errors::Errors;
-use crate::instruction::instruction_of;
+use crate::instruction::instruction_under;
 use crate::registers::Registers;
 use fdb_calls::{Reply, SharedRequest};
 use key_bytes::{Bytes, Pairs};
-use machine_rules::{Awaits, End, Instruction, State};
+use machine_rules::{Awaits, End, Instruction, MachineOptions, State};
 use stack_items::Stack;
 use std::alloc::{AllocError, Global};
 use std::marker::Model;
@@ -36,7 +36,7 @@ pub struct Machine {
     prefix: Bytes,
     instructions: Vec<Bytes>,
     next: usize,
-    polls: u32,
+    options: MachineOptions,
     registers: Registers,
     state: State,
     is_out_of_memory: bool,
@@ -51,7 +51,7 @@ impl Drop for Machine {
             prefix: _,
             instructions: _,
             next: _,
-            polls: _,
+            options: _,
             registers: _,
             state: _,
             is_out_of_memory: _,
@@ -77,7 +77,7 @@ impl Model for Machine {
         prefix = m.prefix;
         instructions = m.instructions.items;
         next = m.next;
-        polls = m.polls;
+        options = m.options;
         registers = m.registers;
         state = m.state;
       };
@@ -92,28 +92,27 @@ impl Machine {
     ghost use Rattle.stack_machine.specs.Steps.{MayStep, moved, Moves};
 
     /// Makes a machine before its first instruction, under a number and a prefix, with the values of these
-    /// pairs as its instructions, in order, and how often the polls of one wait may be answered that it isn't
-    /// so yet.
+    /// pairs as its instructions, in order, and with these options.
     pub fn new(
         alloc: Global,
         number: u16,
         prefix: Bytes,
         instructions: Pairs,
-        polls: u32,
+        options: MachineOptions,
     ) -> Result<Machine, AllocError>
         ensures machine { IfOk result (λ machine. machine.machine ≡ record {
           number = number;
           prefix = prefix;
           instructions = values_of instructions;
           next = 0;
-          polls = polls;
+          options = options;
           registers = record { name = prefix; last_seen = pos 0; stack = []; errors = []; directories = first_directories };
           state = Running;
         }) }
         ensures ready { IfOk result (λ machine. machine.is_out_of_memory ≡ false) }
     {
         let instructions = values_of(alloc, instructions)?;
-        Machine::with_instructions(alloc, number, prefix, instructions, polls)
+        Machine::with_instructions(alloc, number, prefix, instructions, options)
     }
 
     /// Makes a machine as `new` does, with these instructions.
@@ -122,14 +121,14 @@ impl Machine {
         number: u16,
         prefix: Bytes,
         instructions: Vec<Bytes>,
-        polls: u32,
+        options: MachineOptions,
     ) -> Result<Machine, AllocError>
         ensures machine { IfOk result (λ machine. machine.machine ≡ record {
           number = number;
           prefix = prefix;
           instructions = instructions.items;
           next = 0;
-          polls = polls;
+          options = options;
           registers = record { name = prefix; last_seen = pos 0; stack = []; errors = []; directories = first_directories };
           state = Running;
         }) }
@@ -141,7 +140,7 @@ impl Machine {
             prefix,
             instructions,
             next: 0,
-            polls,
+            options,
             registers: Registers::new(alloc, name)?,
             state: State::Running,
             is_out_of_memory: false,
@@ -156,11 +155,11 @@ impl Machine {
         self.number
     }
 
-    /// Returns how often the polls of one wait may be answered that it isn't so yet.
-    pub fn polls(&self) -> u32
-        ensures { result ≡ self.now.machine.polls }
+    /// Returns the options that the machine was started with.
+    pub fn options(&self) -> MachineOptions
+        ensures { result ≡ self.now.machine.options }
     {
-        self.polls
+        self.options
     }
 
     /// Returns the prefix that the machine was started under.
@@ -257,14 +256,14 @@ impl Machine {
                 let wait = *wait;
                 let instruction = self.instruction()?;
                 self.registers
-                    .resume_poll(number, self.polls, wait, instruction, reply)
+                    .resume_poll(number, self.options.polls, wait, instruction, reply)
             }
             Awaits::LoggedStamp { prefix, wait } => self
                 .registers
-                .resume_log(number, self.polls, prefix, *wait, reply),
+                .resume_log(number, self.options.polls, prefix, *wait, reply),
             Awaits::Empty { prefix, polled } => self
                 .registers
-                .resume_watch(number, self.polls, prefix, *polled, reply),
+                .resume_watch(number, self.options.polls, prefix, *polled, reply),
             _ => self.registers.use_reply(number, awaits, reply),
         };
         Ok(self.act(act?))
@@ -291,7 +290,11 @@ impl Machine {
         ensures is { IfOk result (λ instruction. instruction ≡ instruction_at self.now.machine) }
         ensures pushes { IfOk result PushesAnElement }
     {
-        instruction_of(self.alloc, self.instructions[self.next].as_slice())
+        instruction_under(
+            self.alloc,
+            self.options.api,
+            self.instructions[self.next].as_slice(),
+        )
     }
 
     // What the instruction, or the reply that it awaited, came to.

@@ -1,5 +1,7 @@
+use database_rules::Api;
 use fdb_tuple::{Elem, Text, Versionstamp};
 use key_bytes::{Bytes, Pair, Pairs};
+use machine_rules::MachineOptions;
 use stack_items::{Item, ItemValue, Stack, StackFault};
 use std::alloc::{AllocError, Global};
 
@@ -17,6 +19,14 @@ enum Lying {
     Name(&'static str),
     Stamp(u16),
     Waits(u64),
+}
+
+// Options with so many polls for each wait.
+fn options(polls: u32) -> MachineOptions {
+    MachineOptions {
+        api: Api::V630,
+        polls,
+    }
 }
 
 fn push_bytes(alloc: Global, stack: &mut Stack, bytes: &[u8]) -> Result<(), StackFault> {

@@ -10,23 +10,24 @@ ghost use Rattle.suspended_machine.specs.SuspendedMachines.{progress_of, IsSuspe
 use crate::suspended::SuspendedMachine;
 use fdb_calls::{Reply, Request};
 use key_bytes::{Bytes, Pairs};
+use machine_rules::MachineOptions;
 use stack_machine::Machine;
 use std::alloc::{AllocError, Global};
 
-/// Makes a machine as it is started: of this number, under this prefix, with so many polls for each wait, and
+/// Makes a machine as it is started: of this number, under this prefix, with these options, and
 /// with the values of these pairs as its instructions. It is refused for want of memory alone.
 #[tactic(auto, unfolding(machine_rules::specs::Runs::started))]
 pub fn start(
     alloc: Global,
     number: u16,
     prefix: Bytes,
-    polls: u32,
+    options: MachineOptions,
     instructions: Pairs,
 ) -> Result<SuspendedMachine, AllocError>
-    ensures started { IfOk result (λ suspended. progress_of suspended ≡ at_rest (silent (started number prefix polls instructions))) }
+    ensures started { IfOk result (λ suspended. progress_of suspended ≡ at_rest (silent (started number prefix options instructions))) }
     ensures is_suspended { IfOk result IsSuspended }
 {
-    SuspendedMachine::new(Machine::new(alloc, number, prefix, instructions, polls)?)
+    SuspendedMachine::new(Machine::new(alloc, number, prefix, instructions, options)?)
 }
 
 /// Makes a machine as `start` does, with these instructions: as whatever pairs have them for their values.
@@ -35,14 +36,14 @@ pub fn start_with(
     alloc: Global,
     number: u16,
     prefix: Bytes,
-    polls: u32,
+    options: MachineOptions,
     instructions: Vec<Bytes>,
 ) -> Result<SuspendedMachine, AllocError>
     ensures started { IfOk result (λ suspended. (pairs : List (List ℕ × List ℕ)) → instructions.items ≡ values_of pairs
-        → progress_of suspended ≡ at_rest (silent (started number prefix polls pairs))) }
+        → progress_of suspended ≡ at_rest (silent (started number prefix options pairs))) }
     ensures is_suspended { IfOk result IsSuspended }
 {
-    SuspendedMachine::new(Machine::with_instructions(alloc, number, prefix, instructions, polls)?)
+    SuspendedMachine::new(Machine::with_instructions(alloc, number, prefix, instructions, options)?)
 }
 
 /// Returns the prefix under which a request starts a machine, if it starts one.
@@ -59,10 +60,10 @@ pub fn prefix_of(request: &Request) -> Result<Option<Bytes>, AllocError>
 pub fn suspended_started(
     alloc: Global,
     prefix: Option<Bytes>,
-    polls: u32,
+    options: MachineOptions,
     reply: Reply,
 ) -> Result<Option<SuspendedMachine>, AllocError>
-    ensures started { IfOk result (λ suspended. map progress_of (option_to_list suspended) ≡ started_by prefix polls reply) }
+    ensures started { IfOk result (λ suspended. map progress_of (option_to_list suspended) ≡ started_by prefix options reply) }
     ensures is_suspended { IfOk result (λ suspended. IfSome suspended IsSuspended) }
 {
     match (prefix, reply) {
@@ -72,7 +73,7 @@ pub fn suspended_started(
                 machine,
                 instructions,
             },
-        ) => Ok(Some(start(alloc, machine, prefix, polls, instructions)?)),
+        ) => Ok(Some(start(alloc, machine, prefix, options, instructions)?)),
         _ => Ok(None),
     }
 }
@@ -82,10 +83,10 @@ pub fn suspended_started(
 pub fn suspended_started_by(
     alloc: Global,
     prefix: Option<Bytes>,
-    polls: u32,
+    options: MachineOptions,
     reply: &Reply,
 ) -> Result<Option<SuspendedMachine>, AllocError>
-    ensures started { IfOk result (λ suspended. map progress_of (option_to_list suspended) ≡ started_by prefix polls reply.now) }
+    ensures started { IfOk result (λ suspended. map progress_of (option_to_list suspended) ≡ started_by prefix options reply.now) }
     ensures is_suspended { IfOk result (λ suspended. IfSome suspended IsSuspended) }
 {
     match (prefix, reply) {
@@ -97,7 +98,7 @@ pub fn suspended_started_by(
             },
         ) => {
             let instructions = instructions.copy()?;
-            Ok(Some(start(alloc, *machine, prefix, polls, instructions)?))
+            Ok(Some(start(alloc, *machine, prefix, options, instructions)?))
         }
         _ => Ok(None),
     }

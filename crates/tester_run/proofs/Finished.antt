@@ -19,7 +19,7 @@ use Rattle.command_rules.specs.declared.args.RunArgs.{RunArgs}
 use Rattle.machine_rules.specs.Worlds.{World, HasWords, begun, instruction_pairs, newest}
 use Rattle.machine_rules.specs.Machines.{Progress, silent}
 use Rattle.machine_rules.specs.Laws.{is_awaiting}
-use Rattle.machine_rules.specs.Runs.{AreByTurns, at_rest, started, run_from, is_running, has_stopped, has_ended, end_line, stack_lines, error_lines, dump}
+use Rattle.machine_rules.specs.Runs.{AreByTurns, at_rest, dump, end_line, error_lines, has_ended, has_stopped, is_running, machine_options, run_from, stack_lines, started}
 use Rattle.suspended_machine.specs.declared.suspended.SuspendedMachine.{SuspendedMachine}
 use Rattle.tester_run.specs.declared.running.Rendered.{Rendered}
 use Rattle.suspended_machine.specs.SuspendedMachines.{progress_of, IsSuspended}
@@ -39,7 +39,7 @@ kept_newest core world stands =
 -- machine 0, as it is started over what a core keeps, is the one machine of the start
 pub is_first : (suspended : SuspendedMachine) (arguments : RunArgs) (core : CoreModel) → IsStarted suspended arguments core → IsFirst suspended arguments core
 is_first suspended arguments core is pairs stands =
-    ap (λ (d : Database). at_rest (silent (started 0 arguments.prefix arguments.polls (instruction_pairs arguments.prefix d))) ∷ [])
+    ap (λ (d : Database). at_rest (silent (started 0 arguments.prefix (machine_options arguments) (instruction_pairs arguments.prefix d))) ∷ [])
     (sym (kept_newest core (begun pairs arguments) stands))
     ∙ ap (λ (p : Progress). p ∷ []) (sym is)
 

@@ -7,6 +7,7 @@ use Rattle.fdb_calls.specs.declared.Request.{Request}
 use Rattle.fdb_calls.specs.declared.Reply.{Reply}
 use Rattle.fdb_calls.specs.declared.Reply.TheVariants as reply
 use Rattle.client_core.specs.Stands.{CoreModel, HasStarted, StandsFor, Answers}
+use Rattle.machine_rules.specs.declared.MachineOptions.{MachineOptions}
 use Rattle.machine_rules.specs.Worlds.{World, Stepped, HasWords, step as world_step}
 use Rattle.machine_rules.specs.Machines.{Progress, resumed}
 use Rattle.machine_rules.specs.Runs.{AreByTurns, HasTurn, Run, at_rest, replied, run_from, start, start_prefix, started_by, take_place, taken, turn_after}
@@ -74,7 +75,7 @@ pub record Takes (core : CoreModel) (words : ℕ → ℕ) (suspended_machines : 
       → Answers given core_after words_after (world_step world request)
   pub used : Progress
   pub used_is : used ≡ at_rest (resumed suspended.machine.machine given)
-  pub suspended_machines_are : map progress_of suspended_machines_after ≡ slice_set (map progress_of suspended_machines) number used ++ started_by (start_prefix request) suspended.machine.machine.polls given
+  pub suspended_machines_are : map progress_of suspended_machines_after ≡ slice_set (map progress_of suspended_machines) number used ++ started_by (start_prefix request) suspended.machine.machine.options given
   pub order_is : order_after ≡ order ++ number ∷ []
 
 -- it is one more place of the order
@@ -84,14 +85,14 @@ pub taken_goes_on : (core core_after : CoreModel) (words words_after : ℕ → �
 taken_goes_on core core_after words words_after suspended_machines suspended_machines_after order order_after number takes pairs arguments leads =
     let run = run_of leads.world suspended_machines in
     let stepped = world_step leads.world takes.request in
-    let polls = takes.suspended.machine.machine.polls in
+    let options = takes.suspended.machine.machine.options in
     let answered = stands_after takes.given core_after words_after stepped takes.is_given
     (takes.answers leads.world leads.stands leads.has_words) in
     let machines : slice_set (map progress_of suspended_machines) number (at_rest (resumed takes.suspended.machine.machine stepped.reply))
-    ++ started_by (start_prefix takes.request) polls stepped.reply ≡ map progress_of suspended_machines_after =
+    ++ started_by (start_prefix takes.request) options stepped.reply ≡ map progress_of suspended_machines_after =
     (λ i. slice_set (map progress_of suspended_machines) number (at_rest (resumed takes.suspended.machine.machine (answered.0 i)))
-    ++ started_by (start_prefix takes.request) polls (answered.0 i))
-    ∙ (λ i. slice_set (map progress_of suspended_machines) number (sym takes.used_is i) ++ started_by (start_prefix takes.request) polls takes.given)
+    ++ started_by (start_prefix takes.request) options (answered.0 i))
+    ∙ (λ i. slice_set (map progress_of suspended_machines) number (sym takes.used_is i) ++ started_by (start_prefix takes.request) options takes.given)
     ∙ sym takes.suspended_machines_are in
     record {
       world = stepped.world;
@@ -121,43 +122,43 @@ taken_by_turns core core_after words words_after suspended_machines suspended_ma
     }
 
 -- no machine was started where none was added
-none_is_suspended : (prefix : Option (List ℕ)) (polls : ℕ) (given : Reply) (old new : List (List ℕ)) → started_by prefix polls given ≡ []
+none_is_suspended : (prefix : Option (List ℕ)) (options : MachineOptions) (given : Reply) (old new : List (List ℕ)) → started_by prefix options given ≡ []
     → given ≢ reply.NoMemory → HasStarted prefix given old new → length new ≡ length old
-none_is_suspended None polls given old new none is counted = counted
-none_is_suspended (Some prefix) polls (reply.Started machine instructions) old new none is counted = absurd cc
-none_is_suspended (Some prefix) polls reply.NoMemory old new none is counted = absurd (is refl)
-none_is_suspended (Some prefix) polls given old new none is counted = counted
+none_is_suspended None options given old new none is counted = counted
+none_is_suspended (Some prefix) options (reply.Started machine instructions) old new none is counted = absurd cc
+none_is_suspended (Some prefix) options reply.NoMemory old new none is counted = absurd (is refl)
+none_is_suspended (Some prefix) options given old new none is counted = counted
 
 -- one was started where one was added
-one_is_suspended : (prefix : Option (List ℕ)) (polls : ℕ) (given : Reply) (old new : List (List ℕ)) (progress : Progress)
-    → progress ∷ [] ≡ started_by prefix polls given → HasStarted prefix given old new
+one_is_suspended : (prefix : Option (List ℕ)) (options : MachineOptions) (given : Reply) (old new : List (List ℕ)) (progress : Progress)
+    → progress ∷ [] ≡ started_by prefix options given → HasStarted prefix given old new
     → (length new ≡ length old + 1) × (length new ≤ MACHINES)
-one_is_suspended None polls given old new progress is counted = absurd cc
-one_is_suspended (Some prefix) polls (reply.Started machine instructions) old new progress is counted = counted
-one_is_suspended (Some prefix) polls given old new progress is counted = absurd cc
+one_is_suspended None options given old new progress is counted = absurd cc
+one_is_suspended (Some prefix) options (reply.Started machine instructions) old new progress is counted = counted
+one_is_suspended (Some prefix) options given old new progress is counted = absurd cc
 
 -- what is so after a request by which no machine was started
 going_on : (core core_after : CoreModel) (suspended_machines : List SuspendedMachine) (order order_after : List ℕ) (number : ℕ) (used : SuspendedMachine)
-    (prefix : Option (List ℕ)) (polls : ℕ) (given : Reply)
+    (prefix : Option (List ℕ)) (options : MachineOptions) (given : Reply)
     → IsGoing core suspended_machines order → IsSuspended used → core_after.applied ≡ core.applied + 1 → order_after ≡ order ++ number ∷ []
-    → started_by prefix polls given ≡ [] → given ≢ reply.NoMemory → HasStarted prefix given core.started core_after.started
+    → started_by prefix options given ≡ [] → given ≢ reply.NoMemory → HasStarted prefix given core.started core_after.started
     → IsGoing core_after (slice_set suspended_machines number used) order_after
-going_on core core_after suspended_machines order order_after number used prefix polls given going own applied order_is none is counted = record {
+going_on core core_after suspended_machines order order_after number used prefix options given going own applied order_is none is counted = record {
   is_suspended = is_suspended_set suspended_machines number used going.is_suspended own;
   counted = applied ∙ ap (λ n. n + 1) going.counted ∙ sym (ap length order_is ∙ length-append order (number ∷ []));
-  started = none_is_suspended prefix polls given core.started core_after.started none is counted ∙ going.started ∙ sym (length-set suspended_machines number used);
+  started = none_is_suspended prefix options given core.started core_after.started none is counted ∙ going.started ∙ sym (length-set suspended_machines number used);
   few = subst (λ n. n ≤ MACHINES) (sym (length-set suspended_machines number used)) going.few;
 }
 
 -- what is so after a request by which a machine was started, which was added
 going_more : (core core_after : CoreModel) (suspended_machines : List SuspendedMachine) (order order_after : List ℕ) (number : ℕ) (used started : SuspendedMachine)
-    (prefix : Option (List ℕ)) (polls : ℕ) (given : Reply)
+    (prefix : Option (List ℕ)) (options : MachineOptions) (given : Reply)
     → IsGoing core suspended_machines order → IsSuspended used → IsSuspended started → core_after.applied ≡ core.applied + 1 → order_after ≡ order ++ number ∷ []
-    → progress_of started ∷ [] ≡ started_by prefix polls given → HasStarted prefix given core.started core_after.started
+    → progress_of started ∷ [] ≡ started_by prefix options given → HasStarted prefix given core.started core_after.started
     → IsGoing core_after (slice_set suspended_machines number used ++ started ∷ []) order_after
-going_more core core_after suspended_machines order order_after number used started prefix polls given going own other applied order_is is has_started =
+going_more core core_after suspended_machines order order_after number used started prefix options given going own other applied order_is is has_started =
     let suspended_machines_before = slice_set suspended_machines number used in
-    let counted = one_is_suspended prefix polls given core.started core_after.started (progress_of started) is has_started in
+    let counted = one_is_suspended prefix options given core.started core_after.started (progress_of started) is has_started in
     let longer : length (suspended_machines_before ++ started ∷ []) ≡ length core_after.started =
     length-append suspended_machines_before (started ∷ []) ∙ ap (λ n. n + 1) (length-set suspended_machines number used ∙ sym going.started) ∙ sym counted.0 in
     record {
@@ -178,12 +179,12 @@ going_used core core_after suspended_machines suspended_machines_after order ord
     used : List SuspendedMachine
     used = slice_set suspended_machines number did.used
 
-    by : (more : Option SuspendedMachine) → map progress_of (option_to_list more) ≡ started_by prefix did.asked.machine.machine.polls given
+    by : (more : Option SuspendedMachine) → map progress_of (option_to_list more) ≡ started_by prefix did.asked.machine.machine.options given
         → IfSome more IsSuspended → IsGoing core_after (used ++ option_to_list more) order_after
     by None is own = subst (λ (all : List SuspendedMachine). IsGoing core_after all order_after) (sym (append-nil used))
-        (going_on core core_after suspended_machines order order_after number did.used prefix did.asked.machine.machine.polls given going did.is_suspended applied
+        (going_on core core_after suspended_machines order order_after number did.used prefix did.asked.machine.machine.options given going did.is_suspended applied
         order_is (sym is) did.memory has_started)
-    by (Some one) is own = going_more core core_after suspended_machines order order_after number did.used one prefix did.asked.machine.machine.polls given
+    by (Some one) is own = going_more core core_after suspended_machines order order_after number did.used one prefix did.asked.machine.machine.options given
         going did.is_suspended own applied order_is is has_started
 
 -- what a request comes to whose reply was used
@@ -205,6 +206,6 @@ takes_used core core_after words words_after suspended_machines suspended_machin
   used_is = did.rests;
   suspended_machines_are = ap (map progress_of) did.suspended_machines ∙ map-append progress_of (slice_set suspended_machines number did.used) (option_to_list did.more)
       ∙ (λ i. map-set progress_of suspended_machines number did.used i
-      ++ (did.started ∙ ap (λ (under : Option (List ℕ)). started_by under did.asked.machine.machine.polls given) prefix_is) i);
+      ++ (did.started ∙ ap (λ (under : Option (List ℕ)). started_by under did.asked.machine.machine.options given) prefix_is) i);
   order_is = order_is;
 }

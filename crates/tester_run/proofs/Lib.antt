@@ -10,3 +10,4 @@ pub mod Rows
 pub mod Workers
 pub mod Summaries
 pub mod Gathered
+pub mod Reading

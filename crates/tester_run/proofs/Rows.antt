@@ -1,6 +1,7 @@
 -- The premise of `complete`, met by worked words and bytes.
 use Rattle.std.proofs.Common.{◌≡◌, ◌∷◌, ℕ, List, [], Some, Ok, Err, codes, refl, sym, ◌∙◌, arith}
 use Rattle.outside.specs.Counts.{Rose}
+use Rattle.database_rules.specs.declared.Api.TheVariants.{V630}
 use Rattle.command_rules.specs.declared.args.RunArgs.{RunArgs}
 use Rattle.command_rules.specs.declared.args.Args.TheVariants as args
 use Rattle.command_rules.specs.Grammar.{args_of}
@@ -9,11 +10,11 @@ use Rattle.input_rules.specs.declared.input.Input.{Input}
 use Rattle.input_rules.specs.Forms.{input_of}
 use Rattle.line_rules.specs.Reading.{Fault, lines_of, read_line, read_lines, pair_at, text_of, pieces, piece_at}
 use Rattle.line_rules.specs.Printing.{printable}
-use Rattle.tester_run.specs.Faults.{InputFault, InLine, NoRequest, EndsEarly, HasFault}
+use Rattle.tester_run.specs.Faults.{InputFault, InLine, NoRequest, EndsEarly, NotInstruction, HasFault}
 use Rattle.tester_run.specs.Outcomes.{IsLawful}
 
 abbrev asked : RunArgs
-asked = record { prefix = codes "p"; seed = 0; polls = 10000 }
+asked = record { prefix = codes "p"; api = V630; seed = 0; polls = 10000 }
 
 no_rise : Rose 0 0 → ⊥
 no_rise rose = omega arith
@@ -35,6 +36,7 @@ lawful_run bytes input read = record {
     faultless (InLine fault) failed = not_both bytes input fault read failed
     faultless (NoRequest place machine) failed = elim failed [ ]
     faultless EndsEarly failed = elim failed [ ]
+    faultless (NotInstruction number) failed = elim failed [ ]
 
 no_line : IsLawful (args_of (codes "run" ∷ codes "p" ∷ codes "630" ∷ [])) (Some []) 0 0 0 0
 unfolding input_of read_lines lines_of

@@ -7,12 +7,12 @@ use Rattle.command_rules.specs.declared.args.Args.{Args}
 use Rattle.command_words.specs.declared.fault.ArgFault.{ArgFault}
 use Rattle.command_words.specs.declared.fault.ArgFault.TheVariants as arg
 use Rattle.tester_run.specs.Arguments.{reads_input}
-use Rattle.tester_run.specs.Faults.{InputFault, HasFault, line_in, order_in}
+use Rattle.tester_run.specs.Faults.{InputFault, HasFault, line_in, order_in, pair_in}
 use Rattle.tester_run.specs.Inputs.{IsFaulty, IsReadOut, IsRefusedBy}
 use Rattle.tester_run.specs.Outcomes.{usage, bad_input, read_fault, write_fault, out_of_memory, IsFinal, IsLawful, IsGenStatus}
 use Rattle.tester_run.specs.Tellings.{told, IsFaultLine, IsFaultTold, IsLineOf, IsShort, IsTold, IsUnasked, IsWritten, Refuses, Tells}
-use Rattle.tester_run.specs.declared.top.Refusal.{Refusal}
-use Rattle.tester_run.specs.declared.top.Refusal.TheVariants as refusal
+use Rattle.tester_run.specs.declared.fault.Refusal.{Refusal}
+use Rattle.tester_run.specs.declared.fault.Refusal.TheVariants as refusal
 
 -- a status is no other one
 other : {A : Type 0} (status n m : ℕ) → (n ≡ m → ⊥) → status ≡ n → status ≡ m → A
@@ -115,12 +115,12 @@ no_fault its bytes is = absurd is
 -- the line of a fault was told
 fault_refused : (its : Args) (fault : Option InputFault) (status : ℕ) (left after before_err after_err : Option (List ℕ))
     (at_first at_last faults faults_after : ℕ)
-    → IsFaulty its fault left after → IsFaultLine fault status before_err after_err faults faults_after
+    → reads_input its ≡ true → IsFaulty its fault left after → IsFaultLine fault status before_err after_err faults faults_after
     → IsRefused its status left after before_err after_err at_first at_last faults faults_after
-fault_refused its None status left after before_err after_err at_first at_last faults faults_after faulty (inl h) =
+fault_refused its None status left after before_err after_err at_first at_last faults faults_after reads faulty (inl h) =
     no_fault its h.1 h.2
-fault_refused its (Some fault) status left after before_err after_err at_first at_last faults faults_after faulty (inl h) = record {
-  is_status = inl (h.0, faulty.reads);
+fault_refused its (Some fault) status left after before_err after_err at_first at_last faults faults_after reads faulty (inl h) = record {
+  is_status = inl (h.0, reads);
   input = λ e. has_one its fault left faulty.fault_is;
   judged = λ e. faulty.out;
   read = λ e. other status 2 4 (λ z. omega arith) h.0 e;
@@ -131,25 +131,27 @@ fault_refused its (Some fault) status left after before_err after_err at_first a
         is_told = subst (λ (b : List ℕ). IsWritten b before_err after_err faults faults_after) h.2 h.3;
       });
 }
-fault_refused its fault status left after before_err after_err at_first at_last faults faults_after faulty (inr h) =
+fault_refused its fault status left after before_err after_err at_first at_last faults faults_after reads faulty (inr h) =
     short_refused its status left after before_err after_err at_first at_last faults faults_after h
 
 pub refused_by : (its : Args) (given : Refusal) (status : ℕ) (left after before_err after_err : Option (List ℕ))
     (at_first at_last faults faults_after : ℕ)
     → IsRefusedBy its given left after at_first at_last → Refuses given status before_err after_err faults faults_after
     → IsRefused its status left after before_err after_err at_first at_last faults faults_after
-refused_by its refusal.Source status left after before_err after_err at_first at_last faults faults_after rose h = record {
-  is_status = inr (inl (h.0, rose.0));
+refused_by its refusal.Source status left after before_err after_err at_first at_last faults faults_after given h = record {
+  is_status = inr (inl (h.0, given.reads (λ e. cc)));
   input = λ e. other status 4 2 (λ z. omega arith) h.0 e;
   judged = λ e. other status 4 2 (λ z. omega arith) h.0 e;
-  read = λ e. rose.1;
+  read = λ e. given.cause;
   tells = tells_read (Some its) status left before_err after_err faults faults_after h.0 h.1;
 }
-refused_by its (refusal.Line fault) status left after before_err after_err at_first at_last faults faults_after faulty h =
-    fault_refused its (line_in fault) status left after before_err after_err at_first at_last faults faults_after faulty h
-refused_by its (refusal.Order fault) status left after before_err after_err at_first at_last faults faults_after faulty h =
-    fault_refused its (order_in fault) status left after before_err after_err at_first at_last faults faults_after faulty h
-refused_by its refusal.Memory status left after before_err after_err at_first at_last faults faults_after free h =
+refused_by its (refusal.Line fault) status left after before_err after_err at_first at_last faults faults_after given h =
+    fault_refused its (line_in fault) status left after before_err after_err at_first at_last faults faults_after (given.reads (λ e. cc)) given.cause h
+refused_by its (refusal.Order fault) status left after before_err after_err at_first at_last faults faults_after given h =
+    fault_refused its (order_in fault) status left after before_err after_err at_first at_last faults faults_after (given.reads (λ e. cc)) given.cause h
+refused_by its (refusal.Pair fault) status left after before_err after_err at_first at_last faults faults_after given h =
+    fault_refused its (pair_in fault) status left after before_err after_err at_first at_last faults faults_after (given.reads (λ e. cc)) given.cause h
+refused_by its refusal.Memory status left after before_err after_err at_first at_last faults faults_after given h =
     short_refused its status left after before_err after_err at_first at_last faults faults_after h
 
 -- lawful words and a lawful input are refused for want of memory alone

@@ -1,11 +1,11 @@
 -- What is asked has no more workers than there may be.
-use Rattle.std.proofs.Common.{◌≡◌, ◌&&◌, ◌≤◌, ℕ, Bool, cond, true, false, true≢false, nat_le, leb-true, List, [], ◌∷◌, Option, Some, None, option_map, option_and_then, codes, bytes_eq, sym, subst, refl}
+use Rattle.std.proofs.Common.{◌≡◌, ◌&&◌, ◌≤◌, ℕ, Bool, cond, true, false, true≢false, nat_le, leb-true, List, [], ◌∷◌, Option, Some, None, option_map, option_and_then, sym, subst, refl}
 use Rattle.std.specs.Prelude.{IfSome}
 use Rattle.std.specs.Str.Parse.{digits_value}
 use Rattle.command_rules.specs.declared.args.RunArgs.{RunArgs}
 use Rattle.command_rules.specs.declared.args.Args.{Args}
-use Rattle.command_rules.specs.declared.args.Args.TheVariants.{Run, Replay, Gen}
-use Rattle.command_rules.specs.Grammar.{Argument, args_of, arguments_in, gen_in, given, is_numeral, number_in, placed, run_in, workers_of}
+use Rattle.command_rules.specs.declared.args.Args.TheVariants.{Run, Replay, Gen, Watch, Asm, Disasm}
+use Rattle.command_rules.specs.Grammar.{Argument, CommandName, args_of, arguments_in, asked_of, bare_of, command_in, command_names, gen_in, given, is_numeral, number_in, placed, run_in, workers_of, run, replay, gen, watch, asm, disasm}
 use Rattle.tester_run.specs.Arguments.{HasFewWorkers}
 
 abbrev AtMost : ℕ → Option ℕ → Type 0
@@ -42,16 +42,28 @@ few_of_gen : (found : Option ℕ) → AtMost 30 found → IfSome (option_map Gen
 few_of_gen None at_most = tt
 few_of_gen (Some workers) at_most = at_most
 
+few_of_bare : (command : Args) → HasFewWorkers command → (arguments : Option (List Argument))
+    → IfSome (option_and_then (bare_of command) arguments) HasFewWorkers
+few_of_bare command few None = tt
+few_of_bare command few (Some []) = few
+few_of_bare command few (Some (argument ∷ more)) = tt
+
+few_of : (command : CommandName) (words : List (List ℕ)) → IfSome (asked_of command words) HasFewWorkers
+few_of run words = few_of_run (run_in words)
+few_of replay words = few_of_replay (run_in words)
+few_of gen words = few_of_gen (gen_in words) (workers_at_most (arguments_in None words))
+few_of watch words = few_of_bare Watch tt (arguments_in None words)
+few_of asm words = few_of_bare Asm tt (arguments_in None words)
+few_of disasm words = few_of_bare Disasm tt (arguments_in None words)
+
+few_named : (command : Option CommandName) (words : List (List ℕ))
+    → IfSome (option_and_then (λ (name : CommandName). asked_of name words) command) HasFewWorkers
+few_named None words = tt
+few_named (Some command) words = few_of command words
+
 few_asked : (words : List (List ℕ)) → IfSome (args_of words) HasFewWorkers
 few_asked [] = tt
-few_asked (command ∷ words) = go (bytes_eq command (codes "run")) (bytes_eq command (codes "replay")) (bytes_eq command (codes "gen"))
-  where
-    go : (b c d : Bool)
-        → IfSome (cond b (option_map Run (run_in words)) (cond c (option_map Replay (run_in words)) (cond d (option_map Gen (gen_in words)) None))) HasFewWorkers
-    go true c d = few_of_run (run_in words)
-    go false true d = few_of_replay (run_in words)
-    go false false true = few_of_gen (gen_in words) (workers_at_most (arguments_in None words))
-    go false false false = tt
+few_asked (word ∷ words) = few_named (command_in command_names word) words
 
 pub has_few : (words : List (List ℕ)) (asked : Args) → args_of words ≡ Some asked → HasFewWorkers asked
 has_few words asked is = subst (λ (found : Option Args). IfSome found HasFewWorkers) is (few_asked words)

@@ -9,7 +9,7 @@ use Rattle.version_store.specs.Versions.{at, last_of}
 use Rattle.machine_rules.specs.Machines.{silent, resumed}
 use Rattle.fdb_calls.specs.declared.Reply.{Reply}
 use Rattle.fdb_calls.specs.declared.Reply.TheVariants.{NoMemory}
-use Rattle.machine_rules.specs.Runs.{AreByTurns, at_rest, start, started, started_by, run_from, turn_after}
+use Rattle.machine_rules.specs.Runs.{AreByTurns, at_rest, machine_options, run_from, start, started, started_by, turn_after}
 use Rattle.machine_rules.specs.Laws.{effort_in}
 use Rattle.suspended_machine.specs.declared.suspended.SuspendedMachine.{SuspendedMachine}
 use Rattle.suspended_machine.specs.SuspendedMachines.{progress_of, work_left, IsNearer, IsSuspended}
@@ -49,7 +49,7 @@ IsNextInTurn suspended_machines from (Some number) = IsFirstAsking suspended_mac
 
 -- machine 0 at rest, as it is started over what a core keeps
 abbrev pub IsStarted : SuspendedMachine → RunArgs → CoreModel → Type 0
-IsStarted suspended arguments core = progress_of suspended ≡ at_rest (silent (started 0 arguments.prefix arguments.polls
+IsStarted suspended arguments core = progress_of suspended ≡ at_rest (silent (started 0 arguments.prefix (machine_options arguments)
     (instruction_pairs arguments.prefix (at core.store (last_of core.store)))))
 
 -- so it is the one machine of each start whose world the core stands for
@@ -139,7 +139,7 @@ pub record HasUsed (prefix : Option (List ℕ)) (reply : Reply) (number : ℕ) (
   pub asks_on : Bool
   pub nearer : IsNearer asks_on asked.machine.machine used.machine.machine
   pub more : Option SuspendedMachine
-  pub started : map progress_of (option_to_list more) ≡ started_by prefix asked.machine.machine.polls reply
+  pub started : map progress_of (option_to_list more) ≡ started_by prefix asked.machine.machine.options reply
   pub more_is_suspended : IfSome more IsSuspended
   pub suspended_machines : after ≡ slice_set before number used ++ option_to_list more
   pub came_is : came ≡ (if is_some more then moved.Started else if asks_on then moved.AsksOn else moved.Finished)

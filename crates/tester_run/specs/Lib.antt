@@ -9,3 +9,4 @@ pub mod Outcomes
 pub mod Tellings
 pub mod Summaries
 pub mod Serving
+pub mod Refusals

@@ -1,5 +1,5 @@
--- What the exit statuses of a run say.
-use Rattle.std.specs.Prelude.{◌≡◌, ℕ, true, List, Option, Some, ◌⊎◌}
+-- What the exit statuses say.
+use Rattle.std.specs.Prelude.{◌≡◌, ℕ, true, List, Option, Some, IfSome, ◌⊎◌}
 use Rattle.std.specs.Io.KnownBytes.{Appends}
 use Rattle.outside.specs.Streams.{AppendsFront}
 use Rattle.std.specs.List.{AllByRecursion}
@@ -8,11 +8,10 @@ use Rattle.prefix_laws.specs.Prefixes.{GrantsAreApart}
 use Rattle.line_rules.specs.Inputs.{IsSmall}
 use Rattle.outside.specs.Counts.{Rose}
 use Rattle.command_rules.specs.declared.args.Args.{Args}
-use Rattle.input_rules.specs.declared.input.Input.{Input}
 use Rattle.machine_rules.specs.Runs.{Run, RunsTo}
-use Rattle.tester_run.specs.Arguments.{arguments_of, reads_input, IsInputOf}
+use Rattle.tester_run.specs.Arguments.{arguments_of, reads_input}
 use Rattle.tester_run.specs.Faults.{InputFault, HasFault}
-use Rattle.tester_run.specs.Rendered.{final_status, output_of, IsOrderOf}
+use Rattle.tester_run.specs.Rendered.{Answers}
 
 -- the statuses by what they say
 abbrev pub usage : ℕ
@@ -30,7 +29,7 @@ write_fault = 5
 abbrev pub out_of_memory : ℕ
 out_of_memory = 6
 
--- the run was made, and its dump was written whole: 0 or 3
+-- the command was done, and what it writes was written whole: 0 or 3
 abbrev pub IsFinal : ℕ → Type 0
 IsFinal status = (status ≡ 0) ⊎ (status ≡ 3)
 
@@ -42,39 +41,30 @@ IsSilent status = (status ≡ usage) ⊎ (status ≡ bad_input) ⊎ (status ≡ 
 abbrev pub IsGenStatus : ℕ → Type 0
 IsGenStatus status = (status ≡ 0) ⊎ (status ≡ write_fault) ⊎ (status ≡ out_of_memory)
 
--- The complete run of an order, of the input of what is asked: what the bytes that the source had say, where it tells them, or what
--- `gen` makes; an input may have these pairs. The order of a replay is the one that it was given, and that of `gen` is by turns.
-pub record HasRun (left : Option (List ℕ)) (asked : Args) (order : List ℕ) (run : Run) : Type 0 where
-  pub input : Input
-  pub is_input : IsInputOf asked left input
-  pub small : AllByRecursion IsSmall input.pairs
-  pub ordered : IsOrderOf asked input.pairs input.order order
-  pub runs : RunsTo input.pairs (arguments_of asked) order run
-
--- At a final status the status is that of the run, and its dump, or its summary, stands behind what out held.
+-- At a final status the command was answered with this status, and what it writes stands behind what out held.
 pub record Finishes (left : Option (List ℕ)) (asked : Args) (order : List ℕ) (status : ℕ) (before after : Option (List ℕ)) : Type 0 where
-  pub run : Run
-  pub has_run : HasRun left asked order run
-  pub status_is : status ≡ final_status asked run
-  pub written : Appends before after (output_of asked order run)
+  pub output : List ℕ
+  pub answers : Answers left asked order output status
+  pub written : Appends before after output
 
 -- Where out failed, a front of that stands behind what it held.
 pub record BreaksOff (left : Option (List ℕ)) (asked : Args) (order : List ℕ) (before after : Option (List ℕ)) : Type 0 where
-  pub run : Run
-  pub has_run : HasRun left asked order run
-  pub written : AppendsFront before after (output_of asked order run)
+  pub output : List ℕ
+  pub status : ℕ
+  pub answers : Answers left asked order output status
+  pub written : AppendsFront before after output
 
 -- In each complete run of the order, over pairs that an input may have, each transaction whose commit made a version would get the
 -- same ordinary reads run whole at its commit, unless a write without a write conflict range fell between.
 abbrev pub IsLegal : (asked : Args) → (order : List ℕ) → Type 0
-IsLegal asked order = (pairs : List (List ℕ × List ℕ)) (run : Run) → AllByRecursion IsSmall pairs
-    → RunsTo pairs (arguments_of asked) order run → IsOneLegalHistory run.world.setting.history
+IsLegal asked order = IfSome (arguments_of asked) (λ arguments. (pairs : List (List ℕ × List ℕ)) (run : Run)
+    → AllByRecursion IsSmall pairs → RunsTo pairs arguments order run → IsOneLegalHistory run.world.setting.history)
 
 -- In each complete run of the order, the numbers that the allocator of a subspace granted in transactions that committed are distinct,
 -- and no packed one begins with another, where all that wrote there past the first commit were calls of it that granted one.
 abbrev pub KeepsPrefixesApart : (asked : Args) → (order : List ℕ) → Type 0
-KeepsPrefixesApart asked order = (pairs : List (List ℕ × List ℕ)) (run : Run) → RunsTo pairs (arguments_of asked) order run
-    → GrantsAreApart run.world.setting.history
+KeepsPrefixesApart asked order = IfSome (arguments_of asked) (λ arguments. (pairs : List (List ℕ × List ℕ)) (run : Run)
+    → RunsTo pairs arguments order run → GrantsAreApart run.world.setting.history)
 
 -- An input is lawful, the order of a replay included, and the source counted no fault.
 pub record IsFaultless (asked : Args) (left : Option (List ℕ)) (read_faults read_after : ℕ) : Type 0 where

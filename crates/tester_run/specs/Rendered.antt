@@ -1,51 +1,80 @@
--- What a run renders.
-use Rattle.std.specs.Prelude.{◌≡◌, ℕ, List, ⊤}
+-- What each command answers: its order, what it writes, and the status where that was written whole.
+use Rattle.std.specs.Prelude.{◌≡◌, ℕ, List, [], Option, IfSome, Ok}
+use Rattle.std.specs.List.{AllByRecursion}
+use Rattle.line_rules.specs.Inputs.{IsSmall}
 use Rattle.command_rules.specs.declared.args.RunArgs.{RunArgs}
 use Rattle.command_rules.specs.declared.args.Args.{Args}
 use Rattle.command_rules.specs.declared.args.Args.TheVariants as args
+use Rattle.generator.specs.Generated.{gen_pairs}
+use Rattle.input_rules.specs.declared.input.Form.{Form}
+use Rattle.input_rules.specs.declared.input.Form.TheVariants as form
 use Rattle.input_rules.specs.declared.input.Input.{Input}
+use Rattle.input_rules.specs.Forms.{input_of}
 use Rattle.machine_rules.specs.Runs.{AreByTurns, Run, RunsTo, status_of, dump}
+use Rattle.text_commands.specs.Firings.{IsWatched}
+use Rattle.text_commands.specs.Texts.{IsAssembled, IsDisassembled}
 use Rattle.tester_run.specs.declared.running.Rendered.{Rendered}
-use Rattle.tester_run.specs.Arguments.{arguments_of}
+use Rattle.tester_run.specs.Arguments.{gen_arguments}
 use Rattle.tester_run.specs.Summaries.{summary}
 
 -- the dump and the status of the complete run of the order
-pub record Renders (pairs : List (List ℕ × List ℕ)) (arguments : RunArgs) (rendered : Rendered) : Type 0 where
+pub record Dumps (pairs : List (List ℕ × List ℕ)) (arguments : RunArgs) (order output : List ℕ) (status : ℕ) : Type 0 where
   pub run : Run
-  pub runs : RunsTo pairs arguments rendered.order run
-  pub dump_is : rendered.output.items ≡ dump rendered.order run
-  pub status_is : rendered.status ≡ status_of run
+  pub runs : RunsTo pairs arguments order run
+  pub dump_is : output ≡ dump order run
+  pub status_is : status ≡ status_of run
 
--- the summary of the complete run of the order
-pub record Summarizes (pairs : List (List ℕ × List ℕ)) (arguments : RunArgs) (rendered : Rendered) : Type 0 where
+abbrev pub Renders : (pairs : List (List ℕ × List ℕ)) → RunArgs → Rendered → Type 0
+Renders pairs arguments rendered = Dumps pairs arguments rendered.order rendered.output.items rendered.status
+
+-- the summary of the complete run of the order, and status 0
+pub record Sums (pairs : List (List ℕ × List ℕ)) (arguments : RunArgs) (order output : List ℕ) (status : ℕ) : Type 0 where
   pub run : Run
-  pub runs : RunsTo pairs arguments rendered.order run
-  pub summary_is : rendered.output.items ≡ summary rendered.order run
-  pub status_is : rendered.status ≡ 0
+  pub runs : RunsTo pairs arguments order run
+  pub summary_is : output ≡ summary order run
+  pub status_is : status ≡ 0
 
--- the order of a run is the one in which requests were taken, whichever it was; the order of a replay is the one that it was given,
--- and that of `gen` is by turns
-abbrev pub IsOrderOf : (asked : Args) → (pairs : List (List ℕ × List ℕ)) → (given order : List ℕ) → Type 0
-IsOrderOf (args.Run arguments) pairs given order = ⊤
-IsOrderOf (args.Gen workers) pairs given order = AreByTurns pairs (arguments_of (args.Gen workers)) order
-IsOrderOf (args.Replay arguments) pairs given order = order ≡ given
+abbrev pub Summarizes : (pairs : List (List ℕ × List ℕ)) → RunArgs → Rendered → Type 0
+Summarizes pairs arguments rendered = Sums pairs arguments rendered.order rendered.output.items rendered.status
 
--- what is written of a run: its dump; of `gen` the summary
-abbrev pub output_of : Args → (order : List ℕ) → Run → List ℕ
-output_of (args.Run arguments) order run = dump order run
-output_of (args.Replay arguments) order run = dump order run
-output_of (args.Gen workers) order run = summary order run
+-- ---- what each command answers over the bytes that the source had, where it tells them
 
--- the status where that was written whole
-abbrev pub final_status : Args → Run → ℕ
-final_status (args.Run arguments) run = status_of run
-final_status (args.Replay arguments) run = status_of run
-final_status (args.Gen workers) run = 0
+-- they say this input by a form, and an input may have these pairs
+pub record IsRead (its_form : Form) (left : Option (List ℕ)) (input : Input) : Type 0 where
+  pub is : IfSome left (λ bytes. input_of its_form bytes ≡ Ok input)
+  pub small : AllByRecursion IsSmall input.pairs
 
--- what was asked was rendered of an input: the output and the status of the complete run of the order
-pub record IsRendered (asked : Args) (input : Input) (rendered : Rendered) : Type 0 where
-  pub run : Run
-  pub runs : RunsTo input.pairs (arguments_of asked) rendered.order run
-  pub output_is : rendered.output.items ≡ output_of asked rendered.order run
-  pub status_is : rendered.status ≡ final_status asked run
-  pub ordered : IsOrderOf asked input.pairs input.order rendered.order
+-- of `run`: its order is the one in which requests were taken, whichever it was
+pub record IsOfRun (left : Option (List ℕ)) (arguments : RunArgs) (order output : List ℕ) (status : ℕ) : Type 0 where
+  pub input : Input
+  pub read : IsRead form.Run left input
+  pub dumps : Dumps input.pairs arguments order output status
+
+-- of `replay`: its order is the one that it was given
+pub record IsOfReplay (left : Option (List ℕ)) (arguments : RunArgs) (order output : List ℕ) (status : ℕ) : Type 0 where
+  pub input : Input
+  pub read : IsRead form.Replay left input
+  pub dumps : Dumps input.pairs arguments order output status
+  pub given : order ≡ input.order
+
+-- of `gen`: its pairs are made for so many workers, and its order is by turns
+pub record IsOfGen (workers : ℕ) (order output : List ℕ) (status : ℕ) : Type 0 where
+  pub small : AllByRecursion IsSmall (gen_pairs workers)
+  pub sums : Sums (gen_pairs workers) gen_arguments order output status
+  pub turns : AreByTurns (gen_pairs workers) gen_arguments order
+
+-- of a command on text: what the bytes become; it has no order
+pub record IsOfText (left : Option (List ℕ)) (Becomes : List ℕ → List ℕ → Type 0) (order output : List ℕ) (status : ℕ) : Type 0 where
+  pub bytes : List ℕ
+  pub are_all : IfSome left (λ all. all ≡ bytes)
+  pub becomes : Becomes bytes output
+  pub no_order : order ≡ []
+  pub status_is : status ≡ 0
+
+abbrev pub Answers : (left : Option (List ℕ)) → (asked : Args) → (order output : List ℕ) → (status : ℕ) → Type 0
+Answers left (args.Run arguments) order output status = IsOfRun left arguments order output status
+Answers left (args.Replay arguments) order output status = IsOfReplay left arguments order output status
+Answers left (args.Gen workers) order output status = IsOfGen workers order output status
+Answers left args.Watch order output status = IsOfText left IsWatched order output status
+Answers left args.Asm order output status = IsOfText left IsAssembled order output status
+Answers left args.Disasm order output status = IsOfText left IsDisassembled order output status

@@ -8,10 +8,10 @@ use Rattle.line_rules.specs.Reading.{BadLine, TooLong, TooMany}
 use Rattle.command_rules.specs.declared.args.Args.{Args}
 use Rattle.command_words.specs.declared.fault.ArgFault.{ArgFault}
 use Rattle.command_words.specs.declared.fault.ArgFault.TheVariants as arg
-use Rattle.tester_run.specs.Faults.{InputFault, InLine, NoRequest, EndsEarly, HasFault, line_in, order_in}
+use Rattle.tester_run.specs.Faults.{InputFault, InLine, NoRequest, EndsEarly, NotInstruction, HasFault, line_in, order_in, pair_in}
 use Rattle.tester_run.specs.Outcomes.{usage, bad_input, read_fault, write_fault, out_of_memory}
-use Rattle.tester_run.specs.declared.top.Refusal.{Refusal}
-use Rattle.tester_run.specs.declared.top.Refusal.TheVariants as refusal
+use Rattle.tester_run.specs.declared.fault.Refusal.{Refusal}
+use Rattle.tester_run.specs.declared.fault.Refusal.TheVariants as refusal
 
 -- the name of the program, a text and a line feed
 abbrev pub told : List ℕ → List ℕ
@@ -25,6 +25,7 @@ fault_text (InLine (TooMany line)) = codes "line " ++ decimal line ++ codes ": t
 fault_text (NoRequest place machine) =
     codes "order place " ++ decimal place ++ codes ": machine " ++ decimal machine ++ codes " has no request"
 fault_text EndsEarly = codes "order ends early"
+fault_text (NotInstruction line) = codes "line " ++ decimal line ++ codes ": not an instruction"
 
 -- bytes stand behind those that were written before; or a front of them, where a write failed
 abbrev pub IsWritten : List ℕ → Option (List ℕ) → Option (List ℕ) → ℕ → ℕ → Type 0
@@ -57,7 +58,7 @@ pub record IsShort (status : ℕ) (before after : Option (List ℕ)) (faults fau
   pub is_status : status ≡ out_of_memory
   pub is_told : IsTold (codes "out of memory") before after faults faults_after
 
--- the words ask for no run, or memory ran out, and that was told
+-- the words are no command, or memory ran out, and that was told
 abbrev pub IsUnasked : ArgFault → ℕ → Option (List ℕ) → Option (List ℕ) → ℕ → ℕ → Type 0
 IsUnasked arg.Usage status before after faults faults_after = (status ≡ usage) × IsTold (codes "usage") before after faults faults_after
 IsUnasked arg.NoMemory status before after faults faults_after = IsShort status before after faults faults_after
@@ -74,4 +75,5 @@ Refuses refusal.Source status before after faults faults_after =
     (status ≡ read_fault) × IsTold (codes "read fault") before after faults faults_after
 Refuses (refusal.Line fault) status before after faults faults_after = IsFaultLine (line_in fault) status before after faults faults_after
 Refuses (refusal.Order fault) status before after faults faults_after = IsFaultLine (order_in fault) status before after faults faults_after
+Refuses (refusal.Pair fault) status before after faults faults_after = IsFaultLine (pair_in fault) status before after faults faults_after
 Refuses refusal.Memory status before after faults faults_after = IsShort status before after faults faults_after

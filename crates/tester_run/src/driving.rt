@@ -175,9 +175,9 @@ fn use_and_suspended(
     requires asks { asks_at suspended_machines.old.items number ≡ true }
     ensures { IfOk result (HasUsed (Some prefix) reply number suspended_machines.old.items suspended_machines.new.items) }
 {
-    let polls = suspended_machines[number].machine.polls();
+    let options = suspended_machines[number].machine.options();
     let asks_on = use_given(&mut suspended_machines[number], &reply)?;
-    match suspended_started(alloc, Some(prefix), polls, reply)? {
+    match suspended_started(alloc, Some(prefix), options, reply)? {
         None => Ok(moved_by(asks_on)),
         Some(suspended) => {
             suspended_machines.push(suspended)?;

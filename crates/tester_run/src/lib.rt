@@ -1,7 +1,8 @@
 //! The top call: from the words and the bytes that come in to the dump that goes out.
 //!
 //! `tester` does all that the program does. It reads the words and the source, runs machine 0 and each machine that is started
-//! over the core, in threads, or by the order that a replay is given, renders the dump and writes it. Its clauses say what each
+//! over the core, in threads, or by the order that a replay is given, renders the dump and writes it. The commands on text, which run
+//! no machine, are those of `text_commands`. `answer` (`answering.rt`) has one arm for each command. The clauses of `tester` say what each
 //! exit status means; the definitions that they cite stand in `specs/Outcomes.antt`, `specs/Faults.antt` and
 //! `specs/Tellings.antt`, and, for the run and its dump, in `machine_rules`.
 //!
@@ -18,7 +19,7 @@
 //!   where all others have stopped.
 //! - The order of a replay is judged while it is followed, since whether a machine has a request at a place depends on the
 //!   run up to it. So an order that can't be followed costs the run of what stands before.
-//! - The order of a run has no condition of its own (`IsOrderOf`): any that leads to a complete run may be it. That it is the
+//! - The order of a run has no condition of its own (`IsOfRun`): any that leads to a complete run may be it. That it is the
 //!   one in which `serve` took the requests is a step of the proof (`settled` in `threading.rt`), and nothing that a clause
 //!   of `tester` could name.
 //! - The memory of the core and of the machines isn't given back at the end of a run (`rendered_of`), since the program ends
@@ -49,6 +50,7 @@
 //!   waits (`Client::prepare`).
 #![tactic(auto)]
 
+mod answering;
 mod clean;
 mod driving;
 mod dumping;

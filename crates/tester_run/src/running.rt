@@ -16,8 +16,10 @@ use crate::dumping::render;
 use crate::summing::summarize;
 use client_core::Core;
 use command_words::RunArgs;
+use database_rules::Api;
 use dump_text::Order;
 use key_bytes::{Bytes, Pairs};
+use machine_rules::machine_options;
 use outside::PcgWords;
 use stack_machine::{End, State};
 use std::alloc::{AllocError, Global};
@@ -81,6 +83,7 @@ fn gen_arguments(alloc: Global) -> Result<RunArgs, AllocError>
     let prefix = Bytes::from_slice(alloc, MAIN_PREFIX)?;
     Ok(RunArgs {
         prefix,
+        api: Api::V630,
         seed: GEN_SEED,
         polls: GEN_POLLS,
     })
@@ -187,7 +190,7 @@ pub fn first_suspended(
 {
     let instructions = core.instructions(arguments.prefix.as_slice())?;
     let prefix = arguments.prefix.copy()?;
-    let suspended = start_with(alloc, 0, prefix, arguments.polls, instructions)?;
+    let suspended = start_with(alloc, 0, prefix, machine_options(arguments), instructions)?;
     Ok(suspended)
 }
 

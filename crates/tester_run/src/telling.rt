@@ -1,11 +1,12 @@
 //! What is told on err.
 
 ghost use Rattle.std.specs.Prelude.{◌≡◌, ◌++◌, codes, decimal, IfOk, OnOk};
-ghost use Rattle.tester_run.specs.Faults.{NoRequest, line_in, order_in};
+ghost use Rattle.tester_run.specs.Faults.{NoRequest, line_in, order_in, pair_in};
 ghost use Rattle.tester_run.specs.Tellings.{told, fault_text, IsLineOf, IsWritten};
 
 use crate::fault::OrderFault;
 use dump_text::LineFault;
+use instr_text::DisFault;
 use itoa::Buffer;
 use outside::{Sink, write_all};
 use std::alloc::{AllocError, Global};
@@ -46,8 +47,8 @@ fn bad_line(alloc: Global, line: u64, place: u64) -> Result<Vec<u8>, AllocError>
     Ok(text)
 }
 
-// The line of what passes a limit.
-fn long_line(alloc: Global, line: u64, ending: &[u8]) -> Result<Vec<u8>, AllocError>
+// The line of what is wrong with a whole line.
+fn whole_line(alloc: Global, line: u64, ending: &[u8]) -> Result<Vec<u8>, AllocError>
     ensures { IfOk result (λ text. text.items ≡ told (codes "line " ++ decimal line ++ ending.now)) }
 {
     let mut text = begun(alloc, line)?;
@@ -62,9 +63,21 @@ pub(crate) fn line_fault_line(alloc: Global, fault: LineFault) -> Result<Vec<u8>
 {
     match fault {
         LineFault::BadLine { line, place } => { bad_line(alloc, u64::from(line), u64::from(place)) }
-        LineFault::TooLong { line } => long_line(alloc, u64::from(line), b": too long"),
-        LineFault::TooMany { line } => long_line(alloc, u64::from(line), b": too many"),
+        LineFault::TooLong { line } => whole_line(alloc, u64::from(line), b": too long"),
+        LineFault::TooMany { line } => whole_line(alloc, u64::from(line), b": too many"),
         LineFault::NoMemory => Err(AllocError),
+    }
+}
+
+// The line of a fault of a pair.
+pub(crate) fn pair_fault_line(alloc: Global, fault: DisFault) -> Result<Vec<u8>, AllocError>
+    ensures { IfOk result (λ text. IsLineOf (pair_in fault) text.items) }
+{
+    match fault {
+        DisFault::NotInstruction { line } => {
+            whole_line(alloc, u64::from(line), b": not an instruction")
+        }
+        DisFault::NoMemory => Err(AllocError),
     }
 }
 

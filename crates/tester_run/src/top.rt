@@ -1,33 +1,25 @@
 //! The top call.
 
-ghost use Rattle.std.specs.Prelude.{◌≡◌, ◌≢◌, ◌<◌, ◌≤◌, ◌⊎◌, ◌++◌, ℕ, true, false, List, [], None, Ok, codes, length, IfOk, IfErr, IfSome};
+ghost use Rattle.std.specs.Prelude.{◌≡◌, ◌≢◌, ◌≤◌, ◌⊎◌, true, false, [], None, codes, IfSome};
 ghost use Rattle.std.specs.Io.KnownBytes.{Appends, IsAtEnd};
 ghost use Rattle.outside.specs.Counts.{Rose};
 ghost use Rattle.outside.specs.Streams.{AppendsFront};
-ghost use Rattle.std.specs.List.{AllByRecursion};
-ghost use Rattle.line_rules.specs.Inputs.{IsSmall};
-ghost use Rattle.line_rules.specs.Reading.{input_limit};
 ghost use Rattle.command_rules.specs.Grammar.{args_of};
-ghost use Rattle.input_rules.specs.Forms.{input_of};
-ghost use Rattle.generator.specs.Generated.{gen_pairs};
-ghost use Rattle.tester_run.specs.Arguments.{form_of, reads_input, HasFewWorkers};
-ghost use Rattle.tester_run.specs.Faults.{InputFault, HasFault, IsMisfitOf, order_in};
+ghost use Rattle.tester_run.specs.Arguments.{reads_input};
+ghost use Rattle.tester_run.specs.Faults.{InputFault, HasFault};
 ghost use Rattle.tester_run.specs.Outcomes.{usage, bad_input, read_fault, write_fault, out_of_memory, IsFinal, IsLawful, IsLegal, IsSilent, IsGenStatus, Finishes, BreaksOff, KeepsPrefixesApart};
-ghost use Rattle.tester_run.specs.Inputs.{IsRefusedBy, IsJudged, IsMade, IsRead, IsReadOut, ReadsWithin};
-ghost use Rattle.tester_run.specs.Rendered.{IsRendered};
+ghost use Rattle.tester_run.specs.Inputs.{IsReadOut, ReadsWithin};
 ghost use Rattle.tester_run.specs.Tellings.{IsTold, IsUnasked, IsWritten, Refuses, Tells};
 
+use crate::answering::answer;
 use crate::driving::shows_short;
-use crate::fault::OrderFault;
-use crate::replaying::replay;
-use crate::running::{Rendered, generate};
-use crate::telling::{line_fault_line, order_fault_line, tell};
-use crate::threading::run_threaded;
-use command_words::{ArgFault, ArgWords, Args, read_args};
-use dump_text::{Form, Input, LineFault, Order, read_lines};
-use generator::gen_pairs;
+use crate::fault::Refusal;
+use crate::running::Rendered;
+use crate::telling::{line_fault_line, order_fault_line, pair_fault_line, tell};
+use command_words::{ArgFault, ArgWords, read_args};
+use dump_text::Order;
 use history_laws::runs_are_legal;
-use outside::{Gate, ReadOutcome, Sink, Source, read_all, write_all};
+use outside::{Gate, Sink, Source, write_all};
 use prefix_laws::prefixes_are_apart;
 use std::alloc::Global;
 use std::sync::Wait;
@@ -36,7 +28,7 @@ use std::thread::Threads;
 /// The words are no command.
 const USAGE: u8 = 1;
 
-/// A line of the input fits no rule or passes a limit, or the order of a replay can't be followed.
+/// A line of the input fits no rule or passes a limit, the order of a replay can't be followed, or a pair is no instruction.
 const BAD_INPUT: u8 = 2;
 
 /// The source failed.
@@ -48,9 +40,6 @@ const WRITE_FAULT: u8 = 5;
 /// Memory ran out.
 const OUT_OF_MEMORY: u8 = 6;
 
-/// The most bytes that are read: one more than an input may have.
-const READ_LIMIT: usize = 67_108_865;
-
 /// How a call of `tester` ended: its exit status, and the order in which requests were taken, where there is one.
 #[derive(Debug, Drop)]
 pub struct Outcome {
@@ -58,18 +47,10 @@ pub struct Outcome {
     pub order: Order,
 }
 
-// Why nothing is rendered.
-#[derive(Debug, Drop)]
-enum Refusal {
-    Source,
-    Line(LineFault),
-    Order(OrderFault),
-    Memory,
-}
-
-/// Does all that the program does: reads the words after the program's name and the source to its end, runs machine 0 over
-/// what it read, in threads or by the order that a replay is given, and writes the dump to `out`. With `gen` it reads nothing, runs
-/// the pairs that are made for so many workers by turns, and writes the summary. The clauses say what each status means.
+/// Does all that the program does: reads the words after the program's name and the source to its end, does what the command
+/// asks over what it read, and writes what comes of it to `out`: the dump of a run or of a replay, when each watch fires, the lines
+/// of a text's instructions, or the text of such lines. With `gen` it reads nothing, runs the pairs that are made for so many
+/// workers by turns, and writes the summary. The clauses say what each status means.
 pub fn tester<
     R: Threads + Wait + Sync + Clone + Drop + Send + 'static,
     S: Source,
@@ -90,14 +71,14 @@ pub fn tester<
     ensures words { args_of args.now ≡ None → (result.status ≡ usage) ⊎ (result.status ≡ out_of_memory) }
     ensures unread { result.status ≡ usage → source.new ≡ source.old }
 
-    // 2: a line has a fault or passes a limit, or the order can't be followed, where the source tells its bytes; it was read
-    // to its end or its limit.
+    // 2: a line has a fault or passes a limit, the order can't be followed, or a pair is no instruction, where the source tells
+    // its bytes; it was read to its end or its limit.
     ensures input { result.status ≡ bad_input → IfSome (args_of args.now) (λ asked. IfSome (S.left source.old)
         (λ bytes. (fault : InputFault) × HasFault asked bytes fault)) }
     ensures judged { result.status ≡ bad_input → IsReadOut (S.left source.old) (S.left source.new) }
 
-    // 0 and 3: the dump of the complete run of the order was written, and the status is that of the run; of `gen` the summary, and
-    // the status is 0.
+    // 0 and 3: what the command answers was written, and the status is the one that it answers: the dump of the complete run of
+    // the order, and the status of that run; of `gen` the summary, and of the commands on text the text, and 0.
     ensures finished { IsFinal result.status → IfSome (args_of args.now) (λ asked.
         Finishes (S.left source.old) asked result.order result.status (K.written out.old) (K.written out.new)) }
     ensures end { IsFinal result.status → IfSome (args_of args.now) (λ asked. reads_input asked ≡ true → IsAtEnd (S.left source.new)) }
@@ -125,7 +106,7 @@ pub fn tester<
     ensures no_order { IsSilent result.status → result.order ≡ [] }
     ensures statuses { result.status ≤ out_of_memory }
 
-    // Where the words and the input are lawful and nothing fails, there is a dump, or a summary, unless memory ran out.
+    // Where the words and the input are lawful and nothing fails, the command is done, unless memory ran out.
     ensures complete { IsLawful (args_of args.now) (S.left source.old) (S.faults source.old) (S.faults source.new)
         (K.faults out.old) (K.faults out.new) → IsFinal result.status ⊎ (result.status ≡ out_of_memory) }
 
@@ -142,7 +123,7 @@ pub fn tester<
         Ok(asked) => asked,
         Err(fault) => return without_command(alloc, err, fault),
     };
-    match rendered(rt, alloc, gate, &asked, source) {
+    match answer(rt, alloc, gate, &asked, source) {
         Err(refusal) => refused(alloc, err, &refusal),
         Ok(rendered) => {
             runs_are_legal();
@@ -200,138 +181,11 @@ fn refused<N: Sink>(alloc: Global, err: &mut N, refusal: &Refusal) -> Outcome
         Refusal::Memory => return out_of_memory(alloc, err),
         Refusal::Line(fault) => line_fault_line(alloc, *fault),
         Refusal::Order(fault) => order_fault_line(alloc, *fault),
+        Refusal::Pair(fault) => pair_fault_line(alloc, *fault),
     };
     match line {
         Ok(line) => without_order(alloc, err, BAD_INPUT, line.as_slice()),
         Err(_) => out_of_memory(alloc, err),
-    }
-}
-
-// What is asked, rendered over what the source's bytes say, or why there is nothing.
-fn rendered<R: Threads + Wait + Sync + Clone + Drop + Send + 'static, S: Source, G: Gate>(
-    rt: &R,
-    alloc: Global,
-    gate: &G,
-    asked: &Args,
-    source: &mut S,
-) -> Result<Rendered, Refusal>
-    requires few { HasFewWorkers asked.now }
-    ensures made { IfOk result (IsMade asked.now (S.left source.old) (S.left source.new)) }
-    ensures refused { IfErr result (λ refusal. IsRefusedBy asked.now refusal (S.left source.old) (S.left source.new)
-        (S.faults source.old) (S.faults source.new)) }
-    ensures limit { ReadsWithin (S.left source.old) (S.left source.new) }
-    ensures generated { reads_input asked.now ≡ false → source.new ≡ source.old }
-{
-    match find_input(alloc, asked, source) {
-        Err(refusal) => Err(refusal),
-        Ok(input) => match make(rt, alloc, gate, asked, input) {
-            Ok(rendered) => Ok(rendered),
-            Err(OrderFault::NoMemory) => Err(Refusal::Memory),
-            Err(fault) => Err(Refusal::Order(fault)),
-        },
-    }
-}
-
-// What is asked, rendered over an input.
-fn make<R: Threads + Wait + Sync + Clone + Drop + Send + 'static, G: Gate>(
-    rt: &R,
-    alloc: Global,
-    gate: &G,
-    asked: &Args,
-    input: Input,
-) -> Result<Rendered, OrderFault>
-    ensures made { IfOk result (IsRendered asked.now input) }
-    ensures refused { IfErr result (λ fault. IsMisfitOf asked.now fault input) }
-{
-    match asked {
-        Args::Run(arguments) => Ok(run_threaded(rt, alloc, gate, arguments, input.pairs)?),
-        Args::Replay(arguments) => replay(alloc, arguments, input),
-        Args::Gen(_) => Ok(generate(alloc, input.pairs)?),
-    }
-}
-
-// The form of the input of what is asked.
-fn form_of(asked: &Args) -> Form
-    ensures { result ≡ form_of asked.now }
-{
-    match asked {
-        Args::Run(_) | Args::Gen(_) => Form::Run,
-        Args::Replay(_) => Form::Replay,
-    }
-}
-
-// The input of what is asked, or why there is none.
-fn find_input<S: Source>(alloc: Global, asked: &Args, source: &mut S) -> Result<Input, Refusal>
-    requires { HasFewWorkers asked.now }
-    ensures found { IfOk result (IsRead asked.now (S.left source.old) (S.left source.new)) }
-    ensures refused { IfErr result (λ refusal. IsRefusedBy asked.now refusal (S.left source.old) (S.left source.new)
-        (S.faults source.old) (S.faults source.new)) }
-    ensures limit { ReadsWithin (S.left source.old) (S.left source.new) }
-    ensures generated { reads_input asked.now ≡ false → source.new ≡ source.old }
-{
-    match asked {
-        Args::Gen(workers) => made_input(alloc, *workers),
-        Args::Run(_) | Args::Replay(_) => read_input(alloc, asked, source),
-    }
-}
-
-// The input of `gen`.
-fn made_input(alloc: Global, workers: u32) -> Result<Input, Refusal>
-    requires { workers ≤ 30 }
-    ensures made { IfOk result (λ input. input.pairs ≡ gen_pairs workers) }
-    ensures small { IfOk result (λ input. AllByRecursion IsSmall input.pairs) }
-    ensures refused { IfErr result (λ refusal. refusal ≡ Refusal.Memory) }
-{
-    match gen_pairs(alloc, workers) {
-        Ok(pairs) => Ok(Input {
-            order: Order::new(alloc),
-            pairs,
-        }),
-        Err(_) => Err(Refusal::Memory),
-    }
-}
-
-// What the source's bytes say as the input of what is asked, which are read to their end, or why they say nothing.
-fn read_input<S: Source>(alloc: Global, asked: &Args, source: &mut S) -> Result<Input, Refusal>
-    requires { reads_input asked.now ≡ true }
-    ensures found { IfOk result (IsRead asked.now (S.left source.old) (S.left source.new)) }
-    ensures refused { IfErr result (λ refusal. IsRefusedBy asked.now refusal (S.left source.old) (S.left source.new)
-        (S.faults source.old) (S.faults source.new)) }
-    ensures limit { ReadsWithin (S.left source.old) (S.left source.new) }
-{
-    match read_all(alloc, source, READ_LIMIT) {
-        ReadOutcome::Whole(bytes) => judge(alloc, asked, &bytes),
-        ReadOutcome::Full(bytes) => Err(refuse(alloc, asked, &bytes)),
-        ReadOutcome::Failed => Err(Refusal::Source),
-        ReadOutcome::NoMemory => Err(Refusal::Memory),
-    }
-}
-
-// What these bytes say, or the first fault of their lines.
-fn judge(alloc: Global, asked: &Args, bytes: &[u8]) -> Result<Input, Refusal>
-    requires { reads_input asked.now ≡ true }
-    ensures found { IfOk result (λ input. input_of (form_of asked.now) bytes.now ≡ Ok input) }
-    ensures small { IfOk result (λ input. AllByRecursion IsSmall input.pairs) }
-    ensures refused { IfErr result (λ refusal. IsJudged asked.now refusal bytes.now) }
-    ensures past { IfErr result (λ refusal. (rest : List ℕ) → input_limit < length bytes.now
-        → IsJudged asked.now refusal (bytes.now ++ rest)) }
-{
-    match read_lines(alloc, bytes, form_of(asked)) {
-        Ok(input) => Ok(input),
-        Err(LineFault::NoMemory) => Err(Refusal::Memory),
-        Err(fault) => Err(Refusal::Line(fault)),
-    }
-}
-
-// The first fault of bytes that are more than an input may have. It is that of all that may stand behind them.
-fn refuse(alloc: Global, asked: &Args, bytes: &[u8]) -> Refusal
-    requires reads { reads_input asked.now ≡ true }
-    requires long { input_limit < length bytes.now }
-    ensures { (rest : List ℕ) → IsJudged asked.now result (bytes.now ++ rest) }
-{
-    match judge(alloc, asked, bytes) {
-        Ok(_) => unreachable!(),
-        Err(refusal) => refusal,
     }
 }
 

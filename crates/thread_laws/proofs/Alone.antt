@@ -7,6 +7,7 @@ use mathlib.Core.List.{cons≢nil, head-eq_of_cons-eq, tail-eq_of_cons-eq}
 use Rattle.fdb_calls.specs.declared.Request.{Request}
 use Rattle.fdb_calls.specs.declared.Reply.{Reply}
 use Rattle.fdb_calls.specs.declared.Reply.TheVariants as reply
+use Rattle.machine_rules.specs.declared.MachineOptions.{MachineOptions}
 use Rattle.machine_rules.specs.declared.State.{State}
 use Rattle.machine_rules.specs.declared.State.TheVariants as state
 use Rattle.machine_rules.specs.Machines.{Act, Does, Stops, Asks, Machine, Progress, acted, advance, advance_by, next_act, replied_act, resumed, resumed_by, silent}
@@ -50,7 +51,7 @@ rested_anew (suc more) progress =
     by true kept = kept
     by false kept = refl
 
--- A machine keeps its number, its prefix, its instructions and its polls
+-- A machine keeps its number, its prefix, its instructions and its options
 pub at_rest_anew : (progress : Progress) → anew (at_rest progress).machine ≡ anew progress.machine
 unfolding at_rest
 at_rest_anew progress = rested_anew (length progress.machine.instructions - progress.machine.next + 1) progress
@@ -186,23 +187,23 @@ one_more begun now requests replies request reply alone asks = record {
 
 -- ---- machines that are started
 
-pub anew_started : (number : ℕ) (prefix : List ℕ) (polls : ℕ) (pairs : List (List ℕ × List ℕ))
-    → anew (started number prefix polls pairs) ≡ started number prefix polls pairs
+pub anew_started : (number : ℕ) (prefix : List ℕ) (options : MachineOptions) (pairs : List (List ℕ × List ℕ))
+    → anew (started number prefix options pairs) ≡ started number prefix options pairs
 unfolding started
-anew_started number prefix polls pairs = refl
+anew_started number prefix options pairs = refl
 
 -- a machine that was started is as its machine begins
-pub started_begun : (number : ℕ) (prefix : List ℕ) (polls : ℕ) (pairs : List (List ℕ × List ℕ)) (progress : Progress)
-    → progress ≡ at_rest (silent (started number prefix polls pairs)) → progress ≡ begun_as progress.machine
-started_begun number prefix polls pairs progress is =
-    let same : anew progress.machine ≡ started number prefix polls pairs =
-    ap (λ (p : Progress). anew p.machine) is ∙ at_rest_anew (silent (started number prefix polls pairs))
-    ∙ anew_started number prefix polls pairs in
+pub started_begun : (number : ℕ) (prefix : List ℕ) (options : MachineOptions) (pairs : List (List ℕ × List ℕ)) (progress : Progress)
+    → progress ≡ at_rest (silent (started number prefix options pairs)) → progress ≡ begun_as progress.machine
+started_begun number prefix options pairs progress is =
+    let same : anew progress.machine ≡ started number prefix options pairs =
+    ap (λ (p : Progress). anew p.machine) is ∙ at_rest_anew (silent (started number prefix options pairs))
+    ∙ anew_started number prefix options pairs in
     is ∙ ap (λ (m : Machine). at_rest (silent m)) (sym same)
 
-pub begun_by : (prefix : Option (List ℕ)) (polls : ℕ) (given : Reply) (progress : Progress) → progress ∷ [] ≡ started_by prefix polls given
+pub begun_by : (prefix : Option (List ℕ)) (options : MachineOptions) (given : Reply) (progress : Progress) → progress ∷ [] ≡ started_by prefix options given
     → progress ≡ begun_as progress.machine
-begun_by None polls given progress is = absurd (cons≢nil is)
-begun_by (Some prefix) polls (reply.Started number pairs) progress is =
-    started_begun number prefix polls pairs progress (head-eq_of_cons-eq is)
-begun_by (Some prefix) polls given progress is = absurd (cons≢nil is)
+begun_by None options given progress is = absurd (cons≢nil is)
+begun_by (Some prefix) options (reply.Started number pairs) progress is =
+    started_begun number prefix options pairs progress (head-eq_of_cons-eq is)
+begun_by (Some prefix) options given progress is = absurd (cons≢nil is)

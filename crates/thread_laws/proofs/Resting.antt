@@ -7,12 +7,13 @@ use Rattle.command_rules.specs.declared.args.RunArgs.{RunArgs}
 use Rattle.fdb_calls.specs.declared.Request.{Request}
 use Rattle.fdb_calls.specs.declared.Reply.{Reply}
 use Rattle.fdb_calls.specs.declared.Reply.TheVariants as reply
+use Rattle.machine_rules.specs.declared.MachineOptions.{MachineOptions}
 use Rattle.machine_rules.specs.declared.State.{State}
 use Rattle.machine_rules.specs.declared.State.TheVariants as state
 use Rattle.machine_rules.specs.Machines.{Act, Does, Stops, Asks, Machine, Progress, acted, advance, replied_act, resumed, resumed_by, silent}
 use Rattle.machine_rules.specs.Laws.{AsksAwaiting, advance_asks, is_awaiting}
 use Rattle.machine_rules.specs.Worlds.{begun, instruction_pairs, newest, step}
-use Rattle.machine_rules.specs.Runs.{Run, at_rest, has_request, has_stopped, is_complete, is_running, replied, rested, run_from, start, start_prefix, started, started_by, take_place, taken}
+use Rattle.machine_rules.specs.Runs.{Run, at_rest, has_request, has_stopped, is_complete, is_running, machine_options, replied, rested, run_from, start, start_prefix, started, started_by, take_place, taken}
 
 -- ---- one machine
 
@@ -61,11 +62,11 @@ await_append : (machines more : List Progress) → AllAwait machines → AllAwai
 await_append [] more all others = others
 await_append (machine ∷ machines) more all others = (all.0, await_append machines more all.1 others)
 
-started_await : (prefix : Option (List ℕ)) (polls : ℕ) (given : Reply) → AllAwait (started_by prefix polls given)
-started_await None polls given = tt
-started_await (Some prefix) polls (reply.Started number pairs) =
-    (at_rest_asks (silent (started number prefix polls pairs)) (silent_asks (started number prefix polls pairs)), tt)
-started_await (Some prefix) polls given = tt
+started_await : (prefix : Option (List ℕ)) (options : MachineOptions) (given : Reply) → AllAwait (started_by prefix options given)
+started_await None options given = tt
+started_await (Some prefix) options (reply.Started number pairs) =
+    (at_rest_asks (silent (started number prefix options pairs)) (silent_asks (started number prefix options pairs)), tt)
+started_await (Some prefix) options given = tt
 
 taken_await : (run : Run) (number : ℕ) (progress : Progress) (asks : Option Request) (next : Run) → AllAwait run.machines
     → option_map (λ (request : Request). replied run number progress.machine request (step run.world request)) asks ≡ Some next
@@ -75,10 +76,10 @@ taken_await run number progress (Some request) next all e =
     let stepped = step run.world request in
     let used = at_rest (resumed progress.machine stepped.reply) in
     subst (λ (r : Run). AllAwait r.machines) (same_Some (replied run number progress.machine request stepped) next e)
-    (await_append (slice_set run.machines number used) (started_by (start_prefix request) progress.machine.polls stepped.reply)
+    (await_append (slice_set run.machines number used) (started_by (start_prefix request) progress.machine.options stepped.reply)
     (await_set run.machines number used
     (at_rest_asks (resumed progress.machine stepped.reply) (resumed_asks progress.machine stepped.reply)) all)
-    (started_await (start_prefix request) progress.machine.polls stepped.reply))
+    (started_await (start_prefix request) progress.machine.options stepped.reply))
 
 place_await : (number : ℕ) (run next : Run) → AllAwait run.machines → take_place number run ≡ Some next → AllAwait next.machines
 unfolding take_place
@@ -131,7 +132,7 @@ none_of (machine ∷ machines) (suc number) all stops =
 -- machine 0, as it is started
 abbrev first_machine : List (List ℕ × List ℕ) → RunArgs → Machine
 first_machine pairs arguments =
-    started 0 arguments.prefix arguments.polls (instruction_pairs arguments.prefix (newest (begun pairs arguments)))
+    started 0 arguments.prefix (machine_options arguments) (instruction_pairs arguments.prefix (newest (begun pairs arguments)))
 
 -- no machine of a complete run has a next request
 pub complete_asks_none : (pairs : List (List ℕ × List ℕ)) (arguments : RunArgs) (order : List ℕ) (run : Run)

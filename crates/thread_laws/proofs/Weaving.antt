@@ -9,9 +9,10 @@ use Rattle.fdb_calls.specs.declared.Request.{Request}
 use Rattle.fdb_calls.specs.declared.Reply.{Reply}
 use Rattle.fdb_calls.specs.declared.Reply.TheVariants as reply
 use Rattle.command_rules.specs.declared.args.RunArgs.{RunArgs}
+use Rattle.machine_rules.specs.declared.MachineOptions.{MachineOptions}
 use Rattle.machine_rules.specs.Worlds.{World, begun, instruction_pairs, newest, step}
 use Rattle.machine_rules.specs.Machines.{Machine, Progress, resumed, silent}
-use Rattle.machine_rules.specs.Runs.{Run, at_rest, has_stopped, replied, run_from, start, started, started_by, start_prefix, take_place, taken}
+use Rattle.machine_rules.specs.Runs.{Run, at_rest, has_stopped, machine_options, replied, run_from, start, start_prefix, started, started_by, take_place, taken}
 use Rattle.thread_laws.specs.Alone.{IsAlone, after_reply}
 use Rattle.thread_laws.specs.Weaving.{Place, AreSteps, IsAloneAt, WeaveToARun, WeaveToAWholeRun, all_begun, order_of, places_of, replies_at, requests_at, started_at}
 use Rattle.thread_laws.proofs.Lists.{EachAt, each_append, each_one, each_set, get_front, get_set_other, get_set_same, same_places, set_front, there}
@@ -31,76 +32,76 @@ other_places number place places other =
 -- ---- a run, and what is still to come
 
 -- the machines of a run, and those that are still to be started at these places
-abbrev all_from : Run → (polls : ℕ) → List Place → List Progress
-all_from run polls places = run.machines ++ flat_map (started_at polls) places
+abbrev all_from : Run → MachineOptions → List Place → List Progress
+all_from run options places = run.machines ++ flat_map (started_at options) places
 
-record IsAhead (run : Run) (polls : ℕ) (places : List Place) (last : World) (ends : List Progress) : Type 0 where
+record IsAhead (run : Run) (options : MachineOptions) (places : List Place) (last : World) (ends : List Progress) : Type 0 where
   pub steps : AreSteps run.world places last
-  pub as_long : EachAt (λ (progress : Progress). progress.machine.polls ≡ polls) run.machines
+  pub same_options : EachAt (λ (progress : Progress). progress.machine.options ≡ options) run.machines
   pub in_time : (front rest : List Place) (place : Place) → places ≡ front ++ place ∷ rest
-      → place.machine < length (all_from run polls front)
-  pub as_many : length ends ≡ length (all_from run polls places)
-  pub alone : (number : ℕ) (first now : Progress) → slice_get (all_from run polls places) number ≡ Some first
+      → place.machine < length (all_from run options front)
+  pub as_many : length ends ≡ length (all_from run options places)
+  pub alone : (number : ℕ) (first now : Progress) → slice_get (all_from run options places) number ≡ Some first
       → slice_get ends number ≡ Some now → IsAloneAt number places first now
 
 -- the run after a place, whose machine had come to this
-abbrev after_place : Run → ℕ → Place → Progress → Run
-after_place run polls place progress = record {
+abbrev after_place : Run → MachineOptions → Place → Progress → Run
+after_place run options place progress = record {
   world = (step run.world place.request).world;
-  machines = slice_set run.machines place.machine (after_reply progress place.reply) ++ started_at polls place;
+  machines = slice_set run.machines place.machine (after_reply progress place.reply) ++ started_at options place;
 }
 
-place_taken : (run : Run) (polls : ℕ) (place : Place) (progress : Progress) → slice_get run.machines place.machine ≡ Some progress
-    → progress.asks ≡ Some place.request → (step run.world place.request).reply ≡ place.reply → progress.machine.polls ≡ polls
-    → take_place place.machine run ≡ Some (after_place run polls place progress)
+place_taken : (run : Run) (options : MachineOptions) (place : Place) (progress : Progress) → slice_get run.machines place.machine ≡ Some progress
+    → progress.asks ≡ Some place.request → (step run.world place.request).reply ≡ place.reply → progress.machine.options ≡ options
+    → take_place place.machine run ≡ Some (after_place run options place progress)
 unfolding take_place
-place_taken run polls place progress is asks replies as_long =
+place_taken run options place progress is asks replies same_options =
     ap (option_and_then (λ (p : Progress). taken run place.machine p)) is
     ∙ ap (option_map (λ (request : Request). replied run place.machine progress.machine request (step run.world request))) asks
     ∙ (λ i. Some (record {
       world = (step run.world place.request).world;
       machines = slice_set run.machines place.machine (at_rest (resumed progress.machine (replies i)))
-          ++ started_by (start_prefix place.request) (as_long i) (replies i);
+          ++ started_by (start_prefix place.request) (same_options i) (replies i);
     }))
 
-polls_are : (number : ℕ) (prefix : List ℕ) (polls : ℕ) (pairs : List (List ℕ × List ℕ))
-    → (started number prefix polls pairs).polls ≡ polls
+options_are : (number : ℕ) (prefix : List ℕ) (options : MachineOptions) (pairs : List (List ℕ × List ℕ))
+    → (started number prefix options pairs).options ≡ options
 unfolding started
-polls_are number prefix polls pairs = refl
+options_are number prefix options pairs = refl
 
--- a machine that was started has these polls
-started_polls : (prefix : Option (List ℕ)) (polls : ℕ) (given : Reply)
-    → EachAt (λ (progress : Progress). progress.machine.polls ≡ polls) (started_by prefix polls given)
-started_polls None polls given = λ i x e. absurd (none-some x e)
-started_polls (Some prefix) polls (reply.Started number pairs) =
-    each_one (λ (progress : Progress). progress.machine.polls ≡ polls) (at_rest (silent (started number prefix polls pairs)))
-    (ap (λ (m : Machine). m.polls) (at_rest_anew (silent (started number prefix polls pairs))) ∙ polls_are number prefix polls pairs)
-started_polls (Some prefix) polls given = λ i x e. absurd (none-some x e)
+-- a machine that was started has these options
+started_options : (prefix : Option (List ℕ)) (options : MachineOptions) (given : Reply)
+    → EachAt (λ (progress : Progress). progress.machine.options ≡ options) (started_by prefix options given)
+started_options None options given = λ i x e. absurd (none-some x e)
+started_options (Some prefix) options (reply.Started number pairs) =
+    each_one (λ (progress : Progress). progress.machine.options ≡ options) (at_rest (silent (started number prefix options pairs)))
+    (ap (λ (m : Machine). m.options) (at_rest_anew (silent (started number prefix options pairs))) ∙ options_are number prefix options pairs)
+started_options (Some prefix) options given = λ i x e. absurd (none-some x e)
 
 -- as many machines, with those of one place more
-as_many_after : (run : Run) (polls : ℕ) (place : Place) (progress : Progress) (places : List Place)
-    → length (all_from run polls (place ∷ places)) ≡ length (all_from (after_place run polls place progress) polls places)
-as_many_after run polls place progress places =
-    ap length (sym (append_assoc run.machines (started_at polls place) (flat_map (started_at polls) places)))
-    ∙ length-append (run.machines ++ started_at polls place) (flat_map (started_at polls) places)
-    ∙ ap (λ n. n + length (flat_map (started_at polls) places))
-    (length-append run.machines (started_at polls place)
-    ∙ ap (λ n. n + length (started_at polls place)) (sym (length-set run.machines place.machine (after_reply progress place.reply)))
-    ∙ sym (length-append (slice_set run.machines place.machine (after_reply progress place.reply)) (started_at polls place)))
-    ∙ sym (length-append (after_place run polls place progress).machines (flat_map (started_at polls) places))
+as_many_after : (run : Run) (options : MachineOptions) (place : Place) (progress : Progress) (places : List Place)
+    → length (all_from run options (place ∷ places)) ≡ length (all_from (after_place run options place progress) options places)
+as_many_after run options place progress places =
+    ap length (sym (append_assoc run.machines (started_at options place) (flat_map (started_at options) places)))
+    ∙ length-append (run.machines ++ started_at options place) (flat_map (started_at options) places)
+    ∙ ap (λ n. n + length (flat_map (started_at options) places))
+    (length-append run.machines (started_at options place)
+    ∙ ap (λ n. n + length (started_at options place)) (sym (length-set run.machines place.machine (after_reply progress place.reply)))
+    ∙ sym (length-append (slice_set run.machines place.machine (after_reply progress place.reply)) (started_at options place)))
+    ∙ sym (length-append (after_place run options place progress).machines (flat_map (started_at options) places))
 
 -- the same machines, but that of the place
-set_after : (run : Run) (polls : ℕ) (place : Place) (progress : Progress) (places : List Place) → place.machine < length run.machines
-    → all_from (after_place run polls place progress) polls places
-    ≡ slice_set (all_from run polls (place ∷ places)) place.machine (after_reply progress place.reply)
-set_after run polls place progress places inside =
-    append_assoc (slice_set run.machines place.machine (after_reply progress place.reply)) (started_at polls place)
-    (flat_map (started_at polls) places)
-    ∙ sym (set_front run.machines (flat_map (started_at polls) (place ∷ places)) place.machine
+set_after : (run : Run) (options : MachineOptions) (place : Place) (progress : Progress) (places : List Place) → place.machine < length run.machines
+    → all_from (after_place run options place progress) options places
+    ≡ slice_set (all_from run options (place ∷ places)) place.machine (after_reply progress place.reply)
+set_after run options place progress places inside =
+    append_assoc (slice_set run.machines place.machine (after_reply progress place.reply)) (started_at options place)
+    (flat_map (started_at options) places)
+    ∙ sym (set_front run.machines (flat_map (started_at options) (place ∷ places)) place.machine
     (after_reply progress place.reply) inside)
 
-module _ (run : Run) (polls : ℕ) (place : Place) (places : List Place) (last : World) (ends : List Progress)
-    (ahead : IsAhead run polls (place ∷ places) last ends) where
+module _ (run : Run) (options : MachineOptions) (place : Place) (places : List Place) (last : World) (ends : List Progress)
+    (ahead : IsAhead run options (place ∷ places) last ends) where
   inside : place.machine < length run.machines
   inside = subst (λ (ms : List Progress). place.machine < length ms) (append-nil run.machines) (ahead.in_time [] places place refl)
 
@@ -110,8 +111,8 @@ module _ (run : Run) (polls : ℕ) (place : Place) (places : List Place) (last :
   is_there : slice_get run.machines place.machine ≡ Some its_progress
   is_there = (there run.machines place.machine inside).1
 
-  is_first : slice_get (all_from run polls (place ∷ places)) place.machine ≡ Some its_progress
-  is_first = get_front run.machines (flat_map (started_at polls) (place ∷ places)) place.machine its_progress is_there
+  is_first : slice_get (all_from run options (place ∷ places)) place.machine ≡ Some its_progress
+  is_first = get_front run.machines (flat_map (started_at options) (place ∷ places)) place.machine its_progress is_there
 
   -- the machine of the place, and the rest of what it asks
   own_alone : (now : Progress) → slice_get ends place.machine ≡ Some now
@@ -123,14 +124,14 @@ module _ (run : Run) (polls : ℕ) (place : Place) (places : List Place) (last :
 
   its_end : (now : Progress) × (slice_get ends place.machine ≡ Some now)
   its_end = there ends place.machine (subst (λ n. place.machine < n) (sym ahead.as_many)
-      (slice_get_within (all_from run polls (place ∷ places)) place.machine its_progress is_first))
+      (slice_get_within (all_from run options (place ∷ places)) place.machine its_progress is_first))
 
   its_asks : its_progress.asks ≡ Some place.request
   its_asks = first_asked its_progress its_end.0 place.request (requests_at (places_of place.machine places)) place.reply
       (replies_at (places_of place.machine places)) (own_alone its_end.0 its_end.1)
 
   abbrev machines_after : List Progress
-  machines_after = slice_set (all_from run polls (place ∷ places)) place.machine (after_reply its_progress place.reply)
+  machines_after = slice_set (all_from run options (place ∷ places)) place.machine (after_reply its_progress place.reply)
 
   alone_after : (number : ℕ) (first now : Progress)
       → slice_get machines_after number ≡ Some first
@@ -139,69 +140,69 @@ module _ (run : Run) (polls : ℕ) (place : Place) (places : List Place) (last :
   alone_after number first now is e (yes same) =
       subst (λ n. IsAloneAt n places first now) same
       (subst (λ (p : Progress). IsAloneAt place.machine places p now)
-      (sym (get_set_same (all_from run polls (place ∷ places)) place.machine (after_reply its_progress place.reply) first
+      (sym (get_set_same (all_from run options (place ∷ places)) place.machine (after_reply its_progress place.reply) first
       (subst (λ n. slice_get machines_after n ≡ Some first) (sym same) is)))
       (later_alone its_progress now place.request (requests_at (places_of place.machine places)) place.reply
       (replies_at (places_of place.machine places)) (own_alone now (ap (slice_get ends) same ∙ e))))
   alone_after number first now is e (no other) =
       subst (λ (own : List Place). IsAlone first (requests_at own) (replies_at own) now) (other_places number place places other)
       (ahead.alone number first now
-      (sym (get_set_other (all_from run polls (place ∷ places)) place.machine number (after_reply its_progress place.reply) other)
+      (sym (get_set_other (all_from run options (place ∷ places)) place.machine number (after_reply its_progress place.reply) other)
       ∙ is)
       e)
 
-  ahead_after : IsAhead (after_place run polls place its_progress) polls places last ends
+  ahead_after : IsAhead (after_place run options place its_progress) options places last ends
   ahead_after = record {
     steps = ahead.steps.1;
-    as_long = each_append (λ (progress : Progress). progress.machine.polls ≡ polls)
-        (slice_set run.machines place.machine (after_reply its_progress place.reply)) (started_at polls place)
-        (each_set (λ (progress : Progress). progress.machine.polls ≡ polls) run.machines place.machine
+    same_options = each_append (λ (progress : Progress). progress.machine.options ≡ options)
+        (slice_set run.machines place.machine (after_reply its_progress place.reply)) (started_at options place)
+        (each_set (λ (progress : Progress). progress.machine.options ≡ options) run.machines place.machine
         (after_reply its_progress place.reply)
-        ahead.as_long
-        (ap (λ (m : Machine). m.polls) (after_reply-anew its_progress place.reply) ∙ ahead.as_long place.machine its_progress is_there))
-        (started_polls (start_prefix place.request) polls place.reply);
+        ahead.same_options
+        (ap (λ (m : Machine). m.options) (after_reply-anew its_progress place.reply) ∙ ahead.same_options place.machine its_progress is_there))
+        (started_options (start_prefix place.request) options place.reply);
     in_time = λ front rest next e.
-        subst (λ n. next.machine < n) (as_many_after run polls place its_progress front)
+        subst (λ n. next.machine < n) (as_many_after run options place its_progress front)
         (ahead.in_time (place ∷ front) rest next (ap (λ (l : List Place). place ∷ l) e));
-    as_many = ahead.as_many ∙ as_many_after run polls place its_progress places;
+    as_many = ahead.as_many ∙ as_many_after run options place its_progress places;
     alone = λ number first now is e.
         alone_after number first now
-        (subst (λ (ms : List Progress). slice_get ms number ≡ Some first) (set_after run polls place its_progress places inside) is)
+        (subst (λ (ms : List Progress). slice_get ms number ≡ Some first) (set_after run options place its_progress places inside) is)
         e (ℕ_discrete place.machine number);
   }
 
-  place_leads : take_place place.machine run ≡ Some (after_place run polls place its_progress)
-  place_leads = place_taken run polls place its_progress is_there its_asks ahead.steps.0 (ahead.as_long place.machine its_progress is_there)
+  place_leads : take_place place.machine run ≡ Some (after_place run options place its_progress)
+  place_leads = place_taken run options place its_progress is_there its_asks ahead.steps.0 (ahead.same_options place.machine its_progress is_there)
 
-leads : (places : List Place) (run : Run) (polls : ℕ) (last : World) (ends : List Progress) → IsAhead run polls places last ends
+leads : (places : List Place) (run : Run) (options : MachineOptions) (last : World) (ends : List Progress) → IsAhead run options places last ends
     → run_from (order_of places) run ≡ Some (record { world = last; machines = ends })
 unfolding run_from
-leads [] run polls last ends ahead =
+leads [] run options last ends ahead =
     let all = append-nil run.machines in
     let same = same_places run.machines ends (ahead.as_many ∙ ap length all)
     (λ number first now is e.
     (ahead.alone number first now (subst (λ (ms : List Progress). slice_get ms number ≡ Some first) (sym all) is) e).now_is) in
     (λ i. Some (record { world = ahead.steps i; machines = same i }))
-leads (place ∷ places) run polls last ends ahead =
-    ap (option_and_then (λ (next : Run). run_from (order_of places) next)) (place_leads run polls place places last ends ahead)
-    ∙ leads places (after_place run polls place (its_progress run polls place places last ends ahead)) polls last ends
-    (ahead_after run polls place places last ends ahead)
+leads (place ∷ places) run options last ends ahead =
+    ap (option_and_then (λ (next : Run). run_from (order_of places) next)) (place_leads run options place places last ends ahead)
+    ∙ leads places (after_place run options place (its_progress run options place places last ends ahead)) options last ends
+    (ahead_after run options place places last ends ahead)
 
 -- ---- from the start
 
 -- machine 0, as it is started
 abbrev first_machine : List (List ℕ × List ℕ) → RunArgs → Machine
 first_machine pairs arguments =
-    started 0 arguments.prefix arguments.polls (instruction_pairs arguments.prefix (newest (begun pairs arguments)))
+    started 0 arguments.prefix (machine_options arguments) (instruction_pairs arguments.prefix (newest (begun pairs arguments)))
 
 pub weave_to_a_run : WeaveToARun
 weave_to_a_run pairs arguments places world machines woven =
-    leads places (start pairs arguments) arguments.polls world machines (record {
+    leads places (start pairs arguments) (machine_options arguments) world machines (record {
       steps = woven.steps;
-      as_long = each_one (λ (progress : Progress). progress.machine.polls ≡ arguments.polls)
+      same_options = each_one (λ (progress : Progress). progress.machine.options ≡ machine_options arguments)
           (at_rest (silent (first_machine pairs arguments)))
-          (ap (λ (m : Machine). m.polls) (at_rest_anew (silent (first_machine pairs arguments)))
-          ∙ polls_are 0 arguments.prefix arguments.polls (instruction_pairs arguments.prefix (newest (begun pairs arguments))));
+          (ap (λ (m : Machine). m.options) (at_rest_anew (silent (first_machine pairs arguments)))
+          ∙ options_are 0 arguments.prefix (machine_options arguments) (instruction_pairs arguments.prefix (newest (begun pairs arguments))));
       in_time = woven.in_time;
       as_many = woven.as_many;
       alone = woven.alone;
@@ -209,29 +210,29 @@ weave_to_a_run pairs arguments places world machines woven =
 
 -- ---- complete runs
 
-started_rest : (number : ℕ) (prefix : List ℕ) (polls : ℕ) (pairs : List (List ℕ × List ℕ))
-    → IsAtRest (at_rest (silent (started number prefix polls pairs)))
+started_rest : (number : ℕ) (prefix : List ℕ) (options : MachineOptions) (pairs : List (List ℕ × List ℕ))
+    → IsAtRest (at_rest (silent (started number prefix options pairs)))
 unfolding started
-started_rest number prefix polls pairs = at_rest_rests (silent (started number prefix polls pairs)) (λ e. refl)
+started_rest number prefix options pairs = at_rest_rests (silent (started number prefix options pairs)) (λ e. refl)
 
-place_rests : (prefix : Option (List ℕ)) (polls : ℕ) (given : Reply) → EachAt IsAtRest (started_by prefix polls given)
-place_rests None polls given = λ i x e. absurd (none-some x e)
-place_rests (Some prefix) polls (reply.Started number pairs) =
-    each_one IsAtRest (at_rest (silent (started number prefix polls pairs))) (started_rest number prefix polls pairs)
-place_rests (Some prefix) polls given = λ i x e. absurd (none-some x e)
+place_rests : (prefix : Option (List ℕ)) (options : MachineOptions) (given : Reply) → EachAt IsAtRest (started_by prefix options given)
+place_rests None options given = λ i x e. absurd (none-some x e)
+place_rests (Some prefix) options (reply.Started number pairs) =
+    each_one IsAtRest (at_rest (silent (started number prefix options pairs))) (started_rest number prefix options pairs)
+place_rests (Some prefix) options given = λ i x e. absurd (none-some x e)
 
-places_rest : (polls : ℕ) (places : List Place) → EachAt IsAtRest (flat_map (started_at polls) places)
-places_rest polls [] = λ i x e. absurd (none-some x e)
-places_rest polls (place ∷ places) =
-    each_append IsAtRest (started_at polls place) (flat_map (started_at polls) places)
-    (place_rests (start_prefix place.request) polls place.reply) (places_rest polls places)
+places_rest : (options : MachineOptions) (places : List Place) → EachAt IsAtRest (flat_map (started_at options) places)
+places_rest options [] = λ i x e. absurd (none-some x e)
+places_rest options (place ∷ places) =
+    each_append IsAtRest (started_at options place) (flat_map (started_at options) places)
+    (place_rests (start_prefix place.request) options place.reply) (places_rest options places)
 
 all_rest : (pairs : List (List ℕ × List ℕ)) (arguments : RunArgs) (places : List Place) → EachAt IsAtRest (all_begun pairs arguments places)
 all_rest pairs arguments places =
-    each_append IsAtRest (start pairs arguments).machines (flat_map (started_at arguments.polls) places)
+    each_append IsAtRest (start pairs arguments).machines (flat_map (started_at (machine_options arguments)) places)
     (each_one IsAtRest (at_rest (silent (first_machine pairs arguments)))
-    (started_rest 0 arguments.prefix arguments.polls (instruction_pairs arguments.prefix (newest (begun pairs arguments)))))
-    (places_rest arguments.polls places)
+    (started_rest 0 arguments.prefix (machine_options arguments) (instruction_pairs arguments.prefix (newest (begun pairs arguments)))))
+    (places_rest (machine_options arguments) places)
 
 list_all_each : (test : Progress → Bool) (machines : List Progress) → EachAt (λ (progress : Progress). test progress ≡ true) machines
     → list_all test machines ≡ true

@@ -4,9 +4,10 @@ use Rattle.std.specs.List.{All}
 use Rattle.fdb_calls.specs.declared.Request.{Request}
 use Rattle.fdb_calls.specs.declared.Reply.{Reply}
 use Rattle.command_rules.specs.declared.args.RunArgs.{RunArgs}
+use Rattle.machine_rules.specs.declared.MachineOptions.{MachineOptions}
 use Rattle.machine_rules.specs.Worlds.{World, begun, step}
 use Rattle.machine_rules.specs.Machines.{Progress}
-use Rattle.machine_rules.specs.Runs.{RunsTo, run_from, start, start_prefix, started_by}
+use Rattle.machine_rules.specs.Runs.{RunsTo, machine_options, run_from, start, start_prefix, started_by}
 use Rattle.thread_laws.specs.Alone.{IsAlone}
 
 -- a place of an order: the machine whose request was taken there, the request, and its reply
@@ -42,13 +43,13 @@ AreSteps world [] last = world ≡ last
 AreSteps world (place ∷ places) last =
     ((step world place.request).reply ≡ place.reply) × AreSteps (step world place.request).world places last
 
--- the machine that was started at a place, if one was, at its first request or its end; its waits have so many polls
-abbrev pub started_at : (polls : ℕ) → Place → List Progress
-started_at polls place = started_by (start_prefix place.request) polls place.reply
+-- the machine that was started at a place, if one was, with these options, at its first request or its end
+abbrev pub started_at : MachineOptions → Place → List Progress
+started_at options place = started_by (start_prefix place.request) options place.reply
 
 -- all machines by their numbers, each at its first request or its end: machine 0, and those that were started at these places
 abbrev pub all_begun : List (List ℕ × List ℕ) → RunArgs → List Place → List Progress
-all_begun pairs arguments places = (start pairs arguments).machines ++ flat_map (started_at arguments.polls) places
+all_begun pairs arguments places = (start pairs arguments).machines ++ flat_map (started_at (machine_options arguments)) places
 
 -- each place is of a machine that had been started before it
 abbrev pub AreInTime : List (List ℕ × List ℕ) → RunArgs → List Place → Type 0

@@ -24,7 +24,7 @@ use Rattle.network.specs.Pairing.{receipts_of, AsksAsOne}
 use Rattle.command_rules.specs.declared.args.RunArgs.{RunArgs}
 use Rattle.machine_rules.specs.Worlds.{World, begun, instruction_pairs, newest}
 use Rattle.machine_rules.specs.Machines.{Machine, Progress, silent}
-use Rattle.machine_rules.specs.Runs.{at_rest, start, start_prefix, started, started_by}
+use Rattle.machine_rules.specs.Runs.{at_rest, machine_options, start, start_prefix, started, started_by}
 use Rattle.thread_laws.specs.Alone.{IsAlone, anew, begun_as}
 use Rattle.thread_laws.specs.Weaving.{Place, AreSteps, IsAloneAt, all_begun, places_of, places_over, replies_at, requests_at, started_at}
 use Rattle.thread_laws.proofs.Alone.{anew_started, at_rest_anew, started_begun}
@@ -33,7 +33,7 @@ use Rattle.suspended_machine.specs.declared.suspended.SuspendedMachine.{Suspende
 use Rattle.suspended_machine.specs.SuspendedMachines.{progress_of}
 use Rattle.machine_threads.specs.declared.threaded.ThreadedMachine.{ThreadedMachine}
 use Rattle.machine_threads.specs.Threaded.{history_of, machine_in, replies_to, requests_in, HasEnded, HasStarted}
-use Rattle.machine_threads.specs.Teams.{HasPollsOf, IsTeamOf}
+use Rattle.machine_threads.specs.Teams.{HasOptionsOf, IsTeamOf}
 use Rattle.machine_threads.specs.Closing.{AreSettled, IsSettledOf, IsTakenOf}
 use Rattle.machine_threads.proofs.Asking.{answered_by_receipts, asked_by_sender, requests_with_over}
 use Rattle.threaded_run_laws.specs.Threads.{AreThreaded, IsBegunIn, IsFirst, IsStartedIn}
@@ -113,9 +113,9 @@ module _ (taken : List (ℕ × Post)) (order : List ℕ) (receipts : List (Recei
           length-map (places_of (machine_in starter).number front) (λ (p : Place). p.request),
         )
 
-    pub started_in : (arguments : RunArgs) → (machine_in starter).polls ≡ arguments.polls
+    pub started_in : (arguments : RunArgs) → (machine_in starter).options ≡ machine_options arguments
         → IsStartedIn arguments places (machine_in other).number (begun_as (machine_in other))
-    started_in arguments polls =
+    started_in arguments options =
         let number = (machine_in starter).number in
         let by_it = has_started.by_it in
         let at = answered_at starter starter_taken starter_settled in
@@ -133,7 +133,7 @@ module _ (taken : List (ℕ × Post)) (order : List ℕ) (receipts : List (Recei
           place = own.place;
           rest = stands.rest;
           is = stands.is;
-          starts = by_it.is ∙ (λ i. started_by (start_prefix (sym own.request_is i)) (polls i) (sym own.reply_is i));
+          starts = by_it.is ∙ (λ i. started_by (start_prefix (sym own.request_is i)) (options i) (sym own.reply_is i));
           none_yet = none_of_it (machine_in other).number (stands.front ++ own.place ∷ []) (λ front rest place is its.
               let shorter = within_front stands.front front rest own.place place is in
               let before = asked_before front (rest ++ stands.rest) place

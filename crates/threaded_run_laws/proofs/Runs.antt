@@ -22,9 +22,10 @@ use Rattle.network.specs.Posts.{posts_of, asked_in}
 use Rattle.network.specs.Serving.{is_started, replies_of, started_by as count_started}
 use Rattle.network.specs.Pairing.{AsksAsOne}
 use Rattle.command_rules.specs.declared.args.RunArgs.{RunArgs}
+use Rattle.machine_rules.specs.declared.MachineOptions.{MachineOptions}
 use Rattle.machine_rules.specs.Worlds.{begun, instruction_pairs, newest}
 use Rattle.machine_rules.specs.Machines.{Machine, Progress, silent}
-use Rattle.machine_rules.specs.Runs.{RunsTo, at_rest, start, start_prefix, started, started_by}
+use Rattle.machine_rules.specs.Runs.{RunsTo, at_rest, machine_options, start, start_prefix, started, started_by}
 use Rattle.thread_laws.specs.Alone.{anew, begun_as}
 use Rattle.thread_laws.specs.Weaving.{Place, IsAloneAt, places_over, started_at}
 use Rattle.thread_laws.proofs.Alone.{anew_started, at_rest_anew, started_begun}
@@ -34,7 +35,7 @@ use Rattle.suspended_machine.specs.declared.suspended.SuspendedMachine.{Suspende
 use Rattle.suspended_machine.specs.SuspendedMachines.{progress_of, IsSuspended}
 use Rattle.machine_threads.specs.declared.threaded.ThreadedMachine.{ThreadedMachine}
 use Rattle.machine_threads.specs.Threaded.{history_of, machine_in, HasEnded, HasStarted}
-use Rattle.machine_threads.specs.Teams.{HasPollsOf}
+use Rattle.machine_threads.specs.Teams.{HasOptionsOf}
 use Rattle.machine_threads.specs.Closing.{IsSettledOf, IsTakenOf}
 use Rattle.threaded_run_laws.specs.declared.service.CoreService.{CoreService}
 use Rattle.threaded_run_laws.specs.Serving.{CoreAnswers}
@@ -48,33 +49,33 @@ use Rattle.threaded_run_laws.proofs.Gathered.{alone_at, started_in}
 
 -- ---- how many machines there are
 
-one_by_reply : (prefix : Option (List ℕ)) (polls : ℕ) (given : Reply)
-    → length (started_by prefix polls given) ≤ cond (is_started (Some given)) 1 0
-one_by_reply None polls given = omega arith
-one_by_reply (Some prefix) polls (reply.Started number pairs) = omega arith
-one_by_reply (Some prefix) polls given = omega arith
+one_by_reply : (prefix : Option (List ℕ)) (options : MachineOptions) (given : Reply)
+    → length (started_by prefix options given) ≤ cond (is_started (Some given)) 1 0
+one_by_reply None options given = omega arith
+one_by_reply (Some prefix) options (reply.Started number pairs) = omega arith
+one_by_reply (Some prefix) options given = omega arith
 
 -- as many were started at places as replies say so, at most
-few_started : (polls : ℕ) (asked : List (ℕ × Request)) (replies : List Reply)
-    → length (flat_map (started_at polls) (places_over asked replies)) ≤ count_started (map Some replies)
-few_started polls [] replies = omega arith
-few_started polls (first ∷ asked) [] = omega arith
-few_started polls (first ∷ asked) (given ∷ replies) =
+few_started : (options : MachineOptions) (asked : List (ℕ × Request)) (replies : List Reply)
+    → length (flat_map (started_at options) (places_over asked replies)) ≤ count_started (map Some replies)
+few_started options [] replies = omega arith
+few_started options (first ∷ asked) [] = omega arith
+few_started options (first ∷ asked) (given ∷ replies) =
     omega (
       arith,
-      length-append (started_by (start_prefix first.1) polls given)
-          (flat_map (started_at polls) (places_over asked replies)),
-      one_by_reply (start_prefix first.1) polls given,
+      length-append (started_by (start_prefix first.1) options given)
+          (flat_map (started_at options) (places_over asked replies)),
+      one_by_reply (start_prefix first.1) options given,
       sum_by-cons (λ (r : Option Reply). cond (is_started r) 1 0) (Some given) (map Some replies),
-      few_started polls asked replies,
+      few_started options asked replies,
     )
 
 -- ---- machine 0
 
-number_is : (number : ℕ) (prefix : List ℕ) (polls : ℕ) (pairs : List (List ℕ × List ℕ))
-    → ((started number prefix polls pairs).number ≡ number) × ((started number prefix polls pairs).polls ≡ polls)
+number_is : (number : ℕ) (prefix : List ℕ) (options : MachineOptions) (pairs : List (List ℕ × List ℕ))
+    → ((started number prefix options pairs).number ≡ number) × ((started number prefix options pairs).options ≡ options)
 unfolding started
-number_is number prefix polls pairs = (refl, refl)
+number_is number prefix options pairs = (refl, refl)
 
 -- ---- all that came back
 
@@ -101,24 +102,24 @@ module _ (pairs : List (List ℕ × List ℕ)) (arguments : RunArgs) (before aft
 
   -- the first machine is machine 0
 
-  first_started : progress_of first.suspended ≡ at_rest (silent (started 0 arguments.prefix arguments.polls its_pairs))
+  first_started : progress_of first.suspended ≡ at_rest (silent (started 0 arguments.prefix (machine_options arguments) its_pairs))
   first_started = sym (head-eq_of_cons-eq gathered.starts)
 
-  first_anew : anew (machine_in first) ≡ started 0 arguments.prefix arguments.polls its_pairs
+  first_anew : anew (machine_in first) ≡ started 0 arguments.prefix (machine_options arguments) its_pairs
   first_anew =
       ap (λ (p : Progress). anew p.machine) first_started
-      ∙ at_rest_anew (silent (started 0 arguments.prefix arguments.polls its_pairs))
-      ∙ anew_started 0 arguments.prefix arguments.polls its_pairs
+      ∙ at_rest_anew (silent (started 0 arguments.prefix (machine_options arguments) its_pairs))
+      ∙ anew_started 0 arguments.prefix (machine_options arguments) its_pairs
 
-  first_polls : (machine_in first).polls ≡ arguments.polls
-  first_polls = ap (λ (m : Machine). m.polls) first_anew ∙ (number_is 0 arguments.prefix arguments.polls its_pairs).1
+  first_options : (machine_in first).options ≡ machine_options arguments
+  first_options = ap (λ (m : Machine). m.options) first_anew ∙ (number_is 0 arguments.prefix (machine_options arguments) its_pairs).1
 
   own_first : IsFirst pairs arguments (machine_in gathered.team.own).number (begun_as (machine_in gathered.team.own))
   own_first = record {
     number_is = ap (λ (m : Machine). m.number) (gathered.team.later.begun ∙ first_anew)
-        ∙ (number_is 0 arguments.prefix arguments.polls its_pairs).0;
+        ∙ (number_is 0 arguments.prefix (machine_options arguments) its_pairs).0;
     starts = gathered.starts
-        ∙ ap (λ (p : Progress). p ∷ []) (started_begun 0 arguments.prefix arguments.polls its_pairs (progress_of first.suspended) first_started
+        ∙ ap (λ (p : Progress). p ∷ []) (started_begun 0 arguments.prefix (machine_options arguments) its_pairs (progress_of first.suspended) first_started
         ∙ sym (ap (λ (m : Machine). at_rest (silent m)) gathered.team.later.begun));
   }
 
@@ -143,7 +144,7 @@ module _ (pairs : List (List ℕ × List ℕ)) (arguments : RunArgs) (before aft
       inr (started_in taken order receipts served.replies gathered.served.order_is served.given_are served.as_many starter other
       (each_of_all (IsTakenOf taken) ended ended_taken place starter there)
       (each_of_all (IsSettledOf order receipts) ended ended_settled place starter there) other_taken has_started arguments
-      (each_of_all (HasPollsOf first) ended gathered.team.same_polls place starter there ∙ first_polls))
+      (each_of_all (HasOptionsOf first) ended gathered.team.same_options place starter there ∙ first_options))
 
   others_begun : All IsBegun gathered.team.others
   others_begun = λ k d inside.
@@ -230,9 +231,9 @@ module _ (pairs : List (List ℕ × List ℕ)) (arguments : RunArgs) (before aft
     within = within;
     as_many = omega (
       arith,
-      length-append (start pairs arguments).machines (flat_map (started_at arguments.polls) places),
+      length-append (start pairs arguments).machines (flat_map (started_at (machine_options arguments)) places),
       ap length gathered.starts,
-      few_started arguments.polls asked served.replies,
+      few_started (machine_options arguments) asked served.replies,
       ap count_started served.given_are,
       gathered.as_many,
       length_permutation ended numbered gathered.settled.all_of_them,

@@ -10,9 +10,10 @@ use Rattle.fdb_calls.specs.declared.Request.TheVariants as request
 use Rattle.fdb_calls.specs.declared.Reply.{Reply}
 use Rattle.fdb_calls.specs.declared.Reply.TheVariants as reply
 use Rattle.command_rules.specs.declared.args.RunArgs.{RunArgs}
+use Rattle.machine_rules.specs.declared.MachineOptions.{MachineOptions}
 use Rattle.machine_rules.specs.Worlds.{World, begun}
 use Rattle.machine_rules.specs.Machines.{Machine, Progress, silent}
-use Rattle.machine_rules.specs.Runs.{at_rest, start, start_prefix, started, started_by}
+use Rattle.machine_rules.specs.Runs.{at_rest, machine_options, start, start_prefix, started, started_by}
 use Rattle.thread_laws.specs.Alone.{anew, begun_as}
 use Rattle.thread_laws.specs.Weaving.{Place, AreSteps, AreWoven, IsAloneAt, all_begun, places_of, started_at}
 use Rattle.thread_laws.proofs.Alone.{anew_started, at_rest_anew}
@@ -24,17 +25,17 @@ use Rattle.threaded_run_laws.proofs.Numbering.{numbered}
 -- ---- one machine that was started
 
 -- what was asked and answered where a machine was started
-pub record Starts (asked : Request) (given : Reply) (polls : ℕ) (begun : Progress) : Type 0 where
+pub record Starts (asked : Request) (given : Reply) (options : MachineOptions) (begun : Progress) : Type 0 where
   pub prefix : List ℕ
   pub number : ℕ
   pub instructions : List (List ℕ × List ℕ)
   pub asked_is : asked ≡ request.Start prefix
   pub given_is : given ≡ reply.Started number instructions
-  pub begun_is : begun ≡ at_rest (silent (started number prefix polls instructions))
+  pub begun_is : begun ≡ at_rest (silent (started number prefix options instructions))
 
-starts_by : (asked : Request) (given : Reply) (polls : ℕ) (begun : Progress) → begun ∷ [] ≡ started_by (start_prefix asked) polls given
-    → Starts asked given polls begun
-starts_by (request.Start prefix) (reply.Started number instructions) polls begun is = record {
+starts_by : (asked : Request) (given : Reply) (options : MachineOptions) (begun : Progress) → begun ∷ [] ≡ started_by (start_prefix asked) options given
+    → Starts asked given options begun
+starts_by (request.Start prefix) (reply.Started number instructions) options begun is = record {
   prefix = prefix;
   number = number;
   instructions = instructions;
@@ -42,22 +43,22 @@ starts_by (request.Start prefix) (reply.Started number instructions) polls begun
   given_is = refl;
   begun_is = head-eq_of_cons-eq is;
 }
-starts_by (request.Start prefix) given polls begun is = absurd (cons≢nil is)
-starts_by asked given polls begun is = absurd (cons≢nil is)
+starts_by (request.Start prefix) given options begun is = absurd (cons≢nil is)
+starts_by asked given options begun is = absurd (cons≢nil is)
 
-number_is : (number : ℕ) (prefix : List ℕ) (polls : ℕ) (instructions : List (List ℕ × List ℕ))
-    → (started number prefix polls instructions).number ≡ number
+number_is : (number : ℕ) (prefix : List ℕ) (options : MachineOptions) (instructions : List (List ℕ × List ℕ))
+    → (started number prefix options instructions).number ≡ number
 unfolding started
-number_is number prefix polls instructions = refl
+number_is number prefix options instructions = refl
 
 -- its number is the one that the reply says
-number_by : (machine : Machine) (number : ℕ) (prefix : List ℕ) (polls : ℕ) (instructions : List (List ℕ × List ℕ))
-    → begun_as machine ≡ at_rest (silent (started number prefix polls instructions)) → machine.number ≡ number
-number_by machine number prefix polls instructions is =
+number_by : (machine : Machine) (number : ℕ) (prefix : List ℕ) (options : MachineOptions) (instructions : List (List ℕ × List ℕ))
+    → begun_as machine ≡ at_rest (silent (started number prefix options instructions)) → machine.number ≡ number
+number_by machine number prefix options instructions is =
     ap (λ (m : Machine). m.number)
     (sym (at_rest_anew (silent (anew machine))) ∙ ap (λ (p : Progress). anew p.machine) is
-    ∙ at_rest_anew (silent (started number prefix polls instructions)) ∙ anew_started number prefix polls instructions)
-    ∙ number_is number prefix polls instructions
+    ∙ at_rest_anew (silent (started number prefix options instructions)) ∙ anew_started number prefix options instructions)
+    ∙ number_is number prefix options instructions
 
 -- places of a machine stand behind the place at which it was started
 none_of : (number : ℕ) (front : List Place) (place : Place) → places_of number (place ∷ front) ≡ [] → (place.machine ≡ number → ⊥)
@@ -83,23 +84,23 @@ goes_on_from (first ∷ front) rest (other ∷ longer) others place same none =
 
 -- one machine more was started at a place
 counted : (pairs : List (List ℕ × List ℕ)) (arguments : RunArgs) (front more : List Place) (place : Place) (begun : Progress)
-    → begun ∷ [] ≡ started_at arguments.polls place
+    → begun ∷ [] ≡ started_at (machine_options arguments) place
     → length (all_begun pairs arguments front) < length (all_begun pairs arguments ((front ++ place ∷ []) ++ more))
 counted pairs arguments front more place begun starts =
     let machines = (start pairs arguments).machines in
-    let polls = arguments.polls in
-    let before = flat_map (started_at polls) front in
-    let here = flat_map (started_at polls) (place ∷ []) in
-    let behind = flat_map (started_at polls) more in
+    let options = machine_options arguments in
+    let before = flat_map (started_at options) front in
+    let here = flat_map (started_at options) (place ∷ []) in
+    let behind = flat_map (started_at options) more in
     omega (
       arith,
       length-append machines before,
-      length-append machines (flat_map (started_at polls) ((front ++ place ∷ []) ++ more)),
-      ap length (flat_map-append (started_at polls) (front ++ place ∷ []) more),
-      length-append (flat_map (started_at polls) (front ++ place ∷ [])) behind,
-      ap length (flat_map-append (started_at polls) front (place ∷ [])),
+      length-append machines (flat_map (started_at options) ((front ++ place ∷ []) ++ more)),
+      ap length (flat_map-append (started_at options) (front ++ place ∷ []) more),
+      length-append (flat_map (started_at options) (front ++ place ∷ [])) behind,
+      ap length (flat_map-append (started_at options) front (place ∷ [])),
       length-append before here,
-      ap length (append-nil (started_at polls place)),
+      ap length (append-nil (started_at options place)),
       ap length starts,
     )
 
@@ -113,12 +114,12 @@ module _ (pairs : List (List ℕ × List ℕ)) (arguments : RunArgs) (places : L
   is_at : (number : ℕ) (now : Progress) → slice_get machines number ≡ Some now
       → (started_in : IsStartedIn arguments places number (begun_as now.machine)) → IsAt number now started_in
   is_at number now e started_in =
-      let starts = starts_by started_in.place.request started_in.place.reply arguments.polls (begun_as now.machine) started_in.starts in
+      let starts = starts_by started_in.place.request started_in.place.reply (machine_options arguments) (begun_as now.machine) started_in.starts in
       let given = numbered pairs arguments started_in.front started_in.rest started_in.place world starts.prefix starts.number
       starts.instructions (subst (λ (all : List Place). AreSteps (begun pairs arguments) all world) started_in.is threaded.steps)
       starts.asked_is starts.given_is in
       let same : starts.number ≡ number =
-      sym (number_by now.machine starts.number starts.prefix arguments.polls starts.instructions starts.begun_is)
+      sym (number_by now.machine starts.number starts.prefix (machine_options arguments) starts.instructions starts.begun_is)
       ∙ threaded.numbered number now e in
       record {
         number_is = sym same ∙ given.number_is;
@@ -130,7 +131,7 @@ module _ (pairs : List (List ℕ × List ℕ)) (arguments : RunArgs) (places : L
       → IsBegunIn pairs arguments places number (begun_as now.machine)
       → slice_get (all_begun pairs arguments places) number ≡ Some (begun_as now.machine)
   begins_by number now e (inl first) =
-      (λ i. slice_get (first.starts i ++ flat_map (started_at arguments.polls) places) (first.number_is i))
+      (λ i. slice_get (first.starts i ++ flat_map (started_at (machine_options arguments)) places) (first.number_is i))
   begins_by number now e (inr started_in) = (is_at number now e started_in).there_is
 
   begins_so : (number : ℕ) (now : Progress) → slice_get machines number ≡ Some now
@@ -151,7 +152,7 @@ module _ (pairs : List (List ℕ × List ℕ)) (arguments : RunArgs) (places : L
       omega (
         arith,
         first.number_is,
-        length-append (start pairs arguments).machines (flat_map (started_at arguments.polls) front),
+        length-append (start pairs arguments).machines (flat_map (started_at (machine_options arguments)) front),
         ap length first.starts,
       )
   in_time_by number now e front rest place is own (inr started_in) =

@@ -3,7 +3,7 @@ use Rattle.std.specs.Prelude.{◌≡◌, ℕ, ◌<◌, ◌≤◌, ◌⊎◌, Lis
 use Rattle.command_rules.specs.declared.args.RunArgs.{RunArgs}
 use Rattle.machine_rules.specs.Worlds.{World, begun}
 use Rattle.machine_rules.specs.Machines.{Progress}
-use Rattle.machine_rules.specs.Runs.{start}
+use Rattle.machine_rules.specs.Runs.{machine_options, start}
 use Rattle.thread_laws.specs.Alone.{begun_as}
 use Rattle.thread_laws.specs.Weaving.{Place, AreSteps, IsAloneAt, all_begun, places_of, started_at}
 
@@ -13,7 +13,7 @@ pub record IsStartedIn (arguments : RunArgs) (places : List Place) (number : ℕ
   pub place : Place
   pub rest : List Place
   pub is : places ≡ front ++ place ∷ rest
-  pub starts : begun ∷ [] ≡ started_at arguments.polls place
+  pub starts : begun ∷ [] ≡ started_at (machine_options arguments) place
   pub none_yet : places_of number (front ++ place ∷ []) ≡ []
 
 -- A machine of this number that began so is machine 0, as a run starts it.

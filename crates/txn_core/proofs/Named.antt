@@ -1,5 +1,6 @@
 -- Atomic operations by their names, and the room of stamped ones.
 use Rattle.std.proofs.Common.{◌≡◌, ℕ, Bool, true, false, List, [], ◌∷◌, Option, Some, None, Result, Err, refl, sym, ap, subst, ◌∙◌}
+use Rattle.database_rules.specs.declared.Api.{Api}
 use Rattle.database_rules.specs.declared.AtomicOp.{AtomicOp}
 use Rattle.database_rules.specs.declared.Code.{Code}
 use Rattle.database_rules.specs.declared.Phase.{Phase}
@@ -38,13 +39,13 @@ refused_named : (A : Type 0) (op : Option AtomicOp) (old new : Kept) (code : Opt
 refused_named A None old new code refused key operand is stands = (is, stands)
 refused_named A (Some op) old new code refused key operand is stands = (is, stands)
 
-pub refused_by_phase : (A : Type 0) (now : Phase) (name key operand : List ℕ) (old new : Kept) (refused : Code)
+pub refused_by_phase : (A : Type 0) (api : Api) (now : Phase) (name key operand : List ℕ) (old new : Kept) (refused : Code)
     → first_failing (after_phase now []) ≡ Some refused.0 → StandsOn old new
-    → WritesNamed {A = A} (Err (fault.Code refused)) old new (atomic_code now name key operand) (atomic_named name) key operand
+    → WritesNamed {A = A} (Err (fault.Code refused)) old new (atomic_code api now name key operand) (atomic_named api name) key operand
 unfolding atomic_code
-refused_by_phase A now name key operand old new refused is stands =
-    refused_named A (atomic_named name) old new _ refused key operand
-    (phase_first now (named_checks (atomic_named name) key operand) refused.0 is) stands
+refused_by_phase A api now name key operand old new refused is stands =
+    refused_named A (atomic_named api name) old new _ refused key operand
+    (phase_first now (named_checks (atomic_named api name) key operand) refused.0 is) stands
 
 unknown_code : (now : Phase) → first_failing (after_phase now []) ≡ None
     → first_failing (after_phase now ((true, INVALID_MUTATION_TYPE) ∷ [])) ≡ Some INVALID_MUTATION_TYPE
@@ -52,17 +53,17 @@ unknown_code phase.Active none = refl
 unknown_code phase.Cancelled none = absurd cc
 unknown_code (phase.Tried outcome) none = absurd cc
 
-pub refused_unknown : (A : Type 0) (now : Phase) (name key operand : List ℕ) (old new : Kept) (refused : Code)
-    → first_failing (after_phase now []) ≡ None → None ≡ atomic_named name → refused.0 ≡ INVALID_MUTATION_TYPE → StandsOn old new
-    → WritesNamed {A = A} (Err (fault.Code refused)) old new (atomic_code now name key operand) (atomic_named name) key operand
+pub refused_unknown : (A : Type 0) (api : Api) (now : Phase) (name key operand : List ℕ) (old new : Kept) (refused : Code)
+    → first_failing (after_phase now []) ≡ None → None ≡ atomic_named api name → refused.0 ≡ INVALID_MUTATION_TYPE → StandsOn old new
+    → WritesNamed {A = A} (Err (fault.Code refused)) old new (atomic_code api now name key operand) (atomic_named api name) key operand
 unfolding atomic_code
-refused_unknown A now name key operand old new refused none unknown is stands =
-    refused_named A (atomic_named name) old new _ refused key operand
+refused_unknown A api now name key operand old new refused none unknown is stands =
+    refused_named A (atomic_named api name) old new _ refused key operand
     (ap (λ op. first_failing (after_phase now (named_checks op key operand))) (sym unknown) ∙ unknown_code now none ∙ ap (λ n. Some n) (sym is)) stands
 
-pub known_writes : {A : Type 0} (result : Result A TrFault) (now : Phase) (op : AtomicOp) (name key operand : List ℕ) (old new : Kept)
-    → Some op ≡ atomic_named name → Writes result old new (op_code now op key operand) (Atomic op key operand)
-    → WritesNamed result old new (atomic_code now name key operand) (atomic_named name) key operand
+pub known_writes : {A : Type 0} (result : Result A TrFault) (api : Api) (now : Phase) (op : AtomicOp) (name key operand : List ℕ) (old new : Kept)
+    → Some op ≡ atomic_named api name → Writes result old new (op_code now op key operand) (Atomic op key operand)
+    → WritesNamed result old new (atomic_code api now name key operand) (atomic_named api name) key operand
 unfolding atomic_code op_code
-known_writes result now op name key operand old new known writes =
+known_writes result api now op name key operand old new known writes =
     subst (λ found. WritesNamed result old new (first_failing (after_phase now (named_checks found key operand))) found key operand) known writes

@@ -12,26 +12,28 @@ ghost use Rattle.txn_core.specs.Stands.{StandsFor, StandsStill, Keeps, Answers};
 use crate::answer::Answer;
 use crate::txn::Txn;
 use conflict_ranges::WriteIndex;
-use database_rules::Code;
+use database_rules::{Code, DatabaseOptions};
 use fdb_calls::TxnCall;
 use std::alloc::AllocError;
 use version_store::Store;
 
 impl Txn {
-    /// Makes one call, over a store and the index of its writes; `life` is the number of the life that a call
-    /// draws which begins anew. A commit adds one version to both. It is refused for want of memory alone: then
+    /// Makes one call, over a store and the index of its writes, in a database that was opened with these options;
+    /// `life` is the number of the life that a call draws which begins anew. A commit adds one version to both. It is refused for want of memory alone: then
     /// the transaction stands as before, but that its version may be taken, and the store and the index keep
     /// the same history.
     pub fn call(
         &mut self,
         store: &mut Store,
         index: &mut WriteIndex,
+        options: DatabaseOptions,
         call: &TxnCall,
         life: u64,
     ) -> Result<Answer, AllocError>
         requires { last_of store.old + 1 < 2 ^ 63 }
         ensures ok { IfOk result (λ answer. (t : rules.Transaction) (setting : Setting) → StandsFor self.old t
-            → Keeps store.old index.old setting → Answers answer self.new store.new index.new setting (called setting life t call.now)) }
+            → Keeps store.old index.old setting → setting.options ≡ options
+            → Answers answer self.new store.new index.new setting (called setting life t call.now)) }
         ensures err { OnErr result ((t : rules.Transaction) (setting : Setting) → StandsFor self.old t → Keeps store.old index.old setting
             → StandsStill (StandsFor self.new) setting t × Keeps store.new index.new setting) }
     {
@@ -47,6 +49,7 @@ impl Txn {
             TxnCall::Clear { key } => Answer::of_write(self.clear(key.as_slice())),
             TxnCall::ClearRange { range } => Answer::of_write(self.clear_range(range)),
             TxnCall::Atomic { name, key, operand } => Answer::of_write(self.named_atomic(
+                options.api,
                 name.as_slice(),
                 key.as_slice(),
                 operand.as_slice(),

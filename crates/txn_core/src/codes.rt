@@ -1,7 +1,6 @@
 //! The code of the first check of a call that fails.
 
-ghost use Rattle.std.specs.Prelude.{◌≡◌, true, [], ◌∷◌, option_map, replicate, IfOk};
-ghost use Rattle.database_rules.specs.declared.AtomicOp.TheVariants as atomic;
+ghost use Rattle.std.specs.Prelude.{◌≡◌, true, false, [], ◌∷◌, option_map, replicate, IfOk};
 ghost use Rattle.database_rules.specs.States.{has_room, stamped};
 ghost use Rattle.database_rules.specs.Transactions as rules;
 ghost use Rattle.database_rules.specs.Transactions.{number_of};
@@ -10,7 +9,7 @@ ghost use Rattle.database_rules.specs.declared.TheConstants as constants;
 use atomic_ops::{StampFault, has_room, resolve_stamp};
 use database_rules::{
     AtomicOp, CLIENT_INVALID_OPERATION, Code, EXACT_MODE_WITHOUT_LIMITS, INVERTED_RANGE, KEY_LIMIT,
-    KEY_OUTSIDE_LEGAL_RANGE, KEY_TOO_LARGE, Phase, READ_VERSION_ALREADY_SET, SIZE_LIMIT,
+    KEY_OUTSIDE_LEGAL_RANGE, KEY_TOO_LARGE, Phase, READ_VERSION_ALREADY_SET, SIZE_LIMIT, StampForm,
     TRANSACTION_CANCELLED, TRANSACTION_TOO_LARGE, USED_DURING_COMMIT, VALUE_LIMIT, VALUE_TOO_LARGE,
     VERSION_INVALID,
 };
@@ -117,13 +116,13 @@ fn asked_code(
     key: &[u8],
     operand: &[u8],
 ) -> Result<Option<Code>, AllocError>
-    requires { op ≡ atomic.SetVersionstampedKey → has_room key.now ≡ true }
+    requires { rules.lacks_room op key.now operand.now ≡ false }
     ensures { IfOk result (λ code. option_map number_of code
         ≡ rules.first_failing (rules.key_checks (rules.key_asked op key.now) operand.now)) }
 {
     match op {
-        AtomicOp::SetVersionstampedKey => {
-            let template = template_of(alloc, key)?;
+        AtomicOp::SetVersionstampedKey | AtomicOp::OldStampedKey => {
+            let template = template_of(alloc, op.stamp_form(), key)?;
             Ok(key_code(template.as_slice(), operand))
         }
         _ => Ok(key_code(key, operand)),
@@ -131,11 +130,11 @@ fn asked_code(
 }
 
 // The template of stamped bytes with ten 00.
-fn template_of(alloc: Global, bytes: &[u8]) -> Result<Bytes, AllocError>
-    requires { has_room bytes.now ≡ true }
-    ensures { IfOk result (λ template. template ≡ stamped (replicate 10 0) bytes.now) }
+fn template_of(alloc: Global, form: StampForm, bytes: &[u8]) -> Result<Bytes, AllocError>
+    requires { has_room form bytes.now ≡ true }
+    ensures { IfOk result (λ template. template ≡ stamped form (replicate 10 0) bytes.now) }
 {
-    match resolve_stamp(alloc, bytes, &[0; 10]) {
+    match resolve_stamp(alloc, form, bytes, &[0; 10]) {
         Ok(template) => Ok(template),
         Err(StampFault::NoRoom) => unreachable!(),
         Err(StampFault::NoMemory) => Err(AllocError),
@@ -147,8 +146,10 @@ fn lacks_room(op: AtomicOp, key: &[u8], operand: &[u8]) -> bool
     ensures { result ≡ rules.lacks_room op key.now operand.now }
 {
     match op {
-        AtomicOp::SetVersionstampedKey => !has_room(key),
-        AtomicOp::SetVersionstampedValue => !has_room(operand),
+        AtomicOp::SetVersionstampedKey | AtomicOp::OldStampedKey => !has_room(op.stamp_form(), key),
+        AtomicOp::SetVersionstampedValue | AtomicOp::OldStampedValue => {
+            !has_room(op.stamp_form(), operand)
+        }
         _ => false,
     }
 }

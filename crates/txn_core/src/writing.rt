@@ -9,7 +9,7 @@ ghost use Rattle.txn_core.specs.Accesses.{StandsOn, StandsWritten, Writes, Write
 use crate::codes::{clear_code, op_code, phase_code, range_code, set_code};
 use crate::txn::Txn;
 use atomic_ops::from_name;
-use database_rules::{AtomicOp, Code, INVALID_MUTATION_TYPE, SIZE_LIMIT};
+use database_rules::{Api, AtomicOp, Code, INVALID_MUTATION_TYPE, SIZE_LIMIT};
 use fdb_calls::TrFault;
 use key_bytes::KeyRange;
 use std::alloc::AllocError;
@@ -126,20 +126,21 @@ impl Txn {
         Ok(self.add_atomic(op, key, operand)?)
     }
 
-    // An atomic operation by its name.
+    // An atomic operation by its name under an API version.
     pub(crate) fn named_atomic(
         &mut self,
+        api: Api,
         name: &[u8],
         key: &[u8],
         operand: &[u8],
     ) -> Result<(), TrFault>
-        ensures { WritesNamed result self.old self.new (rules.atomic_code self.old.phase name.now key.now operand.now)
-            (atomic_named name.now) key.now operand.now }
+        ensures { WritesNamed result self.old self.new (rules.atomic_code api self.old.phase name.now key.now operand.now)
+            (atomic_named api name.now) key.now operand.now }
     {
         if let Some(code) = phase_code(self.phase) {
             return Err(TrFault::Code(code));
         }
-        match from_name(name) {
+        match from_name(name, api) {
             Some(op) => self.atomic(op, key, operand),
             None => Err(TrFault::Code(Code(INVALID_MUTATION_TYPE))),
         }

@@ -1,5 +1,5 @@
 use conflict_ranges::{RangeSet, WriteIndex};
-use database_rules::{AtomicOp, Code, Tried};
+use database_rules::{Api, AtomicOp, Code, DatabaseOptions, Tried};
 use fdb_calls::{Outcome, Reply, Tr, TrFault, TxnCall};
 use key_bytes::{Bytes, Key, KeyRange, Pair, Pairs};
 use std::alloc::{AllocError, Global};
@@ -109,6 +109,8 @@ fn are_entries(pairs: &Pairs, entries: &[Entry]) -> bool {
             .all(|(pair, entry)| is_entry(pair, entry))
 }
 
+const OPTIONS: DatabaseOptions = DatabaseOptions { api: Api::V630 };
+
 // The versionstamp with which a test asks what a commit changes, and its write conflict ranges.
 const STAMP: &[u8; 10] = b"stampstamp";
 
@@ -134,7 +136,12 @@ impl World {
         if self.store.last() > 9 {
             return Err(AllocError);
         }
-        self.first
-            .call(&mut self.store, &mut self.index, &TxnCall::Commit, 9)
+        self.first.call(
+            &mut self.store,
+            &mut self.index,
+            OPTIONS,
+            &TxnCall::Commit,
+            9,
+        )
     }
 }

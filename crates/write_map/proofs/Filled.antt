@@ -19,6 +19,8 @@ one_readable stamp (Atomic op key operand) = by_operation op
     by_operation : (op : AtomicOp) → unreadable_by (filled stamp (Atomic op key operand)) ≡ []
     by_operation atomic.SetVersionstampedKey = refl
     by_operation atomic.SetVersionstampedValue = refl
+    by_operation atomic.OldStampedKey = refl
+    by_operation atomic.OldStampedValue = refl
     by_operation _ = refl
 
 pub filled_readable : (stamp : List ℕ) (mutations : List Mutation) → unreadable (all_filled stamp mutations) ≡ []
@@ -39,6 +41,8 @@ one_plain stamp (Atomic op key operand) plain = by_operation op plain
         → (filled stamp (Atomic op key operand) ≡ Atomic op key operand) × (unreadable_by (Atomic op key operand) ≡ [])
     by_operation atomic.SetVersionstampedKey plain = absurd (true≢false plain)
     by_operation atomic.SetVersionstampedValue plain = absurd (true≢false plain)
+    by_operation atomic.OldStampedKey plain = absurd (true≢false plain)
+    by_operation atomic.OldStampedValue plain = absurd (true≢false plain)
     by_operation _ plain = (refl, refl)
 
 pub plain_filled : (stamp : List ℕ) (mutations : List Mutation) → list_any is_stamped mutations ≡ false

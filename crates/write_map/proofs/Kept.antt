@@ -40,6 +40,8 @@ hidden_stamped (Atomic op own operand) range is = stamped op is
     stamped : (op : AtomicOp) → unreadable_by (Atomic op own operand) ≡ range ∷ [] → is_stamped (Atomic op own operand) ≡ true
     stamped atomic.SetVersionstampedKey is = refl
     stamped atomic.SetVersionstampedValue is = refl
+    stamped atomic.OldStampedKey is = refl
+    stamped atomic.OldStampedValue is = refl
     stamped _ is = absurd cc
 
 module _ (mutations : List Mutation) (mutation : Mutation) (old new : Boundaries Level) (flag : Bool) (kept : IsKept mutations old flag)

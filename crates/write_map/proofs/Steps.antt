@@ -77,6 +77,8 @@ on_readable key (Atomic op own operand) on = plain op on.1
     plain : (op : AtomicOp) → is_versionstamped op ≡ false → unreadable_by (Atomic op own operand) ≡ []
     plain atomic.SetVersionstampedKey is = absurd (true≢false is)
     plain atomic.SetVersionstampedValue is = absurd (true≢false is)
+    plain atomic.OldStampedKey is = absurd (true≢false is)
+    plain atomic.OldStampedValue is = absurd (true≢false is)
     plain _ is = refl
 
 -- an atomic operation without a versionstamp makes of the state of its key what it makes
@@ -204,6 +206,10 @@ hidden_state (Atomic op own operand) range key state is = left_out op is
         ap (λ t. cond t (after_atomic atomic.SetVersionstampedKey operand state) state) (and-false (bytes_eq key own))
     left_out atomic.SetVersionstampedValue is =
         ap (λ t. cond t (after_atomic atomic.SetVersionstampedValue operand state) state) (and-false (bytes_eq key own))
+    left_out atomic.OldStampedKey is =
+        ap (λ t. cond t (after_atomic atomic.OldStampedKey operand state) state) (and-false (bytes_eq key own))
+    left_out atomic.OldStampedValue is =
+        ap (λ t. cond t (after_atomic atomic.OldStampedValue operand state) state) (and-false (bytes_eq key own))
     left_out _ is = absurd cc
 
 -- a range of keys that are unreadable

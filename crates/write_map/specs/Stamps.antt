@@ -1,6 +1,6 @@
 -- The mutations with a versionstamp among the pending ones.
 use Rattle.std.specs.Prelude.{◌≡◌, Bool, true, not}
-use Rattle.database_rules.specs.Atomics.{is_versionstamped}
+use Rattle.database_rules.specs.Atomics.{is_versionstamped, stamp_form}
 use Rattle.database_rules.specs.Databases.{Mutation, Set, Clear, ClearRange, Atomic}
 use Rattle.database_rules.specs.KeyByKey.{is_plain}
 use Rattle.database_rules.specs.States.{has_room, stamped_bytes}
@@ -14,4 +14,4 @@ abbrev pub HasRoom : Mutation → Type 0
 HasRoom (Set key value) = Unit {0}
 HasRoom (Clear key) = Unit {0}
 HasRoom (ClearRange begin end) = Unit {0}
-HasRoom (Atomic op key operand) = is_versionstamped op ≡ true → has_room (stamped_bytes op key operand) ≡ true
+HasRoom (Atomic op key operand) = is_versionstamped op ≡ true → has_room (stamp_form op) (stamped_bytes op key operand) ≡ true

@@ -47,12 +47,13 @@ impl WriteMap {
             Mutation::Clear { key } => self.clear(key.as_slice()),
             Mutation::ClearRange { range } => self.clear_range(range),
             Mutation::Atomic { op, key, operand } => match op {
-                AtomicOp::SetVersionstampedKey => {
-                    let key = stamped(self.allocator(), stamp, key.as_slice())?;
+                AtomicOp::SetVersionstampedKey | AtomicOp::OldStampedKey => {
+                    let key = stamped(self.allocator(), op.stamp_form(), stamp, key.as_slice())?;
                     self.set(key.as_slice(), operand.as_slice())
                 }
-                AtomicOp::SetVersionstampedValue => {
-                    let value = stamped(self.allocator(), stamp, operand.as_slice())?;
+                AtomicOp::SetVersionstampedValue | AtomicOp::OldStampedValue => {
+                    let form = op.stamp_form();
+                    let value = stamped(self.allocator(), form, stamp, operand.as_slice())?;
                     self.set(key.as_slice(), value.as_slice())
                 }
                 _ => self.atomic(*op, key.as_slice(), operand.as_slice()),

@@ -1,7 +1,7 @@
 //! The keys that an operation with a versionstamp makes unreadable.
 
 ghost use Rattle.std.specs.Prelude.{◌≡◌, true, [], ◌∷◌, IfOk};
-ghost use Rattle.database_rules.specs.Atomics.{is_versionstamped};
+ghost use Rattle.database_rules.specs.Atomics.{is_versionstamped, stamp_form};
 ghost use Rattle.database_rules.specs.Databases as rules;
 ghost use Rattle.database_rules.specs.States.{has_room, stamped_bytes, unreadable_by};
 
@@ -19,13 +19,13 @@ pub(crate) fn hidden_keys(
     operand: &Bytes,
 ) -> Result<KeyRange, AllocError>
     requires stamped { is_versionstamped op ≡ true }
-    requires room { has_room (stamped_bytes op key.now operand.now) ≡ true }
+    requires room { has_room (stamp_form op) (stamped_bytes op key.now operand.now) ≡ true }
     ensures { IfOk result (λ keys. unreadable_by (rules.Atomic op key.now operand.now) ≡ keys ∷ []) }
 {
     match op {
-        AtomicOp::SetVersionstampedKey => {
-            let begin = stamped(alloc, &[0; 10], key.as_slice())?;
-            let last = stamped(alloc, &[255; 10], key.as_slice())?;
+        AtomicOp::SetVersionstampedKey | AtomicOp::OldStampedKey => {
+            let begin = stamped(alloc, op.stamp_form(), &[0; 10], key.as_slice())?;
+            let last = stamped(alloc, op.stamp_form(), &[255; 10], key.as_slice())?;
             let end = last.after()?;
             Ok(KeyRange { begin, end })
         }

@@ -5,7 +5,7 @@ ghost use Rattle.std.specs.List.{All, filter, list_any};
 ghost use Rattle.std.specs.Option.{option_map};
 ghost use Rattle.key_bytes.specs.Keys.{after, key_le, key_lt};
 ghost use Rattle.key_map.specs.Ends.{first, last};
-ghost use Rattle.database_rules.specs.Atomics.{is_versionstamped};
+ghost use Rattle.database_rules.specs.Atomics.{is_versionstamped, stamp_form};
 ghost use Rattle.database_rules.specs.Databases as rules;
 ghost use Rattle.database_rules.specs.States.{state_after, state_under, has_room, stamped_bytes, unreadable_by};
 ghost use Rattle.write_map.specs.Levels.{state_of};
@@ -299,7 +299,7 @@ impl WriteMap {
     /// was (API reference, "fdb_transaction_atomic_op").
     pub fn stamp(&mut self, op: AtomicOp, key: &[u8], operand: &[u8]) -> Result<(), AllocError>
         requires stamped { is_versionstamped op ≡ true }
-        requires room { has_room (stamped_bytes op key.now operand.now) ≡ true }
+        requires room { has_room (stamp_form op) (stamped_bytes op key.now operand.now) ≡ true }
         ensures added { OnOk result (self.new.mutations
             ≡ self.old.mutations ++ rules.Atomic op key.now operand.now ∷ []) }
         ensures unchanged { OnErr result (self.new ≡ self.old) }

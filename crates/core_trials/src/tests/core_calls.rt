@@ -2,6 +2,7 @@
 
 use client_core::Core;
 use command_rules::RunArgs;
+use database_rules::Api;
 use fdb_calls::{Reply, Request, TxnCall};
 use key_bytes::{Bytes, Key, Pair, Pairs};
 use outside::ListWords;
@@ -27,6 +28,7 @@ fn arguments(alloc: Global) -> Result<RunArgs, AllocError> {
     let prefix = Bytes::from_slice(alloc, b"p")?;
     Ok(RunArgs {
         prefix,
+        api: Api::V630,
         seed: 0,
         polls: 10,
     })

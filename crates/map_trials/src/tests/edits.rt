@@ -1,7 +1,7 @@
 //! What pending mutations make of each key.
 
 use super::{key_of, range_of};
-use atomic_ops::has_room;
+use atomic_ops::{StampForm, has_room};
 use database_rules::AtomicOp;
 use key_bytes::{Bytes, Key};
 use std::alloc::{AllocError, Global};
@@ -46,10 +46,10 @@ const STAMP: &[u8; 10] = b"abcdefghij";
 
 // Stamps a value and a key, which is `h` and a versionstamp.
 fn stamp_both(map: &mut WriteMap, value: &[u8], key: &[u8]) -> Result<(), AllocError> {
-    if has_room(value) {
+    if has_room(StampForm::Last4, value) {
         map.stamp(AtomicOp::SetVersionstampedValue, b"g", value)?;
     }
-    if has_room(key) {
+    if has_room(StampForm::Last4, key) {
         map.stamp(AtomicOp::SetVersionstampedKey, key, b"")?;
     }
     Ok(())

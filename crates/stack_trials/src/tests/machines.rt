@@ -57,7 +57,7 @@ fn goes(machine: &mut Machine, reply: Reply) -> Result<Told, AllocError> {
 
 fn machine_of(alloc: Global, values: &[&[u8]], polls: u32) -> Result<Machine, AllocError> {
     let prefix = Bytes::from_slice(alloc, b"p")?;
-    Machine::new(alloc, 0, prefix, pairs_of(alloc, values)?, polls)
+    Machine::new(alloc, 0, prefix, pairs_of(alloc, values)?, options(polls))
 }
 
 // Pushes an item that waits, and pops it.
@@ -134,22 +134,28 @@ fn a_refusal_is_noted_and_pushed(rt: HostRuntime) {
     assert_eq!(rt; refuse(rt.alloc()), Ok((told, true)));
 }
 
-// What a machine shows of what it was made of: its number, and how many instructions and polls it has; and whether it is
+// What a machine shows of what it was made of: its number, how many instructions it has, and its options; and whether it is
 // about to run under the prefix `p`.
-fn shown(machine: &Machine) -> (u16, usize, u32, bool) {
+fn shown(machine: &Machine) -> (u16, usize, MachineOptions, bool) {
     let runs = matches!(machine.state(), State::Running);
     let is_under_p = machine.prefix().as_slice() == b"p".as_slice();
     (
         machine.number(),
         machine.instruction_count(),
-        machine.polls(),
+        machine.options(),
         runs && is_under_p,
     )
 }
 
-fn show(alloc: Global) -> Result<(u16, usize, u32, bool), AllocError> {
+fn show(alloc: Global) -> Result<(u16, usize, MachineOptions, bool), AllocError> {
     let prefix = Bytes::from_slice(alloc, b"p")?;
-    let machine = Machine::with_instructions(alloc, 7, prefix, values_of(alloc, POPPED)?, 3)?;
+    let machine = Machine::with_instructions(
+        alloc,
+        7,
+        prefix,
+        values_of(alloc, POPPED)?,
+        options(3),
+    )?;
     let shown = shown(&machine);
     drop(machine);
     Ok(shown)
@@ -157,5 +163,5 @@ fn show(alloc: Global) -> Result<(u16, usize, u32, bool), AllocError> {
 
 #[test]
 fn a_machine_shows_what_it_was_made_of(rt: HostRuntime) {
-    assert_eq!(rt; show(rt.alloc()), Ok((7, 2, 3, true)));
+    assert_eq!(rt; show(rt.alloc()), Ok((7, 2, options(3), true)));
 }

@@ -20,7 +20,7 @@ fn is_suspended(alloc: Global) -> Result<SuspendedMachine, AllocError>
     ensures { IfOk result IsSuspended }
 {
     let prefix = Bytes::from_slice(alloc, b"p")?;
-    start(alloc, 0, prefix, 2, pairs_of(alloc, STARTS)?)
+    start(alloc, 0, prefix, options(2), pairs_of(alloc, STARTS)?)
 }
 
 // The same with copies of the values.
@@ -28,7 +28,7 @@ fn is_suspended_with(alloc: Global) -> Result<SuspendedMachine, AllocError>
     ensures { IfOk result IsSuspended }
 {
     let prefix = Bytes::from_slice(alloc, b"p")?;
-    start_with(alloc, 0, prefix, 2, values_of(alloc, STARTS)?)
+    start_with(alloc, 0, prefix, options(2), values_of(alloc, STARTS)?)
 }
 
 // The reply that machine 1 was started.
@@ -69,7 +69,7 @@ fn number_of(suspended: Option<SuspendedMachine>) -> Option<u16> {
 // The number of the machine that this request and the reply to it start.
 fn number_started(alloc: Global, request: &Request) -> Result<Option<u16>, AllocError> {
     let prefix = prefix_of(request)?;
-    let started = suspended_started(alloc, prefix, 2, started_one(alloc))?;
+    let started = suspended_started(alloc, prefix, options(2), started_one(alloc))?;
     Ok(number_of(started))
 }
 
@@ -115,7 +115,7 @@ fn run(alloc: Global) -> Result<Option<Told>, AllocError> {
 fn number_started_by(alloc: Global, request: &Request) -> Result<Option<u16>, AllocError> {
     let prefix = prefix_of(request)?;
     let reply = started_one(alloc);
-    let started = suspended_started_by(alloc, prefix, 2, &reply);
+    let started = suspended_started_by(alloc, prefix, options(2), &reply);
     drop(reply);
     Ok(number_of(started?))
 }

@@ -1,6 +1,8 @@
 //! Atomic operations and versionstamped operands, beside tables.
 
-use atomic_ops::{AtomicOp, StampFault, apply, from_name, has_room, resolve_stamp, stamped};
+use atomic_ops::{
+    Api, AtomicOp, StampFault, StampForm, apply, from_name, has_room, resolve_stamp, stamped,
+};
 use key_bytes::Bytes;
 use std::alloc::{AllocError, Global};
 use std::test::Fail;
@@ -99,6 +101,16 @@ const APPLIED: &[Row] = &[
     (AtomicOp::CompareAndClear, Some(b"ab"), b"a", Some(b"ab")),
     (AtomicOp::CompareAndClear, Some(b"a"), b"ab", Some(b"a")),
     (AtomicOp::CompareAndClear, None, b"ab", None),
+    (AtomicOp::OldAnd, None, b"\x0F\x0F", Some(b"\x00\x00")),
+    (
+        AtomicOp::OldAnd,
+        Some(b"\x3C"),
+        b"\x0F\x0F",
+        Some(b"\x0C\x00"),
+    ),
+    (AtomicOp::OldMin, None, b"\x02", Some(b"\x00")),
+    (AtomicOp::OldMin, Some(b"\x01\x09"), b"\x02", Some(b"\x01")),
+    (AtomicOp::Min, None, b"\x02", Some(b"\x02")),
 ];
 
 // What `apply` answers, and None for an operation that it is not asked.
@@ -109,7 +121,7 @@ fn applied(
     operand: &[u8],
 ) -> Result<Option<Bytes>, AllocError> {
     match op {
-        AtomicOp::SetVersionstampedKey | AtomicOp::SetVersionstampedValue => Ok(None),
+        _ if op.is_versionstamped() => Ok(None),
         _ => apply(alloc, op, old, operand),
     }
 }
@@ -145,6 +157,7 @@ fn operations(rt: HostRuntime) -> Result<(), Fail> {
     Ok(())
 }
 
+// Names, and what they mean under API version 630.
 const NAMES: &[(&[u8], Option<AtomicOp>)] = &[
     (b"ADD", Some(AtomicOp::Add)),
     (b"BIT_AND", Some(AtomicOp::BitAnd)),
@@ -172,10 +185,22 @@ const NAMES: &[(&[u8], Option<AtomicOp>)] = &[
     (b"", None),
 ];
 
+// Those that mean another operation under 500.
+const OLD_NAMES: &[(&[u8], Option<AtomicOp>)] = &[
+    (b"BIT_AND", Some(AtomicOp::OldAnd)),
+    (b"AND", Some(AtomicOp::OldAnd)),
+    (b"MIN", Some(AtomicOp::OldMin)),
+    (b"SET_VERSIONSTAMPED_KEY", Some(AtomicOp::OldStampedKey)),
+    (b"SET_VERSIONSTAMPED_VALUE", Some(AtomicOp::OldStampedValue)),
+    (b"BYTE_MIN", Some(AtomicOp::ByteMin)),
+    (b"MAX", Some(AtomicOp::Max)),
+    (b"OLD_MIN", None),
+];
+
 // The first name of another operation.
-fn first_other_name() -> Option<usize> {
-    for (place, (name, op)) in NAMES.iter().enumerate() {
-        if from_name(name) != *op {
+fn first_other_name(names: &[(&[u8], Option<AtomicOp>)], api: Api) -> Option<usize> {
+    for (place, (name, op)) in names.iter().enumerate() {
+        if from_name(name, api) != *op {
             return Some(place);
         }
     }
@@ -184,30 +209,46 @@ fn first_other_name() -> Option<usize> {
 
 #[test]
 fn names(rt: HostRuntime) {
-    assert_eq!(rt; first_other_name(), None);
+    assert_eq!(rt; first_other_name(NAMES, Api::V630), None);
+    assert_eq!(rt; first_other_name(OLD_NAMES, Api::V500), None);
 }
 
 const STAMP: [u8; 10] = [1, 2, 3, 4, 5, 6, 7, 8, 9, 10];
 
-// Bytes, and what the stamp makes of them; None where they have no room for it.
-const STAMPED: &[(&[u8], Option<&[u8]>)] = &[
+// Bytes of a form, and what the stamp makes of them; None where they have no room for it.
+const STAMPED: &[(StampForm, &[u8], Option<&[u8]>)] = &[
     (
+        StampForm::Last4,
         b"\0\0\0\0\0\0\0\0\0\0\0\0\0\0",
         Some(b"\x01\x02\x03\x04\x05\x06\x07\x08\x09\x0A"),
     ),
-    (b"\0\0\0\0\0\0\0\0\0\0\x01\0\0\0", None),
+    (StampForm::Last4, b"\0\0\0\0\0\0\0\0\0\0\x01\0\0\0", None),
     (
+        StampForm::Last4,
         b"ab0123456789cd\x02\0\0\0",
         Some(b"ab\x01\x02\x03\x04\x05\x06\x07\x08\x09\x0Acd"),
     ),
-    (b"a0123456789\x02\0\0\0", None),
-    (b"a0123456789\0\0\0\x01", None),
-    (b"\0\0\0", None),
+    (StampForm::Last4, b"a0123456789\x02\0\0\0", None),
+    (StampForm::Last4, b"a0123456789\0\0\0\x01", None),
+    (StampForm::Last4, b"\0\0\0", None),
+    (
+        StampForm::Last2,
+        b"k0123456789\x01\0",
+        Some(b"k\x01\x02\x03\x04\x05\x06\x07\x08\x09\x0A"),
+    ),
+    (StampForm::Last2, b"k0123456789\x02\0", None),
+    (StampForm::Last2, b"\0", None),
+    (
+        StampForm::Front,
+        b"0123456789a",
+        Some(b"\x01\x02\x03\x04\x05\x06\x07\x08\x09\x0Aa"),
+    ),
+    (StampForm::Front, b"012345678", None),
 ];
 
 // What the stamp makes of bytes; None where they have no room for it.
-fn resolved(alloc: Global, bytes: &[u8]) -> Result<Option<Bytes>, AllocError> {
-    match resolve_stamp(alloc, bytes, &STAMP) {
+fn resolved(alloc: Global, form: StampForm, bytes: &[u8]) -> Result<Option<Bytes>, AllocError> {
+    match resolve_stamp(alloc, form, bytes, &STAMP) {
         Ok(filled) => Ok(Some(filled)),
         Err(StampFault::NoRoom) => Ok(None),
         Err(StampFault::NoMemory) => Err(AllocError),
@@ -215,17 +256,22 @@ fn resolved(alloc: Global, bytes: &[u8]) -> Result<Option<Bytes>, AllocError> {
 }
 
 // The same by asking first whether they have room.
-fn filled_in(alloc: Global, bytes: &[u8]) -> Result<Option<Bytes>, AllocError> {
-    if has_room(bytes) {
-        Ok(Some(stamped(alloc, &STAMP, bytes)?))
+fn filled_in(alloc: Global, form: StampForm, bytes: &[u8]) -> Result<Option<Bytes>, AllocError> {
+    if has_room(form, bytes) {
+        Ok(Some(stamped(alloc, form, &STAMP, bytes)?))
     } else {
         Ok(None)
     }
 }
 
-fn is_stamped(alloc: Global, bytes: &[u8], wanted: Option<&[u8]>) -> Result<bool, AllocError> {
-    let filled = resolved(alloc, bytes)?;
-    let again = filled_in(alloc, bytes)?;
+fn is_stamped(
+    alloc: Global,
+    form: StampForm,
+    bytes: &[u8],
+    wanted: Option<&[u8]>,
+) -> Result<bool, AllocError> {
+    let filled = resolved(alloc, form, bytes)?;
+    let again = filled_in(alloc, form, bytes)?;
     Ok(
         again.as_ref().map(|filled| filled.as_slice()) == wanted
             && filled.as_ref().map(|filled| filled.as_slice()) == wanted,
@@ -234,8 +280,8 @@ fn is_stamped(alloc: Global, bytes: &[u8], wanted: Option<&[u8]>) -> Result<bool
 
 // The first row that is answered otherwise.
 fn first_other_stamp(alloc: Global) -> Result<Option<usize>, AllocError> {
-    for (place, (bytes, wanted)) in STAMPED.iter().enumerate() {
-        if !is_stamped(alloc, bytes, *wanted)? {
+    for (place, (form, bytes, wanted)) in STAMPED.iter().enumerate() {
+        if !is_stamped(alloc, *form, bytes, *wanted)? {
             return Ok(Some(place));
         }
     }
@@ -254,9 +300,12 @@ fn tells_versionstamped_operations(rt: HostRuntime) -> Result<(), Fail> {
         [
             AtomicOp::SetVersionstampedKey.is_versionstamped(),
             AtomicOp::SetVersionstampedValue.is_versionstamped(),
+            AtomicOp::OldStampedKey.is_versionstamped(),
+            AtomicOp::OldStampedValue.is_versionstamped(),
+            AtomicOp::OldMin.is_versionstamped(),
             AtomicOp::ByteMax.is_versionstamped(),
         ],
-        [true, true, false]
+        [true, true, true, true, false, false]
     );
     Ok(())
 }

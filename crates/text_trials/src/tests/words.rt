@@ -1,24 +1,48 @@
 //! Words of a command line.
 
 use command_words::{ArgFault, ArgWords, Args, RunArgs, read_args};
+use database_rules::Api;
 use std::alloc::{AllocError, Global};
 use std::test::Fail;
+
+// What `run` or `replay` asks for.
+#[derive(Clone, Copy)]
+struct WantedRun {
+    prefix: &'static str,
+    api: Api,
+    seed: u64,
+    polls: u32,
+}
+
+const PLAIN: WantedRun = WantedRun {
+    prefix: "t",
+    api: Api::V630,
+    seed: 0,
+    polls: 10_000,
+};
 
 // What a command line asks for.
 #[derive(Clone, Copy)]
 enum Wanted {
-    Run(&'static str, u64, u32),
-    Replay(&'static str, u64, u32),
+    Run(WantedRun),
+    Replay(WantedRun),
     Gen(u32),
+    Watch,
+    Asm,
+    Disasm,
     Usage,
 }
 
 const LINES: &[(&[&str], Wanted)] = &[
-    (&["run", "t", "630"], Wanted::Run("t", 0, 10_000)),
-    (&["replay", "t", "630"], Wanted::Replay("t", 0, 10_000)),
+    (&["run", "t", "630"], Wanted::Run(PLAIN)),
+    (&["replay", "t", "630"], Wanted::Replay(PLAIN)),
     (
         &["run", "--seed=7", "t", "--polls=1", "630"],
-        Wanted::Run("t", 7, 1),
+        Wanted::Run(WantedRun {
+            seed: 7,
+            polls: 1,
+            ..PLAIN
+        }),
     ),
     (
         &[
@@ -30,24 +54,61 @@ const LINES: &[(&[&str], Wanted)] = &[
             "--seed",
             "18446744073709551615",
         ],
-        Wanted::Replay("t", u64::MAX, 100_000),
+        Wanted::Replay(WantedRun {
+            seed: u64::MAX,
+            polls: 100_000,
+            ..PLAIN
+        }),
     ),
-    (&["run", "-", "630"], Wanted::Run("-", 0, 10_000)),
+    (
+        &["run", "-", "630"],
+        Wanted::Run(WantedRun {
+            prefix: "-",
+            ..PLAIN
+        }),
+    ),
     (
         &["run", "--", "--seed=1", "630"],
-        Wanted::Run("--seed=1", 0, 10_000),
+        Wanted::Run(WantedRun {
+            prefix: "--seed=1",
+            ..PLAIN
+        }),
+    ),
+    (
+        &["run", "t", "500"],
+        Wanted::Run(WantedRun {
+            api: Api::V500,
+            ..PLAIN
+        }),
+    ),
+    (
+        &["replay", "--seed=7", "t", "500"],
+        Wanted::Replay(WantedRun {
+            api: Api::V500,
+            seed: 7,
+            ..PLAIN
+        }),
     ),
     (&["gen", "1"], Wanted::Gen(1)),
     (&["gen", "30"], Wanted::Gen(30)),
+    (&["watch"], Wanted::Watch),
+    (&["watch", "--"], Wanted::Watch),
+    (&["asm"], Wanted::Asm),
+    (&["disasm"], Wanted::Disasm),
     (&[], Wanted::Usage),
     (&["help"], Wanted::Usage),
     (&["--help"], Wanted::Usage),
+    (&["watch", "t"], Wanted::Usage),
+    (&["watch", "--", "--"], Wanted::Usage),
+    (&["asm", "-"], Wanted::Usage),
+    (&["disasm", "--seed=1"], Wanted::Usage),
     (&["gen", "0"], Wanted::Usage),
     (&["gen", "31"], Wanted::Usage),
     (&["gen", "05"], Wanted::Usage),
     (&["gen", "--seed=1", "5"], Wanted::Usage),
     (&["run", "t"], Wanted::Usage),
-    (&["run", "t", "620"], Wanted::Usage),
+    (&["run", "t", "510"], Wanted::Usage),
+    (&["run", "t", "0500"], Wanted::Usage),
     (&["run", "t", "630", "x"], Wanted::Usage),
     (&["run", "t", "630", "--see=1"], Wanted::Usage),
     (
@@ -71,17 +132,21 @@ fn words_of(alloc: Global, line: &[&str]) -> Result<ArgWords, AllocError> {
     Ok(words)
 }
 
-fn is_run(run: &RunArgs, prefix: &str, seed: u64, polls: u32) -> bool {
-    run.prefix.as_slice() == prefix.as_bytes() && run.seed == seed && run.polls == polls
+fn is_run(run: &RunArgs, wanted: WantedRun) -> bool {
+    run.prefix.as_slice() == wanted.prefix.as_bytes()
+        && run.api == wanted.api
+        && run.seed == wanted.seed
+        && run.polls == wanted.polls
 }
 
 fn is_told(told: Result<Args, ArgFault>, wanted: Wanted) -> bool {
     match (told, wanted) {
-        (Ok(Args::Run(run)), Wanted::Run(prefix, seed, polls)) => is_run(&run, prefix, seed, polls),
-        (Ok(Args::Replay(run)), Wanted::Replay(prefix, seed, polls)) => {
-            is_run(&run, prefix, seed, polls)
-        }
+        (Ok(Args::Run(run)), Wanted::Run(wanted)) => is_run(&run, wanted),
+        (Ok(Args::Replay(run)), Wanted::Replay(wanted)) => is_run(&run, wanted),
         (Ok(Args::Gen(workers)), Wanted::Gen(wanted)) => workers == wanted,
+        (Ok(Args::Watch), Wanted::Watch)
+        | (Ok(Args::Asm), Wanted::Asm)
+        | (Ok(Args::Disasm), Wanted::Disasm) => true,
         (Err(fault), Wanted::Usage) => matches!(fault, ArgFault::Usage),
         _ => false,
     }

@@ -5,9 +5,11 @@ ghost use Rattle.request_line.specs.History.{first_history};
 ghost use Rattle.request_line.specs.Line.{history};
 ghost use Rattle.machine_threads.specs.Threaded.{history_of, IsRunning};
 
+use database_rules::Api;
 use fdb_calls::{Reply, Request};
 use future_cell::{Receipt, Wake};
 use key_bytes::{Bytes, Pair, Pairs};
+use machine_rules::MachineOptions;
 use machine_threads::{Cause, ThreadedMachine, run_machine};
 use network::{Post, Service, serve};
 use outside::OpenGate;
@@ -65,6 +67,11 @@ fn starting(alloc: Global) -> Result<Pairs, AllocError> {
     Ok(instructions)
 }
 
+const OPTIONS: MachineOptions = MachineOptions {
+    api: Api::V630,
+    polls: 3,
+};
+
 // Machine 0 with these instructions.
 fn first_machine(alloc: Global, sender: Sender<Post>) -> Result<ThreadedMachine, AllocError>
     requires { history sender ≡ first_history }
@@ -72,7 +79,7 @@ fn first_machine(alloc: Global, sender: Sender<Post>) -> Result<ThreadedMachine,
     ensures history { IfOk result (λ machine. history_of machine ≡ first_history) }
 {
     let prefix = Bytes::from_slice(alloc, b"p")?;
-    let suspended = start(alloc, 0, prefix, 3, starting(alloc)?)?;
+    let suspended = start(alloc, 0, prefix, OPTIONS, starting(alloc)?)?;
     Ok(ThreadedMachine::new(alloc, suspended, sender))
 }
 

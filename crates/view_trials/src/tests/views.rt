@@ -1,7 +1,7 @@
 //! What a transaction sees of the store under its mutations.
 
 use super::{key_of, push_pair, range_of};
-use atomic_ops::has_room;
+use atomic_ops::{StampForm, has_room};
 use database_rules::{AtomicOp, Mode, RangeOptions};
 use key_bytes::{Bytes, Key, KeyRange, Pair, Pairs};
 use range_read::{OrderedView, all};
@@ -31,14 +31,14 @@ const STAMPED_KEY: &[u8] = b"b0123456789\x01\0\0\0";
 const STAMPED_VALUE: &[u8] = b"0123456789\0\0\0\0";
 
 fn stamp_key(edits: &mut WriteMap, key: &[u8]) -> Result<(), AllocError> {
-    if has_room(key) {
+    if has_room(StampForm::Last4, key) {
         edits.stamp(AtomicOp::SetVersionstampedKey, key, b"")?;
     }
     Ok(())
 }
 
 fn stamp_value(edits: &mut WriteMap, key: &[u8], value: &[u8]) -> Result<(), AllocError> {
-    if has_room(value) {
+    if has_room(StampForm::Last4, value) {
         edits.stamp(AtomicOp::SetVersionstampedValue, key, value)?;
     }
     Ok(())

@@ -1,13 +1,18 @@
-use Rattle.std.proofs.Common.{◌≡◌, ◌∙◌, ◌-◌, length, take, drop, ap, length-drop, arith}
-use Rattle.std.proofs.lemmas.List.{take_all}
-use Rattle.byteorder.specs.Endian.{little_number}
-use Rattle.atomic_ops.proofs.Stamps.{little_is_low}
+use Rattle.std.proofs.Common.{◌∙◌, ap}
+use Rattle.database_rules.specs.Atomics.{offset_size}
+use Rattle.atomic_ops.proofs.Stamps.{offset_is_place}
 use Rattle.atomic_ops.proofs.stamping.stamp_place.Goals as goal
 
-pub returns-clause-value : goal.returns-clause-value
-returns-clause-value c =
-    let bytes = c.args.bytes.now in
-    let at = length bytes - 4 in
-    let last = drop at bytes in
-    let all : take (length bytes - at) last ≡ last = take_all (length bytes - at) last (omega (arith, length-drop at bytes)) in
-    c.read_u32.ensures ∙ ap (little_number 4) all ∙ little_is_low 4 last (omega (arith, length-drop at bytes, c.requires))
+pub returns-in-Last4-clause-value : goal.returns-in-Last4-clause-value
+returns-in-Last4-clause-value c =
+    c.read_u32.ensures
+    ∙ offset_is_place c.args.form 4 c.offset_size.result c.args.bytes.now c.offset_size.ensures (ap offset_size c.in-Last4.is) c.requires
+
+pub returns-in-Last2-clause-value : goal.returns-in-Last2-clause-value
+returns-in-Last2-clause-value c =
+    c.from.ensures ∙ c.read_u16.ensures
+    ∙ offset_is_place c.args.form 2 c.offset_size.result c.args.bytes.now c.offset_size.ensures (ap offset_size c.in-Last2.is) c.requires
+
+pub returns-in-Front-clause-value : goal.returns-in-Front-clause-value
+returns-in-Front-clause-value c =
+    offset_is_place c.args.form 0 c.offset_size.result c.args.bytes.now c.offset_size.ensures (ap offset_size c.in-Front.is) c.requires

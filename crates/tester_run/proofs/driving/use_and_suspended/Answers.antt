@@ -2,17 +2,18 @@ use Rattle.std.proofs.Common.{◌≡◌, None, Some, ℕ, Option, refl, sym, ap,
 use Rattle.std.specs.Prelude.{IfSome, map, option_to_list, slice_get, slice_set}
 use Rattle.std.proofs.lemmas.List.{append-nil}
 use Rattle.std.proofs.lemmas.Option.{same_Some}
+use Rattle.machine_rules.specs.declared.MachineOptions.{MachineOptions}
 use Rattle.machine_rules.specs.Runs.{started_by}
 use Rattle.suspended_machine.specs.declared.suspended.SuspendedMachine.{SuspendedMachine}
 use Rattle.suspended_machine.specs.SuspendedMachines.{progress_of, IsSuspended}
 use Rattle.tester_run.proofs.SuspendedMachines.{asks_there, get_within}
 use Rattle.tester_run.proofs.driving.use_and_suspended.Goals as goal
 
--- a suspended machine of the same place has the same bound of polls
-polls_are : (found : Option SuspendedMachine) (first asked : SuspendedMachine) (polls : ℕ) → found ≡ Some first → found ≡ Some asked
-    → polls ≡ first.machine.machine.polls → polls ≡ asked.machine.machine.polls
-polls_are found first asked polls one other is =
-    is ∙ ap (λ (suspended : SuspendedMachine). suspended.machine.machine.polls) (same_Some first asked (sym one ∙ other))
+-- a suspended machine of the same place has the same options
+options_are : (found : Option SuspendedMachine) (first asked : SuspendedMachine) (options : MachineOptions) → found ≡ Some first → found ≡ Some asked
+    → options ≡ first.machine.machine.options → options ≡ asked.machine.machine.options
+options_are found first asked options one other is =
+    is ∙ ap (λ (suspended : SuspendedMachine). suspended.machine.machine.options) (same_Some first asked (sym one ∙ other))
 
 pub use_given-requires-clause-is_suspended : goal.use_given-requires-clause-is_suspended
 use_given-requires-clause-is_suspended c =
@@ -41,9 +42,9 @@ returns-in-None c =
       nearer = c.in_ok-asks_on.ensures.nearer;
       more = None;
       started = ap (λ (suspended : Option SuspendedMachine). map progress_of (option_to_list suspended)) (sym c.in-None.is) ∙ c.in_ok-suspended_started.ensures.started
-          ∙ ap (λ polls. started_by (Some c.args.prefix) polls c.args.reply) (polls_are (slice_get suspended_machines c.args.number) c.index.result.now asked
-          c.polls-polls.result (get_within suspended_machines c.args.number c.index.result.now c.requires.within ∙ ap Some (sym c.index.ensures)) here
-          c.polls-polls.ensures);
+          ∙ ap (λ options. started_by (Some c.args.prefix) options c.args.reply) (options_are (slice_get suspended_machines c.args.number) c.index.result.now asked
+          c.options-options.result (get_within suspended_machines c.args.number c.index.result.now c.requires.within ∙ ap Some (sym c.index.ensures)) here
+          c.options-options.ensures);
       more_is_suspended = tt;
       suspended_machines = sym (append-nil (slice_set suspended_machines c.args.number c.use_given.new.suspended));
       came_is = c.moved_by.ensures;
@@ -65,9 +66,9 @@ returns-in_ok-push-in-Some c =
       nearer = c.in_ok-asks_on.ensures.nearer;
       more = Some c.in-Some.suspended;
       started = ap (λ (suspended : Option SuspendedMachine). map progress_of (option_to_list suspended)) (sym c.in-Some.is) ∙ c.in_ok-suspended_started.ensures.started
-          ∙ ap (λ polls. started_by (Some c.args.prefix) polls c.args.reply) (polls_are (slice_get suspended_machines c.args.number) c.index.result.now asked
-          c.polls-polls.result (get_within suspended_machines c.args.number c.index.result.now c.requires.within ∙ ap Some (sym c.index.ensures)) here
-          c.polls-polls.ensures);
+          ∙ ap (λ options. started_by (Some c.args.prefix) options c.args.reply) (options_are (slice_get suspended_machines c.args.number) c.index.result.now asked
+          c.options-options.result (get_within suspended_machines c.args.number c.index.result.now c.requires.within ∙ ap Some (sym c.index.ensures)) here
+          c.options-options.ensures);
       more_is_suspended = subst (λ (suspended : Option SuspendedMachine). IfSome suspended IsSuspended) c.in-Some.is c.in_ok-suspended_started.ensures.is_suspended;
       suspended_machines = c.in_ok-push-in-Some.ensures.items;
       came_is = refl;

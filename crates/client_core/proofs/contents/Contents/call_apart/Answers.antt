@@ -7,6 +7,6 @@ use Rattle.client_core.proofs.contents.Contents.call_apart.Goals as goal
 pub returns-clause-step : goal.returns-clause-step
 returns-clause-step c =
     ok_so _ _ c.call_on.result (λ reply made t world stood stands.
-    apart_took (model_of c.args.self.now) _ world c.args.call.now c.args.transaction.now c.call_on.new.transaction reply t made refl stood
+    apart_took (model_of c.args.self.now) _ world c.args.call.now c.args.transaction.now c.call_on.new.transaction reply t made refl refl stood
     stands)
     c.call_on.ensures.made

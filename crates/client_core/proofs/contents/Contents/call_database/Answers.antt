@@ -1,4 +1,4 @@
-use Rattle.std.proofs.Common.{refl}
+use Rattle.std.proofs.Common.{refl, sym}
 use Rattle.std.proofs.lemmas.Result.{IfOk-weaker, on_err_weaker}
 use Rattle.machine_rules.specs.Worlds.{World, fresh_at_last, next_life, called_apart, step}
 use Rattle.fdb_calls.specs.Calling.{called}
@@ -44,7 +44,7 @@ returns-clause-step c =
 pub returns-in_err-reply-clause-kept : goal.returns-in_err-reply-clause-kept
 returns-in_err-reply-clause-kept c = err_always c.from_residual-in_err-reply.result (λ world stands.
     let begun = c.in_ok-transaction.ensures.drawn world stands in
-    c.in_err-reply.ensures.kept (fresh_at_last world) world.setting begun.0 begun.1.keeps)
+    c.in_err-reply.ensures.kept (fresh_at_last world) world.setting begun.0 begun.1.keeps (sym begun.1.options))
 
 pub returns-clause-kept : goal.returns-clause-kept
 returns-clause-kept c =
@@ -54,5 +54,6 @@ returns-clause-kept c =
     let made = called (drawn_in world).setting (next_life (drawn_in world)) (fresh_at_last world) c.args.call.now in
     still made.transaction world.setting told.stands
     (keeps_ungrown c.call_apart.new.self.store c.call_apart.new.self.index world.setting made.commits
-    (first_commits world.setting (next_life (drawn_in world)) (next_life world) c.args.call.now) told.world_stands.keeps))
+    (first_commits world.setting (next_life (drawn_in world)) (next_life world) c.args.call.now) told.world_stands.keeps)
+    (sym told.world_stands.options))
     c.commit_apart.ensures.kept

@@ -11,7 +11,7 @@ pub returns-in-Some-clause-step : goal.returns-in-Some-clause-step
 returns-in-Some-clause-step c =
     ok_so _ _ c.call_on.result (λ reply made world stands.
     made_took (model_of c.args.self.now) _ world c.args.name.now c.args.call.now c.in-Some.transaction.now c.call_on.new.transaction
-    reply (sym c.in-Some.ensures.value) made refl stands)
+    reply (sym c.in-Some.ensures.value) made refl refl stands)
     c.call_on.ensures.made
 
 pub returns-in-Some-clause-kept : goal.returns-in-Some-clause-kept

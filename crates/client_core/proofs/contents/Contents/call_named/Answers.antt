@@ -11,7 +11,7 @@ pub returns-clause-step : goal.returns-clause-step
 returns-clause-step c =
     ok_so _ _ c.call_on.result (λ reply made world stands.
     named_took (model_of c.args.self.now) _ world c.args.name.now c.args.call.now c.unwrap-transaction.result.now c.call_on.new.transaction
-    reply (sym c.get_mut.ensures.value ∙ ap option_copied_mut c.unwrap-transaction.ensures) made refl stands)
+    reply (sym c.get_mut.ensures.value ∙ ap option_copied_mut c.unwrap-transaction.ensures) made refl refl stands)
     c.call_on.ensures.made
 
 pub returns-clause-kept : goal.returns-clause-kept

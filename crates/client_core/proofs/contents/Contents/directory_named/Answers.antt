@@ -8,5 +8,5 @@ pub returns-clause-step : goal.returns-clause-step
 returns-clause-step g c = λ world stands.
     named_drew (model_of c.args.self.now) _ world c.args.name.now c.args.kind c.args.layer.now c.args.args.now c.life-life.result
     c.outcome_after-outcome.result c.unwrap-transaction.result.now _ c.in_ok-reply.reply _ _
-    (sym c.get_mut.ensures.value ∙ ap option_copied_mut c.unwrap-transaction.ensures) c.in_ok-reply.ensures.reaches refl refl refl
+    (sym c.get_mut.ensures.value ∙ ap option_copied_mut c.unwrap-transaction.ensures) c.in_ok-reply.ensures.reaches refl refl refl refl
     c.life-life.ensures c.outcome_after-outcome.ensures c.in_ok-go_on.ensures.ok stands

@@ -7,4 +7,4 @@ pub returns-clause-drawn : goal.returns-clause-drawn
 returns-clause-drawn c = λ world stands.
     drawn_apart (model_of c.args.self.now) _ world c.next.result c.at_last-transaction.result c.next.ensures
     (c.at_last-transaction.ensures c.args.self.now.index)
-    refl refl refl c.in_ok-draw.ensures stands
+    refl refl refl refl c.in_ok-draw.ensures stands

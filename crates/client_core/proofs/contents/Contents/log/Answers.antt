@@ -1,4 +1,4 @@
-use Rattle.std.proofs.Common.{◌≡◌, Result, Ok, Err, refl, ap, ◌∙◌}
+use Rattle.std.proofs.Common.{◌≡◌, Result, Ok, Err, refl, sym, ap, ◌∙◌}
 use Rattle.std.proofs.lemmas.Result.{IfOk-weaker, on_err_weaker}
 use Rattle.fdb_calls.specs.declared.fault.TrFault.{TrFault}
 use Rattle.fdb_calls.specs.declared.fault.TrFault.TheVariants as fault
@@ -35,7 +35,7 @@ returns-clause-step c = IfOk-weaker c.commit_apart.result _ _ (λ reply took wor
     let told = replied c.log.result c.in_ok-reply.reply c.log.new.self made (c.in_ok-reply.ensures {u = tt}) (c.log.ensures before begun.0) in
     let place = logs_in_place c.args.prefix.now c.args.entries.now before in
     took (called_apart (drawn_in world) before made) made told.0 told.1
-    (logged_apart _ _ (drawn_in world) c.life-life.result c.outcome_after.result c.log.new.self before made begun.1 place.commits place.lives refl refl refl
+    (logged_apart _ _ (drawn_in world) c.life-life.result c.outcome_after.result c.log.new.self before made begun.1 place.commits place.lives refl refl refl refl
     c.in_ok-go_on.ensures.ok c.outcome_after.ensures (c.life-life.ensures ∙ begun.0.life) told.1))
     c.commit_apart.ensures.step
 
@@ -45,5 +45,5 @@ returns-clause-kept c = on_err_weaker c.commit_apart.result (λ still world stan
     let before = fresh_at_last world in
     let made = in_turn (logs c.args.prefix.now c.args.entries.now) before in
     let told = replied c.log.result c.in_ok-reply.reply c.log.new.self made (c.in_ok-reply.ensures {u = tt}) (c.log.ensures before begun.0) in
-    still made.transaction world.setting told.1 begun.1.keeps)
+    still made.transaction world.setting told.1 begun.1.keeps (sym begun.1.options))
     c.commit_apart.ensures.kept

@@ -11,7 +11,7 @@ returns-clause-stands c = λ world stands.
     record {
       reply_is = refl;
       stands = new_stands (model_of c.args.self.now) _ world c.args.name.now c.next.result c.life_of-life.result c.outcome_after-outcome.result
-          c.new-transaction.result stands c.next.ensures c.new-transaction.ensures refl refl inserted c.life_of-life.ensures
+          c.new-transaction.result stands c.next.ensures c.new-transaction.ensures refl refl refl inserted c.life_of-life.ensures
           c.outcome_after-outcome.ensures c.in_ok-go_on.ensures.ok;
     }
 

@@ -26,7 +26,7 @@ returns c =
         exact = w.in-Stamp.is;
         stands = w.self-is;
         is = of_answer _ _ _ _ w.act-is c.in_ok-act.was w.resume_poll-act.ensures
-            ∙ ap (λ (instruction : Option Instruction). after_poll old.machine.polls old.machine.next old.machine.registers w.in-Stamp.wait
+            ∙ ap (λ (instruction : Option Instruction). after_poll old.machine.options.polls old.machine.next old.machine.registers w.in-Stamp.wait
             (λ registers. act_of old.machine.next registers instruction) awaits.Stamp given)
             (w.in_ok-instruction-in-Stamp.ensures.is ∙ ap (λ (old : MachineModel). instruction_at old.machine) (sym c.self.view_is));
       }

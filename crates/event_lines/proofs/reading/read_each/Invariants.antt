@@ -3,7 +3,7 @@ use Rattle.line_rules.specs.Reading.{input_limit, lines_of}
 use Rattle.event_rules.specs.Events.{start, read_events}
 use Rattle.event_lines.specs.Lines.{place_is}
 use Rattle.event_lines.proofs.EventReading.{before}
-use Rattle.event_lines.proofs.reading.read_events.Given as goal
+use Rattle.event_lines.proofs.reading.read_each.Given as goal
 
 abbrev pub invariant-loop-left : goal.invariant-loop-left
 invariant-loop-left l = record {

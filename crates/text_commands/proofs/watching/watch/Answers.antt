@@ -1,0 +1,12 @@
+use Rattle.std.proofs.Common.{sym, subst}
+use Rattle.std.proofs.lemmas.Result.{err_from_is_err_and}
+use Rattle.dump_text.specs.Reading.{Fails}
+use Rattle.text_commands.proofs.Limits.{events_past}
+use Rattle.text_commands.proofs.watching.watch.Goals as goal
+
+pub returns-in_err-events-clause-past : goal.returns-in_err-events-clause-past
+returns-in_err-events-clause-past c = λ rest long.
+    let p = err_from_is_err_and c.from_residual.result c.from_residual.ensures.1 in
+    let fault = c.in_err-events.field-0.0 in
+    rw (p.1, p.2)
+    (subst (λ read. Fails fault read) (sym (events_past c.args.bytes.now rest long).same) c.in_err-events.ensures.exact)

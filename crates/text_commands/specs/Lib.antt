@@ -1,0 +1,3 @@
+pub mod Firings
+pub mod Texts
+pub mod Scenes
