@@ -1,6 +1,7 @@
 mod Rows
 pub mod Acting
 pub mod Codes
+pub mod Digits
 pub mod Keeping
 pub mod Keys
 pub mod Opening

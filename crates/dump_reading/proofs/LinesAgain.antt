@@ -22,7 +22,7 @@ use Rattle.dump_reading.specs.Dumps.{machine_fields, item_fields, error_fields, 
 use Rattle.dump_reading.specs.Fields.{number_field, is_word}
 use Rattle.dump_reading.proofs.FieldLaws.{spaced, number_field_again, end_field_again, word_field_again, text_field_again}
 use Rattle.dump_reading.proofs.LineLaws.{content, line_of-is}
-use Rattle.dump_reading.proofs.Numbers.{decimal_digits}
+use Rattle.dump_reading.proofs.Numbers.{digits_of_number}
 
 -- ---- lines without a line feed in them
 
@@ -46,7 +46,7 @@ hexadecimal_is_no_feed : (n : ℕ) → (hexadecimal_digit n == 10) ≡ false
 hexadecimal_is_no_feed n = grind (arith, nat_tests)
 
 feedless_decimal : (most n : ℕ) → n ≤ most → most < 2 ^ 64 → IsFeedless (decimal n)
-feedless_decimal most n h k = feedless_by is_digit digit_is_no_feed (decimal n) (decimal_digits n (omega arith))
+feedless_decimal most n h k = feedless_by is_digit digit_is_no_feed (decimal n) (digits_of_number n (omega arith))
 
 feedless_end : (end : EndWord) → IsFeedless (word_of end)
 feedless_end ends.Ended = feedless_by is_plain plain_is_no_feed (word_of ends.Ended) refl

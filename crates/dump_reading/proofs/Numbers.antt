@@ -1,12 +1,12 @@
 -- A number that was read is spelled by the digits that were read, and a number's digits are read as the number.
-use Rattle.std.proofs.Common.{◌≡◌, ℕ, zero, suc, ◌+◌, ◌-◌, ◌^◌, ◌<◌, ◌≤◌, Bool, true, false, cond, not, ◌&&◌, ◌==◌, nat_lt, List, [], ◌∷◌, ◌++◌, length, get_or, take, drop, Result, Ok, Err, refl, sym, ap, ◌∙◌, arith}
+use Rattle.std.proofs.Common.{◌≡◌, ℕ, zero, suc, ◌+◌, ◌-◌, ◌*◌, ◌/◌, ◌%◌, ◌^◌, ◌<◌, ◌≤◌, Bool, true, false, cond, not, ◌&&◌, ◌==◌, nat_lt, List, [], ◌∷◌, ◌++◌, length, get_or, take, drop, Result, Ok, Err, refl, sym, ap, ◌∙◌, append_assoc, arith}
 use Rattle.std.specs.Fmt.{decimal}
 use Rattle.std.specs.Int.{IsInRange}
 use Rattle.std.specs.List.{prefix_len, list_all}
 use Rattle.std.proofs.lemmas.Bool.{and_parts, and_from, ne_eqb, ltb-false, le-ltb}
 use Rattle.std.proofs.lemmas.Bool.Decides.{nat_tests}
-use Rattle.std.proofs.lemmas.Fmt.{digits_decimal, digits_value-decimal, decimal-digits_value, decimal_nonempty, first_decimal, decimal_digit}
-use Rattle.std.proofs.lemmas.List.{take_at, drop_at, take-append-drop, get_or_append_left, get_or-take}
+use Rattle.std.proofs.lemmas.Fmt.{decimal_is_IsNumeral_wide, decimal_step_wide, decimal_by_steps_wide, decimal_digit}
+use Rattle.std.proofs.lemmas.List.{take_at, drop_at, take-append-drop, get_or_append_left, get_or-take, append-nil, length-append}
 use Rattle.std.proofs.lemmas.List.Folds.{length-prefix_len}
 use Rattle.std.proofs.lemmas.Str.Parse.{IsDigitsTest, IsNumeralModel, FoldsDigits, numerals_by_fold}
 use Rattle.line_rules.proofs.ReadLines.{guard_ok}
@@ -41,8 +41,63 @@ folds = record { empty = λ n. refl; more = λ n byte rest h. refl }
 numerals : IsNumeralModel AreDigits (value_after 0)
 numerals = numerals_by_fold AreDigits tells value_after folds
 
-pub decimal_digits : (n : ℕ) → n < 2 ^ 64 → AreDigits (decimal n)
-decimal_digits n h = digits_decimal numerals n h
+-- ---- the digits of a number, and the number of digits
+
+pub digits_of_number : (n : ℕ) → n < 10 ^ 64 → AreDigits (decimal n)
+digits_of_number n h = numerals.from (decimal n) (decimal_is_IsNumeral_wide n h).0.1
+
+pub number_of_digits : (n : ℕ) → n < 10 ^ 64 → value_after 0 (decimal n) ≡ n
+number_of_digits n h = numerals.same (decimal n) (decimal_is_IsNumeral_wide n h).0.1 ∙ (decimal_is_IsNumeral_wide n h).1
+
+pub some_digits : (n : ℕ) → n < 10 ^ 64 → 0 < length (decimal n)
+some_digits n h = (decimal_is_IsNumeral_wide n h).0.0
+
+at_least : (n : ℕ) (digits : List ℕ) → n ≤ value_after n digits
+unfolding value_after
+at_least n [] = omega arith
+at_least n (digit ∷ digits) = omega (arith, at_least (n * 10 + (digit - 48)) digits)
+
+more_digits : (n : ℕ) (digits : List ℕ) → 0 < n → AreDigits digits → value_after n digits < 10 ^ 64
+    → decimal (value_after n digits) ≡ decimal n ++ digits
+unfolding value_after
+more_digits n [] some are small = sym (append-nil (decimal n))
+more_digits n (digit ∷ digits) some are small =
+    let both = and_parts (is_digit digit) (list_all is_digit digits) are in
+    let within = digit_within digit both.0 in
+    let low : 48 ≤ digit = within.0 in
+    let high : digit ≤ 57 = within.1 in
+    let m : ℕ = n * 10 + (digit - 48) in
+    let front : m / 10 ≡ n = omega arith in
+    let end : 48 + m % 10 ≡ digit = omega arith in
+    let step : decimal m ≡ decimal n ++ digit ∷ [] =
+    decimal_step_wide m (omega arith) (omega (arith, at_least m digits)) ∙ (λ i. decimal (front i) ++ (end i ∷ [])) in
+    more_digits m digits (omega arith) both.1 small ∙ ap (λ (x : List ℕ). x ++ digits) step ∙ append_assoc (decimal n) (digit ∷ []) digits
+
+-- digits without a leading zero are those of their number
+pub digits_again : (digits : List ℕ) → AreDigits digits → 0 < length digits → (get_or digits 0 0 ≡ 48 → length digits ≡ 1)
+    → value_after 0 digits < 10 ^ 64 → decimal (value_after 0 digits) ≡ digits
+unfolding value_after
+digits_again [] are some lead small = absurd (omega arith)
+digits_again (digit ∷ []) are some lead small =
+    let both = and_parts (is_digit digit) true are in
+    let within = digit_within digit both.0 in
+    let low : 48 ≤ digit = within.0 in
+    let high : digit ≤ 57 = within.1 in
+    decimal_digit (0 * 10 + (digit - 48)) (omega arith) ∙ ap (λ (x : ℕ). x ∷ []) (omega arith)
+digits_again (digit ∷ next ∷ digits) are some lead small =
+    let both = and_parts (is_digit digit) (list_all is_digit (next ∷ digits)) are in
+    let within = digit_within digit both.0 in
+    let low : 48 ≤ digit = within.0 in
+    let high : digit ≤ 57 = within.1 in
+    let no : digit ≡ 48 → ⊥ = λ z. omega (arith, lead z) in
+    let is : 48 + (0 * 10 + (digit - 48)) ≡ digit = omega arith in
+    let more : 0 < 0 * 10 + (digit - 48) = omega (arith, no) in
+    more_digits (0 * 10 + (digit - 48)) (next ∷ digits) more both.1 small
+    ∙ ap (λ (x : List ℕ). x ++ (next ∷ digits)) (decimal_digit (0 * 10 + (digit - 48)) (omega arith) ∙ ap (λ (x : ℕ). x ∷ []) is)
+
+pub first_digit : (n : ℕ) → 0 < n → n < 10 ^ 64 → 48 < get_or (decimal n) 0 0
+first_digit n some small = (decimal_by_steps_wide (λ m ds. (0 < length ds) × (0 < m → 48 < get_or ds 0 0)) (λ m l. (omega (arith, decimal_digit m l), λ a. omega (arith, decimal_digit m l)))
+    (λ m ds l h. (omega (arith, length-append ds ((48 + m % 10) ∷ [])), λ a. omega (arith, get_or_append_left ds ((48 + m % 10) ∷ []) 0 0 h.0, h.1 (omega arith)))) n small).1 some
 
 -- ---- runs
 
@@ -80,7 +135,7 @@ found read = Ok read
 found_is : (x y : ℕ × List ℕ) → found x ≡ found y → x ≡ y
 found_is x y e = cc
 
-pub number_was : (most : ℕ) (bytes : List ℕ) (read : ℕ × List ℕ) → most < 2 ^ 64 → number_at most bytes ≡ Ok read → IsNumber most bytes read
+pub number_was : (most : ℕ) (bytes : List ℕ) (read : ℕ × List ℕ) → most < 10 ^ 64 → number_at most bytes ≡ Ok read → IsNumber most bytes read
 unfolding number_at
 number_was most bytes read h e =
     let len = prefix_len is_digit bytes in
@@ -95,26 +150,26 @@ number_was most bytes read h e =
     let lens = length-prefix_len is_digit bytes in
     let some = not_zero len first.0 in
     let lead = λ (k : get_or digits 0 0 ≡ 48). leads (get_or bytes 0 0) len second.0 (sym (get_or-take len bytes 0 0 some) ∙ k) in
-    let spelled = decimal-digits_value numerals digits (run_passes is_digit bytes) (omega (arith, lens)) (λ k. omega (arith, lead k, lens)) (omega arith) in
+    let spelled = digits_again digits (run_passes is_digit bytes) (omega (arith, lens)) (λ k. omega (arith, lead k, lens)) (omega arith) in
     rw (← is) (record { spelled = sym (take-append-drop len bytes) ∙ ap (λ (x : List ℕ). x ++ drop len bytes) (sym spelled); small = within })
 
-first_of : (n : ℕ) (rest : List ℕ) → n < 2 ^ 64 → (get_or (decimal n ++ rest) 0 0 == 48 && not (length (decimal n) == 1)) ≡ false
+first_of : (n : ℕ) (rest : List ℕ) → n < 10 ^ 64 → (get_or (decimal n ++ rest) 0 0 == 48 && not (length (decimal n) == 1)) ≡ false
 first_of zero rest h = rw (decimal_digit 0 (omega arith)) refl
 first_of (suc n) rest h =
     let digits = decimal (suc n) in
-    let some = decimal_nonempty (suc n) h in
-    let larger : 48 < get_or (digits ++ rest) 0 0 = omega (arith, first_decimal (suc n) (omega arith) h, get_or_append_left digits rest 0 0 some) in
+    let some = some_digits (suc n) h in
+    let larger : 48 < get_or (digits ++ rest) 0 0 = omega (arith, first_digit (suc n) (omega arith) h, get_or_append_left digits rest 0 0 some) in
     grind (arith, nat_tests)
 
-pub number_again : (most n : ℕ) (rest : List ℕ) → most < 2 ^ 64 → n ≤ most → prefix_len is_digit rest ≡ 0
+pub number_again : (most n : ℕ) (rest : List ℕ) → most < 10 ^ 64 → n ≤ most → prefix_len is_digit rest ≡ 0
     → number_at most (decimal n ++ rest) ≡ Ok (n, rest)
 unfolding number_at
 number_again most n rest h small ends =
-    let fits : n < 2 ^ 64 = omega arith in
-    let len : prefix_len is_digit (decimal n ++ rest) ≡ length (decimal n) = omega (arith, run_of is_digit (decimal n) rest (decimal_digits n fits)) in
+    let fits : n < 10 ^ 64 = omega arith in
+    let len : prefix_len is_digit (decimal n ++ rest) ≡ length (decimal n) = omega (arith, run_of is_digit (decimal n) rest (digits_of_number n fits)) in
     let some : (length (decimal n) == 0) ≡ false =
-    ne_eqb (length (decimal n)) 0 (λ k. omega (arith, k, decimal_nonempty n fits)) in
-    let value : value_after 0 (decimal n) ≡ n = digits_value-decimal numerals n fits in
+    ne_eqb (length (decimal n)) 0 (λ k. omega (arith, k, some_digits n fits)) in
+    let value : value_after 0 (decimal n) ≡ n = number_of_digits n fits in
     rw (
       len,
       some,

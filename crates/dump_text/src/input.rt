@@ -31,8 +31,8 @@ struct Place {
     pairs: usize,
 }
 
-// The first line of bytes that aren't empty, and what is left behind it.
-fn first_line(number: u32, bytes: &[u8]) -> (InputLine<'_>, &[u8])
+/// Takes the first line of bytes that aren't empty, and returns it with what is left behind it.
+pub fn first_line(number: u32, bytes: &[u8]) -> (InputLine<'_>, &[u8])
     requires { 0 < length bytes.now }
     ensures number { result.0.number ≡ number }
     ensures lines { lines_of bytes.now ≡ line_is result.0 ∷ lines_of result.1.now }

@@ -18,10 +18,12 @@ mod text;
 mod writing;
 
 pub use fault::LineFault;
-pub use input::read_lines;
+pub use input::{first_line, read_lines};
 pub use input_rules::{Form, Input, Order};
 pub use line::{EndWord, Line};
+pub use pair::{InputLine, is_below_top, read_fields};
 pub use printing::write_printable;
+pub use text::{ReadText, Stop, read_text};
 pub use writing::{
     write_error_line, write_item_line, write_line, write_machine_line, write_order_line,
     write_pair_line,

@@ -51,8 +51,8 @@ impl InputLine<'_> {
     }
 }
 
-// Whether a key is less than `FF`, which its first byte tells.
-fn is_below_top(key: &[u8]) -> bool
+/// Tells whether a key is less than `FF`, which its first byte tells.
+pub fn is_below_top(key: &[u8]) -> bool
     ensures { result ≡ key_lt key.now top }
 {
     match key {
@@ -79,8 +79,9 @@ pub fn read_pair(
     }
 }
 
-// The pair of the fields of a line: the key goes up to the separator.
-fn read_fields(
+/// Reads the pair of the fields of a line, the key up to the separator and the value up to the line feed, or returns the line's
+/// first fault. A text with an escape in it is built in the scratch buffer, whatever that held.
+pub fn read_fields(
     alloc: Global,
     scratch: &mut Vec<u8>,
     line: &InputLine<'_>,

@@ -1,12 +1,8 @@
--- What the program's lines and places stand for.
+-- What the program's places stand for.
 use Rattle.std.specs.Prelude.{ℕ, List, Result, Ok, Err}
-use Rattle.line_rules.specs.Reading.{Line, Flaw, Fault, fault_of}
+use Rattle.line_rules.specs.Reading.{Flaw, Fault, fault_of}
 use Rattle.event_rules.specs.Events as events
-use Rattle.event_lines.specs.declared.line.EventLine.{EventLine}
 use Rattle.event_lines.specs.declared.reading.Place.{Place}
-
-abbrev pub line_is : EventLine → Line
-line_is line = record { bytes = line.bytes.now; is_whole = line.is_whole }
 
 abbrev pub place_is : ℕ → Place → events.Place
 place_is number place = record { number = number; bytes = place.bytes; pairs = place.pairs; watches = place.watches }

@@ -6,7 +6,6 @@
 
 mod line;
 mod reading;
-mod text;
 
 pub use dump_text::LineFault;
 pub use event_rules::{Event, Events};

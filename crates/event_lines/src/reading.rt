@@ -1,16 +1,16 @@
 //! Reading of lines of events, one after the other.
 
-ghost use Rattle.std.specs.Prelude.{◌≡◌, ◌+◌, ◌^◌, ◌<◌, ◌≤◌, ◌∷◌, length, IfOk};
-ghost use Rattle.line_rules.specs.Reading.{size_of, lines_of};
+ghost use Rattle.std.specs.Prelude.{◌≡◌, ◌+◌, ◌^◌, ◌<◌, ◌≤◌, IfOk};
+ghost use Rattle.line_rules.specs.Reading.{size_of};
+ghost use Rattle.dump_text.specs.InputLines.{line_is};
 ghost use Rattle.dump_text.specs.Reading.{Gives};
 ghost use Rattle.event_rules.specs.Events.{next_place, is_too_many, read_event, events_of, AreEventsOf};
-ghost use Rattle.event_lines.specs.Lines.{line_is, place_is};
+ghost use Rattle.event_lines.specs.Lines.{place_is};
 
-use crate::line::{EventLine, read_event};
-use dump_text::LineFault;
+use crate::line::{is_watch, read_event};
+use dump_text::{InputLine, LineFault, first_line};
 use event_rules::{Event, Events};
 use lists::List;
-use memchr::memchr;
 use std::alloc::Global;
 
 // How many bytes an input may have.
@@ -30,47 +30,19 @@ struct Place {
     watches: u64,
 }
 
-// The first line of bytes that aren't empty, and what is left behind it.
-fn first_line(number: u32, bytes: &[u8]) -> (EventLine<'_>, &[u8])
-    requires { 0 < length bytes.now }
-    ensures number { result.0.number ≡ number }
-    ensures lines { lines_of bytes.now ≡ line_is result.0 ∷ lines_of result.1.now }
-    ensures size { size_of (line_is result.0) + length result.1.now ≡ length bytes.now }
-    ensures less { length result.1.now < length bytes.now }
-{
-    match memchr(b'\n', bytes) {
-        Some(n) => {
-            let line = EventLine {
-                number,
-                bytes: &bytes[..n],
-                is_whole: true,
-            };
-            (line, &bytes[n + 1..])
-        }
-        None => {
-            let line = EventLine {
-                number,
-                bytes,
-                is_whole: false,
-            };
-            (line, &bytes[bytes.len()..])
-        }
-    }
-}
-
 // Whether a line passes the limits of an input.
-fn is_too_many(place: Place, line: &EventLine<'_>) -> bool
+fn is_too_many(place: Place, line: &InputLine<'_>) -> bool
     requires { place.bytes + size_of (line_is line.now) < 2 ^ 64 }
     ensures { result ≡ is_too_many (place_is line.now.number place) (line_is line.now) }
 {
     let end = place.bytes + line.bytes.len() + usize::from(line.is_whole);
     end > INPUT_LIMIT
         || place.pairs >= PAIRS_LIMIT && line.is_pair()
-        || place.watches >= WATCHES_LIMIT && line.is_watch()
+        || place.watches >= WATCHES_LIMIT && is_watch(line)
 }
 
 // The place behind a line.
-fn behind(place: Place, line: &EventLine<'_>) -> Place
+fn behind(place: Place, line: &InputLine<'_>) -> Place
     requires bytes { place.bytes + size_of (line_is line.now) < 2 ^ 64 }
     requires pairs { place.pairs + 1 < 2 ^ 64 }
     requires watches { place.watches + 1 < 2 ^ 64 }
@@ -82,13 +54,18 @@ fn behind(place: Place, line: &EventLine<'_>) -> Place
     Place {
         bytes: place.bytes + line.bytes.len() + usize::from(line.is_whole),
         pairs: place.pairs + u64::from(line.is_pair()),
-        watches: place.watches + u64::from(line.is_watch()),
+        watches: place.watches + u64::from(is_watch(line)),
     }
 }
 
 // The event of the line at a place, or its first fault.
 #[tactic(auto, unfolding(event_rules::specs::Events::read_event))]
-fn read_at(alloc: Global, place: Place, line: &EventLine<'_>) -> Result<Event, LineFault>
+fn read_at(
+    alloc: Global,
+    scratch: &mut Vec<u8>,
+    place: Place,
+    line: &InputLine<'_>,
+) -> Result<Event, LineFault>
     requires { place.bytes + size_of (line_is line.now) < 2 ^ 64 }
     ensures { Gives (λ event. event) result (read_event (place_is line.now.number place) (line_is line.now)) }
 {
@@ -98,7 +75,7 @@ fn read_at(alloc: Global, place: Place, line: &EventLine<'_>) -> Result<Event, L
     if line.is_too_long() {
         return Err(LineFault::TooLong { line: line.number });
     }
-    read_event(alloc, line)
+    read_event(alloc, scratch, line)
 }
 
 // The events of all lines, or the first fault.
@@ -106,6 +83,8 @@ fn read_each(alloc: Global, bytes: &[u8]) -> Result<Events, LineFault>
     ensures { Gives (λ events. events) result (events_of bytes.now) }
 {
     let mut events = List::new(alloc);
+    // Each text with an escape in it is built here.
+    let mut scratch = Vec::new(alloc);
     let mut place = Place {
         bytes: 0,
         pairs: 0,
@@ -115,7 +94,7 @@ fn read_each(alloc: Global, bytes: &[u8]) -> Result<Events, LineFault>
     let mut left = bytes;
     while !left.is_empty() {
         let (line, rest) = first_line(number, left);
-        let event = read_at(alloc, place, &line)?;
+        let event = read_at(alloc, &mut scratch, place, &line)?;
         events.push(event)?;
         place = behind(place, &line);
         left = rest;

@@ -18,13 +18,12 @@ use Rattle.input_rules.specs.Orders.{is_digit}
 use Rattle.dump_reading.specs.Fields.{behind, number_at}
 use Rattle.dump_reading.specs.Spellings.{byte_at}
 use Rattle.dump_reading.proofs.FieldLaws.{behind_again}
-use Rattle.dump_reading.proofs.Numbers.{AreDigits}
+use Rattle.dump_reading.proofs.Numbers.{AreDigits, number_again, digits_of_number, some_digits, first_digit}
 use Rattle.instr_grammar.specs.Texts.{quote, in_hexadecimal, scalar_text}
 use Rattle.instr_grammar.specs.Reading.{run_of, closed, hexadecimal_at, bytes_at, text_at, uuid_at, stamp_at, positive_at, begins_magnitude, negative_at, scalar_at}
 use Rattle.instr_grammar.proofs.Runs.{AreBytes, run_again}
 use Rattle.instr_grammar.proofs.Utf8.{text_bytes}
 use Rattle.instr_grammar.proofs.Hexadecimal.{hexadecimal_again}
-use Rattle.instr_grammar.proofs.WideNumbers.{number_again, digits_of_number, some_digits, first_digit}
 
 abbrev pub Ends : List ℕ → Type 0
 Ends rest = prefix_len is_digit rest ≡ 0

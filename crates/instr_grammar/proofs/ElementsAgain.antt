@@ -10,13 +10,12 @@ use Rattle.fdb_tuple.specs.declared.tuple.Elem.{Elem}
 use Rattle.fdb_tuple.specs.declared.tuple.Elem.TheVariants as elem
 use Rattle.fdb_tuple.specs.Tuples.{Scalar, Null, Bytes, Text, Int, Boolean, Uuid, Stamp, Elements, Empty, Single, Nested, IsScalar, AreElements, depth_of, greatest_magnitude}
 use Rattle.fdb_tuple.specs.Listed.{element_of, before-element_of}
-use Rattle.dump_reading.proofs.Numbers.{AreDigits}
+use Rattle.dump_reading.proofs.Numbers.{AreDigits, digits_of_number, some_digits}
 use Rattle.instr_grammar.specs.declared.part.Part.TheVariants as part
 use Rattle.instr_grammar.specs.Texts.{opening, closing, gap, scalar_text, elements_text, IsOperand}
 use Rattle.instr_grammar.specs.Reading.{TupleRead, before_others, scalar_at, element_part, next_part, elements_at, operand_at}
 use Rattle.instr_grammar.proofs.Again.{Ends, scalar_again}
 use Rattle.instr_grammar.proofs.Parts.{some_text}
-use Rattle.instr_grammar.proofs.WideNumbers.{digits_of_number, some_digits}
 
 -- ---- what a scalar's text begins with
 

@@ -12,5 +12,4 @@ pub mod Scalars
 pub mod TakingRows
 pub mod Utf8
 pub mod Walks
-pub mod WideNumbers
 pub mod Written

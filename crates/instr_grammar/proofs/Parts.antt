@@ -12,7 +12,7 @@ use Rattle.instr_grammar.specs.declared.part.Part.TheVariants as part
 use Rattle.instr_grammar.specs.Texts.{opening, closing, gap, scalar_text}
 use Rattle.instr_grammar.specs.Reading.{PartRead, Read, held, scalar_at, element_part, next_part}
 use Rattle.instr_grammar.proofs.Scalars.{IsTaken, scalar_was}
-use Rattle.instr_grammar.proofs.WideNumbers.{some_digits}
+use Rattle.dump_reading.proofs.Numbers.{some_digits}
 
 is_small : (n : ℕ) → IsScalar (Int (pos n)) → n ≤ greatest_magnitude false
 is_small n h = rw (le-ltb n 0 (omega arith)) at h

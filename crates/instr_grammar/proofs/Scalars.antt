@@ -15,12 +15,11 @@ use Rattle.fdb_tuple.specs.Tuples.{Scalar, Null, Bytes, Text, Int, Boolean, Uuid
 use Rattle.fdb_tuple.specs.Listed.{element_of}
 use Rattle.dump_reading.specs.Fields.{◌>>=◌, behind, number_at}
 use Rattle.dump_reading.proofs.FieldLaws.{behind_was}
-use Rattle.dump_reading.proofs.Numbers.{IsNumber}
+use Rattle.dump_reading.proofs.Numbers.{IsNumber, number_was}
 use Rattle.instr_grammar.specs.Texts.{quote, in_hexadecimal, scalar_text}
 use Rattle.instr_grammar.specs.Reading.{Run, run_of, behind_quote, with_string, closed, hexadecimal_at, word_at, bytes_at, text_in, text_at, uuid_at, stamp_at, positive_at, begins_magnitude, magnitude_at, negative_at, is_uuid, scalar_at}
 use Rattle.instr_grammar.proofs.Runs.{AreBytes, IsRun, run_is}
 use Rattle.instr_grammar.proofs.Hexadecimal.{SpelledIn, BytesRead, hexadecimal_were}
-use Rattle.instr_grammar.proofs.WideNumbers.{number_was}
 
 -- ---- what a step that did not fail says
 

@@ -12,7 +12,7 @@ use Rattle.input_rules.specs.Orders.{is_digit}
 use Rattle.fdb_tuple.specs.Tuples.{Scalar, Null, Bytes, Text, Int, Boolean, Uuid, Stamp, Elements, Empty, Single, Nested, IsScalar, AreElements, greatest_magnitude}
 use Rattle.instr_grammar.specs.Names.{names, push, is_among}
 use Rattle.instr_grammar.specs.Texts.{quote, opening, closing, gap, in_hexadecimal, quoted, scalar_text, elements_text, Instruction, IsInstruction, Takes}
-use Rattle.instr_grammar.proofs.WideNumbers.{digits_of_number}
+use Rattle.dump_reading.proofs.Numbers.{digits_of_number}
 
 feedless_by : (p : ℕ → Bool) → ((byte : ℕ) → p byte ≡ true → (byte == 10) ≡ false) → (bytes : List ℕ) → list_all p bytes ≡ true
     → IsFeedless bytes

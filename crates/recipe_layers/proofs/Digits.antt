@@ -1,33 +1,16 @@
 -- How the key of an index is read.
-use Rattle.std.proofs.Common.{◌≡◌, ℕ, ◌+◌, ◌*◌, ◌^◌, ◌<◌, ◌≤◌, true, false, cond, ◌&&◌, List, [], ◌++◌, length, get_or, take, drop, reverse, Option, Some, None, refl, sym, ap, ◌∙◌, arith}
+use Rattle.std.proofs.Common.{◌≡◌, ℕ, ◌+◌, ◌<◌, ◌≤◌, true, false, cond, ◌&&◌, List, [], ◌++◌, length, drop, reverse, Option, Some, None, refl, sym, ap, ◌∙◌, arith}
 use Rattle.std.specs.Prelude.{bytes_eq, nat_le, pos}
 use Rattle.std.proofs.Math.Bool.{and-false}
 use Rattle.std.proofs.lemmas.Bool.{and_from, le-leb, lt-leb}
-use Rattle.std.proofs.lemmas.List.{append-nil, length-append, length-drop, length-reverse, length-take}
+use Rattle.std.proofs.lemmas.List.{append-nil, length-append, length-drop, length-reverse}
 use Rattle.key_bytes.specs.Numbers.{number_low}
 use Rattle.fdb_tuple.specs.Spelling.{least_bytes, low_first, int_spelled}
-use Rattle.fdb_tuple.proofs.ByteLists.{AreBytes, AreBytes-take, number_high_below, number_more}
-use Rattle.fdb_tuple.proofs.Digits.{length-low_first_le, with_sign-false}
+use Rattle.fdb_tuple.proofs.Digits.{length-low_first_le}
 use Rattle.allocator_rules.proofs.Codes.{number_spelled}
 use Rattle.recipe_rules.specs.declared.TheConstants.{GREATEST_INDEX}
 use Rattle.recipe_rules.specs.Queues.{index_key, index_in}
 use Rattle.recipe_rules.proofs.Indexes.{index_in_is}
-
--- ---- the number of digits
-
--- up to seven digits there is room for one more
-pub digits_fit : (digits : List ℕ) (i : ℕ) → i < length digits → length digits ≤ 8 → AreBytes digits
-    → number_low (reverse (take i digits)) < 256 ^ 7
-digits_fit digits i lt le bytes =
-    number_high_below 7 (take i digits) (omega (arith, length-take i digits)) (AreBytes-take i digits bytes)
-
--- one more digit
-pub digits_more : (digits : List ℕ) (i : ℕ) → i < length digits
-    → number_low (reverse (take (i + 1) digits)) ≡ 256 * number_low (reverse (take i digits)) + get_or digits i 0
-digits_more digits i lt =
-    ap (λ bytes. number_low (reverse bytes)) (sym (with_sign-false (take (i + 1) digits)))
-    ∙ number_more false digits i lt
-    ∙ ap (λ bytes. 256 * number_low (reverse bytes) + get_or digits i 0) (with_sign-false (take i digits))
 
 -- ---- the digits of a key
 
