@@ -16,7 +16,8 @@ use Rattle.future_cell.specs.Cells.{waiter_cell}
 use Rattle.version_store.specs.Versions.{at, last_of}
 use Rattle.watch_core.specs.declared.ending.WatchEnd.{WatchEnd}
 use Rattle.watch_core.specs.declared.ending.WatchEnd.TheVariants.{Changed, Cancelled}
-use Rattle.watch_core.specs.Watching.{Watched, Watching, Ended, after_commit, ended_as, is_pending, is_same, made_now}
+use Rattle.watch_core.specs.Watching.{Watched, Watching, Ended, after_commit, ended_as, is_pending, is_same, made_now, AreCurrent}
+use Rattle.watch_core.proofs.Firings.{right_current}
 use Rattle.text_commands.specs.declared.scene.Scene.{Scene}
 use Rattle.text_commands.specs.Firings.{Made, commits_of, history_of, made_from}
 use Rattle.text_commands.specs.Scenes.{made_of, HasCommitted, HasRoomFor, HasWatched, IsUncancelled, StandsAt}
@@ -138,6 +139,13 @@ stands_committed events front rest one mutation key value before after is commit
     }
 
 -- ---- before an event
+
+-- each watch that is pending has the value that its key has
+pub values_are : (events front : List Event) (scene : Scene) → StandsAt events front scene
+    → AreCurrent (at scene.store (last_of scene.store)) scene.watches.watches
+values_are events front scene stands =
+    subst (λ d. AreCurrent d scene.watches.watches) (ap (history_of events) stands.seen ∙ sym stands.database)
+    (right_current (history_of events) scene.watches stands.right)
 
 -- there is room for the next event
 pub room_for : (events front rest : List Event) (one : Event) (scene : Scene) → events ≡ front ++ one ∷ rest → StandsAt events front scene

@@ -3,8 +3,8 @@
 ghost use Rattle.std.specs.Prelude.{◌≡◌, ℕ, List, ◌+◌, ◌^◌, ◌<◌, ◌∷◌, ◌++◌, [], map, IfOk, OnOk, Some, None};
 ghost use Rattle.event_rules.specs.declared.event.Event.{Event};
 ghost use Rattle.future_cell.specs.Cells.{receipt_cell, value_set, waiter_cell};
-ghost use Rattle.version_store.specs.Versions.{last_of};
-ghost use Rattle.watch_core.specs.Watching.{pending_count};
+ghost use Rattle.version_store.specs.Versions.{at, last_of};
+ghost use Rattle.watch_core.specs.Watching.{pending_count, AreCurrent};
 ghost use Rattle.text_commands.specs.Firings.{history_of, made_from, AreFirings};
 ghost use Rattle.text_commands.specs.Scenes.{firing_of, HasCommitted, HasRoomFor, HasWatched, StandsAt};
 
@@ -12,6 +12,7 @@ use event_rules::Event;
 use future_cell::{Call, Waiter, settle};
 use key_bytes::{Key, Pair};
 use std::alloc::{AllocError, Global};
+use std::slice;
 use version_store::{Change, Changes, Store};
 use watch_core::{Ending, WatchEnd, Watches};
 
@@ -51,6 +52,7 @@ impl Scene {
     pub(crate) fn happen(&mut self, event: &Event) -> Result<(), AllocError>
         requires room { HasRoomFor event.now self.old }
         requires current { self.old.watches.seen ≡ last_of self.old.store }
+        requires values { AreCurrent (at self.old.store (last_of self.old.store)) self.old.watches.watches }
         ensures { (events front rest : List Event) → events ≡ front ++ event.now ∷ rest → StandsAt events front self.old
             → OnOk result (StandsAt events (front ++ event.now ∷ []) self.new) }
     {
@@ -72,17 +74,20 @@ impl Scene {
         Ok(())
     }
 
-    // Commits a change, and has the watches look at its version.
+    // Commits a change, and has the watches on its key look at its version.
     fn commit(&mut self, change: Change) -> Result<(), AllocError>
         requires next { last_of self.old.store + 1 < 2 ^ 63 }
         requires current { self.old.watches.seen ≡ last_of self.old.store }
+        requires values { AreCurrent (at self.old.store (last_of self.old.store)) self.old.watches.watches }
         ensures { OnOk result (HasCommitted change.key change.value self.old self.new) }
     {
+        let key = change.key.copy()?;
         let mut changes = Changes::new(self.alloc);
         changes.push(change)?;
         self.store.reserve(&changes)?;
         self.store.install(changes);
-        self.watches.committed(&self.store);
+        self.watches
+            .committed_keys(&self.store, slice::from_ref(&key));
         Ok(())
     }
 

@@ -1,9 +1,9 @@
 -- Watches that are as a history says stay so, and end as it says.
 use Rattle.std.proofs.Common.{◌≡◌, ◌≢◌, ◌↔◌, ℕ, ◌+◌, ◌<◌, ◌≤◌, ◌⊎◌, inl, inr, arith, Bool, true, false, cond, List, [], ◌∷◌, ◌++◌, map, Option, Some, None, refl, sym, ap, subst, ◌∙◌}
-use Rattle.std.proofs.lemmas.Bool.{cases_lt, cases_order}
+use Rattle.std.proofs.lemmas.Bool.{cases_lt, cases_order, false≢true}
 use Rattle.std.proofs.lemmas.List.Elements.{All-map, All-weaker, All-push}
 use Rattle.std.proofs.lemmas.Option.{none-some, same_Some}
-use Rattle.std.specs.Cmp.Lexicographic.{same_text, other_text}
+use Rattle.std.specs.Cmp.Lexicographic.{same_text, other_text, nat_list_eq_equiv}
 use Rattle.std.specs.FinMap as finite
 use Rattle.std.specs.List.{All}
 use Rattle.atomic_table.specs.Seated.{TableId}
@@ -11,7 +11,7 @@ use Rattle.database_rules.specs.Databases.{Database}
 use Rattle.watch_core.specs.declared.ending.WatchEnd.{WatchEnd}
 use Rattle.watch_core.specs.declared.ending.WatchEnd.TheVariants.{Changed, Cancelled}
 use Rattle.watch_core.specs.Firing.{FiresAt, StaysTo}
-use Rattle.watch_core.specs.Watching.{Ended, Watched, Watching, is_same, ended_as, after_commit, all_ended, AgreesOn, IsRight, AreRight, IsSettledBy}
+use Rattle.watch_core.specs.Watching.{Ended, Watched, Watching, is_same, ended_as, after_commit, all_ended, AgreesOn, AreCurrent, AreRight, IsCurrent, IsRight, IsSettledBy}
 
 -- what the test of two values tells
 pub same_value : (a b : Option (List ℕ)) → is_same a b ≡ true → a ≡ b
@@ -19,6 +19,10 @@ same_value None None e = refl
 same_value None (Some b) e = cc
 same_value (Some a) None e = cc
 same_value (Some a) (Some b) e = ap Some (same_text a b (sym e))
+
+pub value_is_same : (a : Option (List ℕ)) → is_same a a ≡ true
+value_is_same None = refl
+value_is_same (Some a) = nat_list_eq_equiv.refl a
 
 pub other_value : (a b : Option (List ℕ)) → is_same a b ≡ false → a ≢ b
 other_value None None e = cc
@@ -117,6 +121,27 @@ module _ (history : ℕ → Database) where
         value = had ∙ sym (ap (λ v. finite.get (history v) key) now ∙ ap (λ d. finite.get d key) is);
         so_far = λ u later upto. absurd (omega arith);
       })
+
+-- a watch that is as a history says, and is pending, has the value that its key has at the version seen
+right_current_by : (history : ℕ → Database) (seen : ℕ) (key : List ℕ) (made : ℕ) (value : Option (List ℕ)) (cell : TableId) (ended : Option Ended)
+    → IsRight history seen (watch_of key made value cell ended) → IsCurrent (history seen) (watch_of key made value cell ended)
+right_current_by history seen key made value cell (Some ended) right pending = absurd (false≢true pending)
+right_current_by history seen key made value cell None right pending = right.value ∙ by_place (cases_lt made seen)
+  where
+    by_place : (made < seen) ⊎ (seen ≤ made) → finite.get (history made) key ≡ finite.get (history seen) key
+    by_place (inl before) = sym (right.so_far seen before (omega arith))
+    by_place (inr now) =
+        let upto : made ≤ seen = right.made in
+        let same : made ≡ seen = omega arith in
+        ap (λ v. finite.get (history v) key) same
+
+-- watches that are as a history says have the values that their keys have at the version seen
+pub right_current : (history : ℕ → Database) (watching : Watching) → AreRight history watching
+    → AreCurrent (history watching.seen) watching.watches
+right_current history watching right =
+    All-weaker (IsRight history watching.seen) (IsCurrent (history watching.seen))
+    (λ watch r. right_current_by history watching.seen watch.key watch.made watch.value watch.cell watch.ended r)
+    watching.watches right
 
 -- two versions at which a watch fires are one
 fires_once : (history : ℕ → Database) (key : List ℕ) (v a b : ℕ) → FiresAt history key v a → FiresAt history key v b → a ≡ b

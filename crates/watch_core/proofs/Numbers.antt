@@ -1,15 +1,14 @@
 -- Which watches of a list are pending, and how many, where one is added or ends.
-use Rattle.std.proofs.Common.{◌≡◌, ℕ, zero, suc, ◌+◌, ◌<◌, ◌⊎◌, inl, inr, arith, Bool, true, false, cond, List, [], ◌∷◌, ◌++◌, length, map, set, get_or, Option, Some, None, refl, sym, ap, subst, ◌∙◌}
-use Rattle.std.proofs.lemmas.Bool.{false≢true}
+use Rattle.std.proofs.Common.{◌≡◌, ℕ, zero, suc, ◌+◌, ◌<◌, arith, Bool, true, false, cond, List, [], ◌∷◌, ◌++◌, length, set, get_or, Option, Some, None, refl, sym, ap, subst, ◌∙◌, true≢false}
 use Rattle.std.proofs.lemmas.List.Sums.{sum_by-set, sum_by_push}
-use Rattle.std.proofs.lemmas.Option.{none-some, same_Some}
 use Rattle.std.specs.FinMap as finite
 use Rattle.std.specs.List.{Contains, filter, slice_get}
 use Rattle.std.specs.Option.{option_map_or}
 use Rattle.database_rules.specs.Databases.{Database}
 use Rattle.watch_core.specs.declared.ending.WatchEnd.{WatchEnd}
 use Rattle.watch_core.specs.declared.ending.WatchEnd.TheVariants.{Changed}
-use Rattle.watch_core.specs.Watching.{Ended, Watched, is_pending, is_pending_at, is_same, pending_count, ended_as, ended_at, after_commit}
+use Rattle.watch_core.specs.Watching.{Ended, Watched, is_pending, is_pending_at, is_same, pending_count, ended_as, ended_at, after_commit, IsCurrent}
+use Rattle.watch_core.proofs.Firings.{same_value, value_is_same}
 
 -- 1 where it holds, else 0
 abbrev pub one_if : Bool → ℕ
@@ -53,17 +52,6 @@ pub pending_at_some : (number : ℕ) (watches : List Watched) (watch : Watched) 
     → is_pending_at number watches ≡ is_pending watch
 pending_at_some number watches watch at = ap (λ o. option_map_or is_pending o false) at
 
--- where a watch is replaced by one that is pending only if it was, so is each
-pub pending_before_set : (watches : List Watched) (number at : ℕ) (watch new : Watched) → slice_get watches number ≡ Some watch
-    → (is_pending new ≡ true → is_pending watch ≡ true)
-    → is_pending_at at (set watches number new) ≡ true → is_pending_at at watches ≡ true
-pending_before_set [] number at watch new is fewer pending = absurd (none-some watch is)
-pending_before_set (w ∷ watches) zero zero watch new is fewer pending = ap is_pending (same_Some w watch is) ∙ fewer pending
-pending_before_set (w ∷ watches) zero (suc at) watch new is fewer pending = pending
-pending_before_set (w ∷ watches) (suc number) zero watch new is fewer pending = pending
-pending_before_set (w ∷ watches) (suc number) (suc at) watch new is fewer pending =
-    pending_before_set watches number at watch new is fewer pending
-
 -- how many are pending, where one is replaced
 pub count_set : (watches : List Watched) (number : ℕ) (watch new : Watched) → number < length watches → get_or watches number watch ≡ watch
     → pending_count (set watches number new) + one_if (is_pending watch) ≡ pending_count watches + one_if (is_pending new)
@@ -72,14 +60,6 @@ count_set watches number watch new within is =
     ∙ sum_by-set (λ w. one_if (is_pending w)) watches number new watch within
 
 -- ---- one that is added
-
-pub pending_before_push : (watches : List Watched) (watch : Watched) (number : ℕ) → is_pending_at number (watches ++ watch ∷ []) ≡ true
-    → (is_pending_at number watches ≡ true) ⊎ (number ≡ length watches)
-pending_before_push [] watch zero pending = inr refl
-pending_before_push [] watch (suc number) pending = absurd (false≢true pending)
-pending_before_push (w ∷ watches) watch zero pending = inl pending
-pending_before_push (w ∷ watches) watch (suc number) pending =
-    elim (pending_before_push watches watch number pending) [ inl before ↦ inl before | inr last ↦ inr (ap suc last) ]
 
 pub count_push : (watches : List Watched) (watch : Watched) → is_pending watch ≡ true
     → pending_count (watches ++ watch ∷ []) ≡ pending_count watches + 1
@@ -106,6 +86,18 @@ module _ (last : ℕ) (database : Database) where
   pub commit_stays : (watch : Watched) → is_pending watch ≡ false → after watch ≡ watch
   commit_stays watch done = stays_by watch (test watch) done
 
+  key_by : (watch : Watched) (same : Bool) → (chosen watch same).key ≡ watch.key
+  key_by watch true = refl
+  key_by watch false =
+      elim (is_pending watch) as (λ b. (cond b (record watch { ended = Some (record { end = Changed last; seen = last }) }) watch).key ≡ watch.key) [
+        | true ↦ refl
+        | false ↦ refl
+      ]
+
+  -- a watch keeps its key
+  pub commit_key : (watch : Watched) → (after watch).key ≡ watch.key
+  commit_key watch = key_by watch (test watch)
+
   twice_by : (watch : Watched) (same : Bool) → test watch ≡ same → after (after watch) ≡ after watch
   twice_by watch true e = ap (λ b. after (chosen watch b)) e ∙ (ap (chosen watch) e ∙ sym (ap (chosen watch) e))
   twice_by watch false e =
@@ -125,8 +117,18 @@ module _ (last : ℕ) (database : Database) where
   pub pending_before_commit : (watch : Watched) → is_pending (after watch) ≡ true → is_pending watch ≡ true
   pending_before_commit watch h = before_by watch (is_pending watch) refl h
 
-  pub all_pending_before : (watches : List Watched) (number : ℕ) → is_pending_at number (map after watches) ≡ true
-      → is_pending_at number watches ≡ true
-  all_pending_before [] number pending = pending
-  all_pending_before (w ∷ watches) zero pending = pending_before_commit w pending
-  all_pending_before (w ∷ watches) (suc number) pending = all_pending_before watches number pending
+  current_by : (watch : Watched) (same : Bool) → test watch ≡ same → IsCurrent database (chosen watch same)
+  current_by watch true e pending = sym (same_value (finite.get database watch.key) watch.value e)
+  current_by watch false e pending = absurd (true≢false (sym pending ∙ ended_not_pending (Changed last) last watch))
+
+  -- a watch that is pending after a commit has the value that its key has then
+  pub commit_current : (watch : Watched) → IsCurrent database (after watch)
+  commit_current watch = current_by watch (test watch) refl
+
+  -- a watch that has the value that its key has then stays
+  pub current_stays : (watch : Watched) → IsCurrent database watch → after watch ≡ watch
+  current_stays watch current =
+      elim (is_pending watch) as (λ b. is_pending watch ≡ b → after watch ≡ watch) [
+        | true ↦ λ e. ap (chosen watch) (ap (λ v. is_same v watch.value) (sym (current e)) ∙ value_is_same watch.value)
+        | false ↦ λ e. commit_stays watch e
+      ] refl

@@ -1,6 +1,6 @@
 -- What contracts see of watches.
-use Rattle.std.specs.Prelude.{◌≡◌, ℕ, ◌≤◌, Bool, true, false, if◌then◌else◌, List, map, Option, Some, None, is_none, slice_get, slice_set, count_by, nat_eq, ◌↔◌}
-use Rattle.std.specs.List.{All}
+use Rattle.std.specs.Prelude.{◌≡◌, ℕ, ◌≤◌, Bool, true, false, if◌then◌else◌, List, map, Option, Some, None, is_none, slice_get, slice_set, count_by, nat_eq, ◌↔◌, ◌⊎◌}
+use Rattle.std.specs.List.{All, AllZip, Contains}
 use Rattle.std.specs.Option.{option_map_or, IfSome, MatchOption}
 use Rattle.std.specs.Cmp.Lexicographic.{pointwise}
 use Rattle.std.specs.FinMap as finite
@@ -66,6 +66,27 @@ is_same (Some a) (Some b) = pointwise nat_eq a b
 abbrev pub after_commit : ℕ → Database → Watched → Watched
 after_commit last database watch =
     if is_same (finite.get database watch.key) watch.value then watch else ended_as (Changed last) last watch
+
+-- a watch that is pending has the value that its key has in a database
+abbrev pub IsCurrent : Database → Watched → Type 0
+IsCurrent database watch = is_pending watch ≡ true → watch.value ≡ finite.get database watch.key
+
+-- each watch that is pending has the value that its key has in a database
+abbrev pub AreCurrent : Database → List Watched → Type 0
+AreCurrent database watches = All (IsCurrent database) watches
+
+-- so has each that is pending on a key that isn't among these
+abbrev pub AreCurrentBut : List (List ℕ) → Database → List Watched → Type 0
+AreCurrentBut keys database watches = All (λ watch. (Contains keys watch.key → ⊥) → IsCurrent database watch) watches
+
+-- a watch has looked at a version, or it is as it was, and isn't pending on one of these keys
+abbrev pub HasLooked : ℕ → Database → List (List ℕ) → Watched → Watched → Type 0
+HasLooked last database keys old new =
+    (new ≡ after_commit last database old) ⊎ ((new ≡ old) × (is_pending old ≡ true → Contains keys old.key → ⊥))
+
+-- the watches that are pending on one of these keys have looked at a version, and any other has, or is as it was
+abbrev pub HaveLooked : ℕ → Database → List (List ℕ) → List Watched → List Watched → Type 0
+HaveLooked last database keys olds news = AllZip (HasLooked last database keys) olds news
 
 -- the watches after all that were pending are cancelled
 abbrev pub all_ended : Watching → List Watched

@@ -9,8 +9,8 @@
 //! let (number, waiter) = watches.watch(&store, b"k")?;
 //! store.reserve(&changes)?;
 //! store.install(changes);
-//! watches.committed(&store);      // after each install
-//! let ends = watches.close();     // the receipt of each watch, with which its waiter is settled
+//! watches.committed_keys(&store, &keys);  // after each install, with the keys that it changed
+//! let ends = watches.close();             // the receipt of each watch, with which its waiter is settled
 //! ```
 //!
 //! Contracts see the last version that was seen and a list of watches, each at the place of its number (`specs/Watching.antt`): its
@@ -23,11 +23,15 @@
 //! of `close` says it. `events_settle_watches` has the same as a law over every list of installs, watches and cancels
 //! (`specs/Events.antt`).
 //!
-//! `watch` takes all room that the watch will need, so `committed`, `cancel` and `close` take no memory. `committed` takes one look-up for
-//! each pending watch, since a store doesn't tell which keys the last version changed.
+//! `watch` takes all room that the watch will need, so `committed`, `committed_keys`, `cancel` and `close` take no memory. `committed`
+//! looks at each watch that was made. `committed_keys` takes one search for each key that it is given, and one look-up in the store for each
+//! watch on it that is pending, or was cancelled since it was last given; it looks at no other watch. So the keys must be those that
+//! changed, or more: each pending watch on another key must have its value still. The clauses `current` of the calls, and that of the
+//! store's `install`, tell that (`proofs/Changing.antt`).
 #![tactic(auto)]
 
 mod ending;
+mod index;
 mod laws;
 mod watch;
 mod watches;

@@ -1,7 +1,13 @@
+ghost use Rattle.std.specs.Prelude.{◌≡◌, ◌∷◌, [], IfOk};
+ghost use Rattle.std.specs.Map.{keys_of};
+ghost use Rattle.version_store.specs.Versions.{at, last_of};
+ghost use Rattle.watch_core.specs.Watching.{AreCurrent};
+
 use super::*;
 use future_cell::{Call, Registered, Waiter};
 use key_bytes::{Bytes, Key};
 use std::alloc::{AllocError, Global};
+use std::slice;
 use std::sync::Arc;
 use std::sync::atomic::{AtomicU64, Ordering};
 use std::test::Fail;
@@ -36,18 +42,20 @@ struct Scene {
     watches: Watches<Raise>,
     waiters: Vec<Waiter<WatchEnd, Raise>>,
     cancels: Vec<bool>,
+    // Each watch that is pending has the value that its key has.
+    ghost current: { AreCurrent (at store (last_of store)) watches.watches },
 }
 
-fn changes_of(alloc: Global, key: &[u8], value: Option<&[u8]>) -> Result<Changes, AllocError> {
+fn changes_of(alloc: Global, key: &Key, value: Option<&[u8]>) -> Result<Changes, AllocError>
+    ensures { IfOk result (λ changes. keys_of changes ≡ key.now ∷ []) }
+{
     let mut changes = Changes::new(alloc);
-    let key: Key = Bytes::from_slice(alloc, key)?;
+    let key = key.copy()?;
     let value = match value {
         Some(value) => Some(Bytes::from_slice(alloc, value)?),
         None => None,
     };
-    if changes.is_below(&key) {
-        changes.push(Change { key, value })?;
-    }
+    changes.push(Change { key, value })?;
     Ok(changes)
 }
 
@@ -64,13 +72,19 @@ impl Scene {
         }
     }
 
-    // Commits a change of one key where a version is left.
+    // Commits a change of one key where a version is left. After a removal each watch looks at it, else those on the key.
     fn commit(&mut self, key: &[u8], value: Option<&[u8]>) -> Result<(), AllocError> {
-        let changes = changes_of(self.alloc, key, value)?;
+        let key = Bytes::from_slice(self.alloc, key)?;
+        let changes = changes_of(self.alloc, &key, value)?;
         self.store.reserve(&changes)?;
         if self.watches.seen() == self.store.last() && self.store.last() < i64::MAX as u64 {
             self.store.install(changes);
-            self.watches.committed(&self.store);
+            match value {
+                Some(_) => self
+                    .watches
+                    .committed_keys(&self.store, slice::from_ref(&key)),
+                None => self.watches.committed(&self.store),
+            }
         }
         Ok(())
     }

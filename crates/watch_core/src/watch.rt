@@ -68,7 +68,6 @@ impl<C> Watch<C> {
     }
 
     // Tells whether the key has the value at the last version that it had when the watch was made.
-    #[tactic(auto, unfolding(version_store::specs::Versions::oldest_of))]
     fn is_same(&self, store: &Store) -> bool
         ensures { result ≡ is_same (finite.get (at store.now (last_of store.now)) self.now.key) self.now.value }
     {

@@ -1,19 +1,21 @@
 //! The watches on keys of one store.
 
-ghost use Rattle.std.specs.Prelude.{◌≡◌, ℕ, ◌+◌, ◌<◌, ◌≤◌, [], ◌∷◌, ◌++◌, All, Contains, None, map, filter, take, length, vec_len, vec_capacity, IfOk, OnErr, true};
+ghost use Rattle.std.specs.Prelude.{◌≡◌, ℕ, ◌+◌, ◌<◌, ◌≤◌, [], ◌∷◌, ◌++◌, All, None, map, filter, take, length, vec_len, vec_capacity, IfOk, OnErr};
 ghost use Rattle.std.specs.FinMap as finite;
 ghost use Rattle.database_rules.specs.Databases.{Database};
 ghost use Rattle.future_cell.specs.declared.callback.Registered.TheVariants.{No};
 ghost use Rattle.future_cell.specs.Cells.{waiter_cell, shown, registration};
 ghost use Rattle.version_store.specs.Versions.{at, last_of};
 ghost use Rattle.watch_core.specs.declared.ending.WatchEnd.TheVariants.{Cancelled};
-ghost use Rattle.watch_core.specs.Watching.{pending_count, made_now, after_commit, ended_as, ended_at, all_ended, is_pending_at, AreRight, IsSettledBy};
-ghost use Rattle.watch_core.specs.Watches.{endings_of, told_by, told_from, watched_of, IsWhole};
+ghost use Rattle.watch_core.specs.Watching.{pending_count, made_now, after_commit, ended_as, ended_at, all_ended, is_pending_at, AreCurrent, AreCurrentBut, AreRight, HaveLooked, IsSettledBy};
+ghost use Rattle.watch_core.specs.Watches.{endings_of, numbers_in, told_by, told_from, watched_of, AreListed, HaveLookedAt, IsWhole};
 
 use crate::ending::{Ending, WatchEnd, WatchEnds};
+use crate::index::{push_number, reserve_number};
 use crate::watch::Watch;
 use future_cell::{Call, Waiter, pair};
 use key_bytes::{Bytes, Key};
+use key_map::KeyMap;
 use std::alloc::{AllocError, Global};
 use std::marker::Model;
 use version_store::Store;
@@ -29,8 +31,8 @@ pub struct Watches<C> {
     pending: u64,
     // Each watch lies at the place of its number.
     watches: Vec<Watch<C>>,
-    // The numbers of the pending watches, and of some that were cancelled since the last commit.
-    numbers: Vec<usize>,
+    // The numbers of the pending watches on each key, and of some that were cancelled since the key changed.
+    index: KeyMap<Vec<usize>>,
     // It is empty, and has room for the ending of each watch.
     endings: Vec<Ending<C>>,
 }
@@ -41,16 +43,15 @@ impl<C> Model for Watches<C> {
 
     ghost Value = { Watching };
 
-    ghost use Rattle.watch_core.specs.Watches.{watched_of, AreKept};
+    ghost use Rattle.watch_core.specs.Watches.{numbers_in, watched_of, AreKept};
 
     ghost view = { λ inside. record { seen = inside.seen; watches = map watched_of inside.watches.items } };
 
-    ghost invariant = { λ inside. AreKept inside.watches.items inside.numbers.items inside.pending
+    ghost invariant = { λ inside. AreKept inside.watches.items (numbers_in inside.index) inside.pending
         (vec_capacity inside.endings) inside.endings.items };
 }
 
 // A copy of the value of a key at the last version.
-#[tactic(auto, unfolding(version_store::specs::Versions::oldest_of))]
 fn value_now(alloc: Global, store: &Store, key: &Key) -> Result<Option<Bytes>, AllocError>
     ensures { IfOk result (λ value. value ≡ finite.get (at store.now (last_of store.now)) key.now) }
 {
@@ -71,19 +72,34 @@ fn is_pending_at<C>(watches: &[Watch<C>], number: usize) -> bool
     }
 }
 
-// Has each watch of these numbers look at the last version, and tells how many fired. All that are pending are among them.
+// Has each watch of these numbers look at the last version, and tells how many fired.
 fn commit_each<C: Call>(watches: &mut [Watch<C>], numbers: &[usize], store: &Store) -> u64
     requires whole { All IsWhole watches.old }
     requires within { All (λ number. number < length watches.old) numbers.now }
-    requires listed { (number : ℕ) → is_pending_at number (map watched_of watches.old) ≡ true → Contains numbers.now number }
+    ensures whole { All IsWhole watches.new }
+    ensures looked { HaveLookedAt (last_of store.now) (at store.now (last_of store.now)) numbers.now watches.old watches.new }
+    ensures fired { pending_count (map watched_of watches.new) + result ≡ pending_count (map watched_of watches.old) }
+{
+    let mut fired = 0;
+    for number in numbers {
+        if watches[*number].commit(store) {
+            fired += 1;
+        }
+    }
+    fired
+}
+
+// Has each watch look at the last version, and tells how many fired.
+fn commit_all<C: Call>(watches: &mut [Watch<C>], store: &Store) -> u64
+    requires whole { All IsWhole watches.old }
     ensures whole { All IsWhole watches.new }
     ensures after { map watched_of watches.new
         ≡ map (after_commit (last_of store.now) (at store.now (last_of store.now))) (map watched_of watches.old) }
     ensures fired { pending_count (map watched_of watches.new) + result ≡ pending_count (map watched_of watches.old) }
 {
     let mut fired = 0;
-    for number in numbers {
-        if watches[*number].commit(store) {
+    for number in 0..watches.len() {
+        if watches[number].commit(store) {
             fired += 1;
         }
     }
@@ -113,6 +129,48 @@ fn keep_pending<C>(numbers: &mut Vec<usize>, watches: &[Watch<C>])
 {
     let kept = pack_pending(numbers, watches);
     numbers.truncate(kept);
+}
+
+// Has the watches on a key look at the last version, and returns how many watches are pending then.
+fn commit_key<C: Call>(
+    watches: &mut [Watch<C>],
+    index: &mut KeyMap<Vec<usize>>,
+    pending: u64,
+    store: &Store,
+    key: &Key,
+) -> u64
+    requires { AreListed watches.old (numbers_in index.old) pending }
+    ensures listed { AreListed watches.new (numbers_in index.new) result }
+    ensures looked { HaveLooked (last_of store.now) (at store.now (last_of store.now)) (key.now ∷ [])
+        (map watched_of watches.old) (map watched_of watches.new) }
+{
+    match index.get_mut(key) {
+        Some(numbers) => {
+            let fired = commit_each(watches, numbers, store);
+            keep_pending(numbers, watches);
+            pending - fired
+        }
+        None => pending,
+    }
+}
+
+// Has the watches on each of these keys look at the last version, and returns how many watches are pending then.
+fn commit_keys<C: Call>(
+    watches: &mut [Watch<C>],
+    index: &mut KeyMap<Vec<usize>>,
+    mut pending: u64,
+    store: &Store,
+    keys: &[Key],
+) -> u64
+    requires { AreListed watches.old (numbers_in index.old) pending }
+    ensures listed { AreListed watches.new (numbers_in index.new) result }
+    ensures looked { HaveLooked (last_of store.now) (at store.now (last_of store.now)) keys.now
+        (map watched_of watches.old) (map watched_of watches.new) }
+{
+    for key in keys {
+        pending = commit_key(watches, index, pending, store, key);
+    }
+    pending
 }
 
 // Cancels what is pending, and lays the receipts into the room for them.
@@ -148,7 +206,7 @@ impl<C: Call> Watches<C> {
             seen: store.last(),
             pending: 0,
             watches: Vec::new(alloc),
-            numbers: Vec::new(alloc),
+            index: KeyMap::new(alloc),
             endings: Vec::new(alloc),
         }
     }
@@ -184,16 +242,19 @@ impl<C: Call> Watches<C> {
         }) }
         ensures fresh { IfOk result (λ made. (shown made.1 ≡ None) × (registration made.1 ≡ No)) }
         ensures err { OnErr result (self.new ≡ self.old) }
+        ensures current { AreCurrent (at store.now (last_of store.now)) self.old.watches
+            → AreCurrent (at store.now (last_of store.now)) self.new.watches }
         ensures right { (history : ℕ → Database) → history (last_of store.now) ≡ at store.now (last_of store.now)
             → AreRight history self.old → AreRight history self.new }
     {
         let key = Bytes::from_slice(self.alloc, key)?;
         let value = value_now(self.alloc, store, &key)?;
         self.watches.reserve(1)?;
-        self.numbers.reserve(1)?;
         self.endings.reserve(self.watches.len() + 1)?;
+        reserve_number(self.alloc, &mut self.index, &key)?;
         let (setter, waiter) = pair(self.alloc)?;
         let number = self.watches.len();
+        push_number(&mut self.index, &key, number);
         self.watches.push_reserved(Watch {
             key,
             made: store.last(),
@@ -201,24 +262,45 @@ impl<C: Call> Watches<C> {
             setter: Some(setter),
             settlement: None,
         });
-        self.numbers.push_reserved(number);
         self.pending += 1;
         Ok((number as u64, waiter))
     }
 
     /// Looks at the last version, before which one was installed since the last look: each pending watch whose key has another
-    /// value now than when it was made is set to `Changed` with this version.
+    /// value now than when it was made is set to `Changed` with this version. It looks at each watch that was made.
     pub fn committed(&mut self, store: &Store)
         requires next { last_of store.now ≡ self.old.seen + 1 }
         ensures seen { self.new.seen ≡ last_of store.now }
         ensures after { self.new.watches
             ≡ map (after_commit (last_of store.now) (at store.now (last_of store.now))) self.old.watches }
+        ensures current { AreCurrent (at store.now (last_of store.now)) self.new.watches }
         ensures right { (history : ℕ → Database) → history (last_of store.now) ≡ at store.now (last_of store.now)
             → AreRight history self.old → AreRight history self.new }
     {
-        let fired = commit_each(&mut self.watches, &self.numbers, store);
-        keep_pending(&mut self.numbers, &self.watches);
+        let fired = commit_all(&mut self.watches, store);
         self.pending -= fired;
+        self.seen = store.last();
+    }
+
+    /// Does what `committed` does, given the keys that the last version changed, in any order: it looks at the watches on these
+    /// alone.
+    pub fn committed_keys(&mut self, store: &Store, changed: &[Key])
+        requires next { last_of store.now ≡ self.old.seen + 1 }
+        requires others { AreCurrentBut changed.now (at store.now (last_of store.now)) self.old.watches }
+        ensures seen { self.new.seen ≡ last_of store.now }
+        ensures after { self.new.watches
+            ≡ map (after_commit (last_of store.now) (at store.now (last_of store.now))) self.old.watches }
+        ensures current { AreCurrent (at store.now (last_of store.now)) self.new.watches }
+        ensures right { (history : ℕ → Database) → history (last_of store.now) ≡ at store.now (last_of store.now)
+            → AreRight history self.old → AreRight history self.new }
+    {
+        self.pending = commit_keys(
+            &mut self.watches,
+            &mut self.index,
+            self.pending,
+            store,
+            changed,
+        );
         self.seen = store.last();
     }
 
@@ -226,6 +308,7 @@ impl<C: Call> Watches<C> {
     pub fn cancel(&mut self, number: u64) -> bool
         ensures pending { result ≡ is_pending_at number self.old.watches }
         ensures after { self.new ≡ record self.old { watches = ended_at number Cancelled self.old.seen self.old.watches } }
+        ensures current { (database : Database) → AreCurrent database self.old.watches → AreCurrent database self.new.watches }
         ensures right { (history : ℕ → Database) → AreRight history self.old → AreRight history self.new }
     {
         let Some(watch) = self.watches.get_mut(number as usize) else {
@@ -248,7 +331,7 @@ impl<C: Call> Watches<C> {
             seen,
             pending: _,
             watches,
-            numbers: _,
+            index: _,
             endings,
         } = self;
         WatchEnds {

@@ -2,7 +2,7 @@ use Rattle.std.proofs.Common.{◌+◌, List, drop, take, sym, subst, ◌∙◌}
 use Rattle.event_rules.specs.declared.event.Event.{Event}
 use Rattle.text_commands.specs.Scenes.{StandsAt}
 use Rattle.text_commands.proofs.Commits.{parted_at}
-use Rattle.text_commands.proofs.Scenes.{room_for}
+use Rattle.text_commands.proofs.Scenes.{room_for, values_are}
 use Rattle.text_commands.proofs.watching.ends_of.Goals as goal
 
 pub loop-event-init : goal.loop-event-init
@@ -16,6 +16,10 @@ happen-requires-clause-room c =
     room_for events (take i items) (drop (i + 1) items) c.event-item.result c.loop-event.scene
     (sym c.as_slice-event-items.ensures ∙ (parted_at items i c.event-item.result c.loop-event-test.true c.event-item.is).0)
     c.loop-event.invariant c.requires.watches c.requires.versions
+
+pub happen-requires-clause-values : goal.happen-requires-clause-values
+happen-requires-clause-values c =
+    values_are c.args.events.now (take c.loop-event.event-index c.as_slice-event-items.result.now) c.loop-event.scene c.loop-event.invariant
 
 pub loop-event-preserved : goal.loop-event-preserved
 loop-event-preserved c =

@@ -29,9 +29,9 @@ loop-number-preserved g c =
     (get_or numbers i 0) refl within watch c.commit.new.self (get_or_default news (get_or numbers i 0) read watch within)
     c.commit.ensures.whole c.commit.ensures.after c.commit.result c.commit.ensures.fired)
 
-pub returns-clause-after : goal.returns-clause-after
-returns-clause-after g c =
+pub returns-clause-looked : goal.returns-clause-looked
+returns-clause-looked g c =
     let store = c.args.store.now in
     let ended : length c.args.numbers.now ≤ c.loop-number.number-index = omega arith in
     passes_all (last_of store) (at store (last_of store)) c.args.watches.now c.loop-number.watches c.args.numbers.now
-    c.loop-number.number-index c.loop-number.fired c.loop-number.invariant ended c.requires.listed
+    c.loop-number.number-index c.loop-number.fired c.loop-number.invariant ended

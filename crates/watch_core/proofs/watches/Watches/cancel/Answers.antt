@@ -1,18 +1,18 @@
 -- The watch that lies at the number ended, and the others stay.
 use Rattle.std.proofs.Common.{◌≡◌, ◌-◌, ◌<◌, ◌≤◌, arith, true, List, length, map, refl, sym, ap, subst, ◌∙◌}
-use Rattle.std.specs.Vec.{vec_capacity}
+use Rattle.std.proofs.lemmas.List.{length-set}
 use Rattle.watch_core.specs.declared.ending.WatchEnd.TheVariants.{Cancelled}
-use Rattle.watch_core.specs.Watching.{Watched, Watching, is_pending, is_pending_at, ended_at, AreRight}
-use Rattle.watch_core.specs.Watches.{watched_of}
+use Rattle.watch_core.specs.Watching.{Watched, Watching, is_pending, is_pending_at, ended_at, AreCurrent, AreRight}
+use Rattle.watch_core.specs.Watches.{numbers_in, watched_of}
 use Rattle.watch_core.proofs.Numbers.{one_if, pending_at_some}
-use Rattle.watch_core.proofs.Keeping.{seen_at, some_pending, kept_ended, seen_ended, right_ended}
+use Rattle.watch_core.proofs.Keeping.{current_ended, listed_ended, right_ended, seen_at, seen_ended, some_pending}
 use Rattle.watch_core.proofs.watches.Watches.cancel.Goals as goal
 
 pub overflow_sub-self : goal.overflow_sub-self
 overflow_sub-self g c =
     let inside = c.self.inside in
     let within : c.args.number < length inside.watches.items = omega (arith, c.in-Some.ensures.variant.0 refl, inside.watches.ok.0) in
-    some_pending inside.watches.items inside.numbers.items inside.pending (vec_capacity inside.endings) inside.endings.items c.self.invariant
+    some_pending inside.watches.items (numbers_in inside.index) inside.pending c.self.invariant.are_listed
     c.args.number c.in-Some.watch.now within c.in-Some.ensures.value (sym c.end-was_pending.ensures.pending ∙ c.if-was_pending.true)
 
 pub invariant_of-self-then-was_pending : goal.invariant_of-self-then-was_pending
@@ -21,12 +21,17 @@ invariant_of-self-then-was_pending g c =
     let within : c.args.number < length inside.watches.items = omega (arith, c.in-Some.ensures.variant.0 refl, inside.watches.ok.0) in
     let is_one : is_pending (watched_of c.in-Some.watch.now) ≡ true = sym c.end-was_pending.ensures.pending ∙ c.if-was_pending.true in
     let some : 1 ≤ inside.pending =
-    some_pending inside.watches.items inside.numbers.items inside.pending (vec_capacity inside.endings) inside.endings.items c.self.invariant
+    some_pending inside.watches.items (numbers_in inside.index) inside.pending c.self.invariant.are_listed
     c.args.number c.in-Some.watch.now within c.in-Some.ensures.value is_one in
     let one : one_if (is_pending (watched_of c.in-Some.watch.now)) ≡ 1 = ap one_if is_one in
-    kept_ended inside.watches.items inside.numbers.items inside.pending (vec_capacity inside.endings) inside.endings.items c.self.invariant
-    c.args.number c.in-Some.watch.now c.end-was_pending.new.self within c.in-Some.ensures.value c.end-was_pending.ensures.whole
-    Cancelled inside.seen c.end-was_pending.ensures.after (inside.pending - 1) (omega (arith, one, some))
+    record {
+      are_listed =
+          listed_ended inside.watches.items (numbers_in inside.index) inside.pending c.self.invariant.are_listed
+          c.args.number c.in-Some.watch.now c.end-was_pending.new.self within c.in-Some.ensures.value c.end-was_pending.ensures.whole
+          Cancelled inside.seen c.end-was_pending.ensures.after (inside.pending - 1) (omega (arith, one, some));
+      roomy = omega (arith, length-set inside.watches.items c.args.number c.end-was_pending.new.self, c.self.invariant.roomy);
+      none = c.self.invariant.none;
+    }
 
 pub invariant_of-self-else-was_pending : goal.invariant_of-self-else-was_pending
 invariant_of-self-else-was_pending g c =
@@ -34,9 +39,14 @@ invariant_of-self-else-was_pending g c =
     let within : c.args.number < length inside.watches.items = omega (arith, c.in-Some.ensures.variant.0 refl, inside.watches.ok.0) in
     let none : one_if (is_pending (watched_of c.in-Some.watch.now)) ≡ 0 =
     ap one_if (sym c.end-was_pending.ensures.pending ∙ c.if-was_pending.false) in
-    kept_ended inside.watches.items inside.numbers.items inside.pending (vec_capacity inside.endings) inside.endings.items c.self.invariant
-    c.args.number c.in-Some.watch.now c.end-was_pending.new.self within c.in-Some.ensures.value c.end-was_pending.ensures.whole
-    Cancelled inside.seen c.end-was_pending.ensures.after inside.pending (omega (arith, none))
+    record {
+      are_listed =
+          listed_ended inside.watches.items (numbers_in inside.index) inside.pending c.self.invariant.are_listed
+          c.args.number c.in-Some.watch.now c.end-was_pending.new.self within c.in-Some.ensures.value c.end-was_pending.ensures.whole
+          Cancelled inside.seen c.end-was_pending.ensures.after inside.pending (omega (arith, none));
+      roomy = omega (arith, length-set inside.watches.items c.args.number c.end-was_pending.new.self, c.self.invariant.roomy);
+      none = c.self.invariant.none;
+    }
 
 pub returns-then-was_pending-clause-pending : goal.returns-then-was_pending-clause-pending
 returns-then-was_pending-clause-pending g c =
@@ -89,3 +99,15 @@ returns-else-was_pending-clause-right g c = λ history right.
     let within : c.args.number < length inside.watches.items = omega (arith, c.in-Some.ensures.variant.0 refl, inside.watches.ok.0) in
     right_ended history inside.watches.items c.args.number c.in-Some.watch.now c.end-was_pending.new.self within c.in-Some.ensures.value
     inside.seen c.end-was_pending.ensures.after (subst (AreRight history) (sym c.self.view_is) right)
+
+pub returns-then-was_pending-clause-current : goal.returns-then-was_pending-clause-current
+returns-then-was_pending-clause-current g c = λ database current.
+    let inside = c.self.inside in
+    current_ended database inside.watches.items c.args.number c.in-Some.watch.now c.end-was_pending.new.self Cancelled inside.seen
+    c.end-was_pending.ensures.after (subst (λ (v : Watching). AreCurrent database v.watches) (sym c.self.view_is) current)
+
+pub returns-else-was_pending-clause-current : goal.returns-else-was_pending-clause-current
+returns-else-was_pending-clause-current g c = λ database current.
+    let inside = c.self.inside in
+    current_ended database inside.watches.items c.args.number c.in-Some.watch.now c.end-was_pending.new.self Cancelled inside.seen
+    c.end-was_pending.ensures.after (subst (λ (v : Watching). AreCurrent database v.watches) (sym c.self.view_is) current)
