@@ -12,7 +12,11 @@ use version_store::Store;
 /// The greatest version at which a transaction is committed.
 const LAST: u64 = 1_000_000_000_000;
 
-const OPTIONS: DatabaseOptions = DatabaseOptions { api: Api::V630 };
+// What the database is opened with.
+const OPTIONS: DatabaseOptions = DatabaseOptions {
+    api: Api::V630,
+    window: None,
+};
 
 /// The versions of a database, the write conflict ranges of each commit, and how many lives were begun.
 #[derive(Drop)]

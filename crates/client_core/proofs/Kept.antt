@@ -2,10 +2,10 @@
 use Rattle.std.proofs.Common.{◌≡◌, ℕ, ◌≤◌, true, cond, List, [], ◌++◌, Some, sym, ap, subst, ◌∙◌}
 use Rattle.std.proofs.lemmas.List.{append-nil}
 use Rattle.std.specs.FinMap as finite
-use Rattle.database_rules.specs.Histories.{Commit, History, Setting, grown_by, last}
+use Rattle.database_rules.specs.Histories.{Commit, History, Setting, grown_by, last, low}
 use Rattle.database_rules.specs.Transactions.{fresh}
 use Rattle.fdb_calls.specs.Calling.{Called}
-use Rattle.conflict_ranges.specs.Writes.{Index}
+use Rattle.conflict_ranges.specs.Writes.{above, newest_at, Index}
 use Rattle.version_store.specs.Versions.{Versions}
 use Rattle.machine_rules.specs.Worlds.{World, next_life, transaction_of}
 use Rattle.txn_core.specs.declared.answer.Answer.{Answer}
@@ -19,12 +19,19 @@ keeps_shared : (store store_left : Versions) (index index_left : Index) (one oth
     → txn.Keeps store index other → txn.Keeps store_left index_left one → txn.Keeps store_left index_left other
 keeps_shared store store_left index index_left one other mine its left =
     let same : last one.history ≡ last other.history = sym mine.last_is ∙ its.last_is in
+    let low_same : low one ≡ low other = sym mine.oldest_is ∙ its.oldest_is in
     record {
       last_is = left.last_is ∙ same;
-      at_is = λ version within.
+      oldest_is = left.oldest_is ∙ low_same;
+      at_is = λ version from within.
           let below : version ≤ last one.history = subst (λ n. version ≤ n) (sym same) within in
-          left.at_is version below ∙ sym (mine.at_is version below) ∙ its.at_is version within;
-      newest_is = λ key. left.newest_is key ∙ sym (mine.newest_is key) ∙ its.newest_is key;
+          let its_from : low one ≤ version = subst (λ n. n ≤ version) (sym low_same) from in
+          left.at_is version its_from below ∙ sym (mine.at_is version its_from below) ∙ its.at_is version from within;
+      forgotten_is = subst (λ n. index_left.forgotten ≤ n) low_same left.forgotten_is;
+      newest_is = λ key.
+          subst (λ n. above n (newest_at index_left key) ≡ above n (newest_at index key)) low_same
+          (left.newest_is key ∙ sym (mine.newest_is key))
+          ∙ its.newest_is key;
     }
 
 -- what is kept of the world of a sound core is kept of each history

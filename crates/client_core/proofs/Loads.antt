@@ -1,12 +1,12 @@
 -- A store of the first version alone stands for the beginning.
-use Rattle.std.proofs.Common.{◌≡◌, ℕ, zero, suc, ◌≤◌, List, [], ◌∷◌, Option, None, sym, subst, arith}
+use Rattle.std.proofs.Common.{◌≡◌, ℕ, zero, suc, ◌≤◌, List, [], ◌∷◌, Option, None, sym, ap, subst, arith}
 use Rattle.std.specs.FinMap as finite
 use Rattle.key_bytes.specs.Keys.{key_cmp}
 use Rattle.database_rules.specs.Databases.{do_all}
-use Rattle.database_rules.specs.Histories.{loaded, at}
-use Rattle.conflict_ranges.specs.Writes.{newest_at, Index}
+use Rattle.database_rules.specs.Histories.{loaded, lowest, at}
+use Rattle.conflict_ranges.specs.Writes.{above, newest_at, Index}
 use Rattle.version_store.specs.Versions as versions
-use Rattle.version_store.specs.Versions.{Versions, last_of}
+use Rattle.version_store.specs.Versions.{Versions, last_of, oldest_of}
 use Rattle.database_rules.specs.Transactions.{Transaction}
 use Rattle.command_rules.specs.declared.args.RunArgs.{RunArgs}
 use Rattle.machine_rules.specs.Worlds.{begun, database_options, setting_of}
@@ -14,15 +14,25 @@ use Rattle.txn_core.specs.Stands.{Kept, Keeps}
 use Rattle.client_core.specs.Stands.{ContentsModel, KeptTransactions, KeepsWorld, AreAlike}
 
 -- the store keeps the history of the first commit
-pub first_kept : (store : Versions) (index : Index) (pairs : List (List ℕ × List ℕ)) (arguments : RunArgs) → last_of store ≡ 1 → versions.at store 0 ≡ finite.empty
-    → versions.at store 1 ≡ do_all (loaded pairs).mutations finite.empty → ((key : List ℕ) → newest_at index key ≡ 0)
+pub first_kept : (store : Versions) (index : Index) (pairs : List (List ℕ × List ℕ)) (arguments : RunArgs) → last_of store ≡ 1
+    → oldest_of store ≡ lowest (database_options arguments) 1
+    → (oldest_of store ≤ 0 → versions.at store 0 ≡ finite.empty)
+    → (oldest_of store ≤ 1 → versions.at store 1 ≡ do_all (loaded pairs).mutations finite.empty)
+    → index.forgotten ≡ 0 → ((key : List ℕ) → newest_at index key ≡ 0)
     → Keeps store index (setting_of pairs arguments)
-first_kept store index pairs arguments last empty first unwritten = record { last_is = last; at_is = by_version; newest_is = unwritten }
+first_kept store index pairs arguments last oldest empty first forgotten unwritten = record {
+  last_is = last;
+  oldest_is = oldest;
+  at_is = by_version;
+  forgotten_is = omega (arith, forgotten);
+  newest_is = λ key. ap (above (lowest (database_options arguments) 1)) (unwritten key);
+}
   where
-    by_version : (version : ℕ) → version ≤ 1 → versions.at store version ≡ at (loaded pairs ∷ []) version
-    by_version zero within = empty
-    by_version (suc zero) within = first
-    by_version (suc (suc n)) within = absurd (omega arith)
+    by_version : (version : ℕ) → lowest (database_options arguments) 1 ≤ version → version ≤ 1
+        → versions.at store version ≡ at (loaded pairs ∷ []) version
+    by_version zero from within = empty (omega (arith, oldest, from))
+    by_version (suc zero) from within = first (omega (arith, oldest, from))
+    by_version (suc (suc n)) from within = absurd (omega arith)
 
 -- a store of the first version, and no transaction, stand for the beginning
 pub begun_stands : (core : ContentsModel) (pairs : List (List ℕ × List ℕ)) (arguments : RunArgs) → core.options ≡ database_options arguments

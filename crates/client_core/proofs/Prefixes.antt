@@ -1,5 +1,5 @@
 -- Keys that begin with a prefix stand side by side: the first key that isn't below the prefix tells whether there is one.
-use Rattle.std.proofs.Common.{◌≡◌, ℕ, ◌<◌, ◌⊎◌, inl, inr, Bool, true, false, ◌&&◌, List, [], ◌∷◌, T, refl, sym, ◌∙◌, true≢false, arith, eq-or-lt_of_le}
+use Rattle.std.proofs.Common.{◌≡◌, ℕ, ◌<◌, ◌≤◌, ◌⊎◌, inl, inr, Bool, true, false, ◌&&◌, List, [], ◌∷◌, T, refl, sym, ◌∙◌, true≢false, arith, eq-or-lt_of_le}
 use Rattle.std.specs.FinMap as finite
 use Rattle.std.specs.FinMap.Entries.{below_all, is_sorted}
 use Rattle.std.specs.List.{filter, list_any}
@@ -97,7 +97,7 @@ pub first_key_tells : (prefix : List ℕ) (database : Database)
 first_key_tells prefix database = first_tells prefix (finite.entries database) (finite.entries_sorted database)
 
 -- the last version is neither too old nor yet to come
-pub last_readable : (store : Versions) (version : ℕ) (fault : VersionFault) → version ≡ last_of store → IsFaultAt store version fault → ⊥
-unfolding oldest_of
-last_readable store version (TooOld oldest) is fault = absurd (omega (arith, fault.0))
-last_readable store version (Future newest) is fault = absurd (omega (arith, is, fault.1))
+pub last_readable : (store : Versions) (version : ℕ) (fault : VersionFault) → version ≡ last_of store → oldest_of store ≤ version
+    → IsFaultAt store version fault → ⊥
+last_readable store version (TooOld oldest) is from fault = absurd (omega (arith, from, fault.0))
+last_readable store version (Future newest) is from fault = absurd (omega (arith, is, fault.1))

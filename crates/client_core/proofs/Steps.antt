@@ -19,6 +19,7 @@ use Rattle.directory_types.specs.declared.DirArgs.{DirArgs}
 use Rattle.directory_types.specs.declared.DirKind.{DirKind}
 use Rattle.directory_types.specs.declared.Layer.{Layer}
 use Rattle.directory_rules.specs.Calls.{effect}
+use Rattle.txn_core.proofs.Stored.{low_inside}
 use Rattle.client_core.specs.Stands.{ContentsModel, CoreModel, HasStarted, KeepsWorld, StandsFor, Answers, contents_in, is_no_memory}
 use Rattle.client_core.specs.Sound.{IsSound, Took, TookDrawing, TookWhole}
 use Rattle.client_core.specs.Lives.{drawn_in}
@@ -292,7 +293,7 @@ sound_enough core applied counted few sound = record {
 pub kept_newest : (contents : ContentsModel) (world : World) → KeepsWorld contents world
     → versions.at contents.store (last_of contents.store) ≡ newest world
 kept_newest contents world keeps =
-    ap (versions.at contents.store) keeps.keeps.last_is ∙ keeps.keeps.at_is (last world.setting.history) (omega arith)
+    ap (versions.at contents.store) keeps.keeps.last_is ∙ keeps.keeps.at_is (last world.setting.history) (low_inside world.setting) (omega arith)
 
 -- a request of the database starts none
 pub none_started : (given : Request) (its_reply : Reply) (old new : List (List ℕ)) → IsOnDatabase given → new ≡ old

@@ -76,12 +76,14 @@ impl Core {
         ensures applied { IfOk result (λ core. core.applied ≡ 0) }
         ensures spent { IfOk result (λ core. core.is_spent ≡ false) }
     {
-        let store = Store::load(alloc, pairs)?;
+        let options = database_options(arguments);
+        let mut store = Store::load_with_pruning(alloc, pairs, options.window.is_some())?;
+        store.prune(options.lowest(1));
         let machines = Machines::new(alloc, arguments.prefix.copy()?)?;
         Ok(Core {
             contents: Contents {
                 alloc,
-                options: database_options(arguments),
+                options,
                 store,
                 index: WriteIndex::new(alloc),
                 transactions: KeyMap::new(alloc),

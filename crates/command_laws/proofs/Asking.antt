@@ -4,7 +4,7 @@ use Rattle.std.proofs.lemmas.Slice.Eq.{bytes_eq-Decides}
 use Rattle.key_bytes.specs.Keys.{begins_with}
 use Rattle.database_rules.specs.declared.Api.{Api}
 use Rattle.command_rules.specs.declared.args.RunArgs.{RunArgs}
-use Rattle.command_rules.specs.Grammar.{Argument, OptionName, seed, polls, WordKind, separator, joined, apart, unknown, positional, argument_by, arguments_in, given, kind_in, option_in, option_names, option_text, placed, positionals_of, polls_given, prefix_and_api_in, run_in, run_with, seed_given, values_of, with_argument}
+use Rattle.command_rules.specs.Grammar.{Argument, OptionName, seed, polls, window, WordKind, separator, joined, apart, unknown, positional, argument_by, arguments_in, given, kind_in, option_in, option_names, option_text, placed, positionals_of, polls_given, prefix_and_api_in, run_in, run_with, seed_given, values_of, window_given, with_argument}
 use Rattle.command_laws.specs.Found.{listed}
 use Rattle.command_laws.proofs.Leaves.{Tally, api, nothing, option, prefix, with_value}
 use Rattle.command_laws.proofs.Steps.{Place, first, second, past}
@@ -16,26 +16,34 @@ abbrev pub places_in : Tally → List (List ℕ)
 places_in tally = listed (tally prefix) ++ listed (tally api)
 
 abbrev pub asked : Tally → Option RunArgs
-asked tally = run_with (prefix_and_api_in (places_in tally)) (seed_given (listed (tally (option seed)))) (polls_given (listed (tally (option polls))))
+asked tally =
+    run_with (prefix_and_api_in (places_in tally)) (seed_given (listed (tally (option seed)))) (polls_given (listed (tally (option polls))))
+    (window_given (listed (tally (option window))))
 
 -- the same, with more arguments behind them
 abbrev run_after : Tally → List Argument → Option RunArgs
 run_after tally arguments =
     run_with (prefix_and_api_in (places_in tally ++ positionals_of arguments)) (seed_given (listed (tally (option seed)) ++ values_of seed arguments))
-    (polls_given (listed (tally (option polls)) ++ values_of polls arguments))
+    (polls_given (listed (tally (option polls)) ++ values_of polls arguments)) (window_given (listed (tally (option window)) ++ values_of window arguments))
 
 no_more : (tally : Tally) → asked tally ≡ run_after tally []
 no_more tally = λ i. run_with (prefix_and_api_in (sym (append-nil (places_in tally)) i)) (seed_given (sym (append-nil (listed (tally (option seed)))) i))
-    (polls_given (sym (append-nil (listed (tally (option polls)))) i))
+    (polls_given (sym (append-nil (listed (tally (option polls)))) i)) (window_given (sym (append-nil (listed (tally (option window)))) i))
 
-pub no_seed : (found : Option (List ℕ × Api)) (most : Option ℕ) → run_with found None most ≡ None
-no_seed None most = refl
-no_seed (Some found) most = refl
+pub no_seed : (found : Option (List ℕ × Api)) (most : Option ℕ) (width : Option (Option ℕ)) → run_with found None most width ≡ None
+no_seed None most width = refl
+no_seed (Some found) most width = refl
 
-pub no_polls : (found : Option (List ℕ × Api)) (number : Option ℕ) → run_with found number None ≡ None
-no_polls None number = refl
-no_polls (Some found) None = refl
-no_polls (Some found) (Some number) = refl
+pub no_polls : (found : Option (List ℕ × Api)) (number : Option ℕ) (width : Option (Option ℕ)) → run_with found number None width ≡ None
+no_polls None number width = refl
+no_polls (Some found) None width = refl
+no_polls (Some found) (Some number) width = refl
+
+pub no_window : (found : Option (List ℕ × Api)) (number most : Option ℕ) → run_with found number most None ≡ None
+no_window None number most = refl
+no_window (Some found) None most = refl
+no_window (Some found) (Some number) None = refl
+no_window (Some found) (Some number) (Some most) = refl
 
 -- ---- one argument more
 
@@ -43,11 +51,13 @@ given_first : (name : OptionName) (value : List ℕ) (tally : Tally) → tally (
     → run_after (with_value (option name) value tally) rest ≡ run_after tally (given name value ∷ rest)
 given_first seed value tally none rest = rw none refl
 given_first polls value tally none rest = rw none refl
+given_first window value tally none rest = rw none refl
 
 given_again : (name : OptionName) (value other : List ℕ) (tally : Tally) → tally (option name) ≡ Some other → (rest : List Argument)
     → run_after tally (given name value ∷ rest) ≡ None
-given_again seed value other tally found rest = rw found (no_seed _ _)
-given_again polls value other tally found rest = rw found (no_polls _ _)
+given_again seed value other tally found rest = rw found (no_seed _ _ _)
+given_again polls value other tally found rest = rw found (no_polls _ _ _)
+given_again window value other tally found rest = rw found (no_window _ _ _)
 
 -- `-` is no number
 seed_hyphen : (more : List (List ℕ)) → seed_given (codes "-" ∷ more) ≡ None
@@ -58,20 +68,34 @@ polls_hyphen : (more : List (List ℕ)) → polls_given (codes "-" ∷ more) ≡
 polls_hyphen [] = refl
 polls_hyphen (x ∷ xs) = refl
 
--- no argument behind it changes that
-no_seed_given : (found : Option (List ℕ × Api)) (values : List (List ℕ)) (most : Option ℕ) → seed_given values ≡ None → run_with found (seed_given values) most ≡ None
-no_seed_given found values most none = ap (λ number. run_with found number most) none ∙ no_seed found most
+window_hyphen : (more : List (List ℕ)) → window_given (codes "-" ∷ more) ≡ None
+window_hyphen [] = refl
+window_hyphen (x ∷ xs) = refl
 
-no_polls_given : (found : Option (List ℕ × Api)) (number : Option ℕ) (values : List (List ℕ)) → polls_given values ≡ None → run_with found number (polls_given values) ≡ None
-no_polls_given found number values none = ap (λ most. run_with found number most) none ∙ no_polls found number
+-- no argument behind it changes that
+no_seed_given : (found : Option (List ℕ × Api)) (values : List (List ℕ)) (most : Option ℕ) (width : Option (Option ℕ)) → seed_given values ≡ None
+    → run_with found (seed_given values) most width ≡ None
+no_seed_given found values most width none = ap (λ number. run_with found number most width) none ∙ no_seed found most width
+
+no_polls_given : (found : Option (List ℕ × Api)) (number : Option ℕ) (values : List (List ℕ)) (width : Option (Option ℕ)) → polls_given values ≡ None
+    → run_with found number (polls_given values) width ≡ None
+no_polls_given found number values width none = ap (λ most. run_with found number most width) none ∙ no_polls found number width
+
+no_window_given : (found : Option (List ℕ × Api)) (number most : Option ℕ) (values : List (List ℕ)) → window_given values ≡ None
+    → run_with found number most (window_given values) ≡ None
+no_window_given found number most values none = ap (λ width. run_with found number most width) none ∙ no_window found number most
 
 given_hyphen : (name : OptionName) (tally : Tally) (rest : List Argument) → run_after (with_value (option name) (codes "-") tally) rest ≡ None
 given_hyphen seed tally rest =
     no_seed_given (prefix_and_api_in (places_in tally ++ positionals_of rest)) (codes "-" ∷ values_of seed rest)
-    (polls_given (listed (tally (option polls)) ++ values_of polls rest)) (seed_hyphen (values_of seed rest))
+    (polls_given (listed (tally (option polls)) ++ values_of polls rest)) (window_given (listed (tally (option window)) ++ values_of window rest))
+    (seed_hyphen (values_of seed rest))
 given_hyphen polls tally rest =
     no_polls_given (prefix_and_api_in (places_in tally ++ positionals_of rest)) (seed_given (listed (tally (option seed)) ++ values_of seed rest))
-    (codes "-" ∷ values_of polls rest) (polls_hyphen (values_of polls rest))
+    (codes "-" ∷ values_of polls rest) (window_given (listed (tally (option window)) ++ values_of window rest)) (polls_hyphen (values_of polls rest))
+given_hyphen window tally rest =
+    no_window_given (prefix_and_api_in (places_in tally ++ positionals_of rest)) (seed_given (listed (tally (option seed)) ++ values_of seed rest))
+    (polls_given (listed (tally (option polls)) ++ values_of polls rest)) (codes "-" ∷ values_of window rest) (window_hyphen (values_of window rest))
 
 placed_first : (word : List ℕ) (tally : Tally) → IsAt first tally → (rest : List Argument) → run_after (with_value prefix word tally) rest ≡ run_after tally (placed word ∷ rest)
 placed_first word tally is rest = rw (is.0, is.1) refl

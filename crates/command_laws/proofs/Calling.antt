@@ -12,10 +12,10 @@ use Rattle.clap.specs.declared.error.Error.{Error}
 use Rattle.clap.specs.declared.error.kind.ErrorKind.{ErrorKind}
 use Rattle.clap.specs.declared.error.kind.ErrorKind.TheVariants.{OutOfMemory}
 use Rattle.database_rules.specs.declared.Api.{Api}
-use Rattle.command_rules.specs.Grammar.{args_of, polls_given, prefix_and_api_in, run_with, seed_given, workers_in}
+use Rattle.command_rules.specs.Grammar.{args_of, polls_given, prefix_and_api_in, run_with, seed_given, window_given, workers_in}
 use Rattle.command_laws.specs.Found.{EachUtf8, asked_by, asked_in, listed, workers_asked_in}
 use Rattle.command_laws.specs.Program.{program}
-use Rattle.command_laws.proofs.Asking.{no_polls, no_seed}
+use Rattle.command_laws.proofs.Asking.{no_polls, no_seed, no_window}
 use Rattle.command_laws.proofs.Deciding.{Decided, decided}
 
 program_is_simple : is_simple_and_free program ≡ true
@@ -76,6 +76,9 @@ module _ (found : Found) where
   abbrev most : List (List ℕ)
   most = listed (first_of (codes "polls") rows)
 
+  abbrev widths : List (List ℕ)
+  widths = listed (first_of (codes "window") rows)
+
   prefix_is : (text version : Option (Bor (List ℕ))) → option_map (λ t. t.now) text ≡ first_value found (codes "prefix")
       → option_map (λ t. t.now) version ≡ first_value found (codes "api") → prefix_and_api_in places ≡ prefix_and_api_in (texts_of text ++ texts_of version)
   prefix_is text version is version_is = ap₂ (λ a b. prefix_and_api_in (a ++ b)) (value_is found (codes "prefix") text is) (value_is found (codes "api") version version_is)
@@ -83,23 +86,31 @@ module _ (found : Found) where
   pub without_prefix : (text version : Option (Bor (List ℕ))) → option_map (λ t. t.now) text ≡ first_value found (codes "prefix")
       → option_map (λ t. t.now) version ≡ first_value found (codes "api") → prefix_and_api_in (texts_of text ++ texts_of version) ≡ None → asked_in rows ≡ None
   without_prefix text version is version_is none =
-      ap (λ p. run_with p (seed_given seeds) (polls_given most)) (prefix_is text version is version_is ∙ none)
+      ap (λ p. run_with p (seed_given seeds) (polls_given most) (window_given widths)) (prefix_is text version is version_is ∙ none)
 
   pub without_seed : (text : Option (Bor (List ℕ))) → option_map (λ t. t.now) text ≡ first_value found (codes "seed") → seed_given (texts_of text) ≡ None → asked_in rows ≡ None
   without_seed text is none =
-      ap (λ n. run_with (prefix_and_api_in places) n (polls_given most)) (ap seed_given (value_is found (codes "seed") text is) ∙ none) ∙ no_seed (prefix_and_api_in places) (polls_given most)
+      ap (λ n. run_with (prefix_and_api_in places) n (polls_given most) (window_given widths)) (ap seed_given (value_is found (codes "seed") text is) ∙ none)
+      ∙ no_seed (prefix_and_api_in places) (polls_given most) (window_given widths)
 
   pub without_polls : (text : Option (Bor (List ℕ))) → option_map (λ t. t.now) text ≡ first_value found (codes "polls") → polls_given (texts_of text) ≡ None → asked_in rows ≡ None
   without_polls text is none =
-      ap (λ n. run_with (prefix_and_api_in places) (seed_given seeds) n) (ap polls_given (value_is found (codes "polls") text is) ∙ none) ∙ no_polls (prefix_and_api_in places) (seed_given seeds)
+      ap (λ n. run_with (prefix_and_api_in places) (seed_given seeds) n (window_given widths)) (ap polls_given (value_is found (codes "polls") text is) ∙ none)
+      ∙ no_polls (prefix_and_api_in places) (seed_given seeds) (window_given widths)
 
-  pub with_all : (text version number bound : Option (Bor (List ℕ))) → option_map (λ t. t.now) text ≡ first_value found (codes "prefix")
+  pub without_window : (text : Option (Bor (List ℕ))) → option_map (λ t. t.now) text ≡ first_value found (codes "window") → window_given (texts_of text) ≡ None → asked_in rows ≡ None
+  without_window text is none =
+      ap (run_with (prefix_and_api_in places) (seed_given seeds) (polls_given most)) (ap window_given (value_is found (codes "window") text is) ∙ none)
+      ∙ no_window (prefix_and_api_in places) (seed_given seeds) (polls_given most)
+
+  pub with_all : (text version number bound width : Option (Bor (List ℕ))) → option_map (λ t. t.now) text ≡ first_value found (codes "prefix")
       → option_map (λ t. t.now) version ≡ first_value found (codes "api") → option_map (λ t. t.now) number ≡ first_value found (codes "seed")
-      → option_map (λ t. t.now) bound ≡ first_value found (codes "polls") → (prefix : List ℕ) (api : Api) (seed polls : ℕ)
-      → prefix_and_api_in (texts_of text ++ texts_of version) ≡ Some (prefix, api) → seed_given (texts_of number) ≡ Some seed → polls_given (texts_of bound) ≡ Some polls
-      → asked_in rows ≡ Some (record { prefix = prefix; api = api; seed = seed; polls = polls })
-  with_all text version number bound text_is version_is number_is bound_is prefix api seed polls prefix_found seed_found polls_found =
+      → option_map (λ t. t.now) bound ≡ first_value found (codes "polls") → option_map (λ t. t.now) width ≡ first_value found (codes "window") → (prefix : List ℕ) (api : Api) (seed polls : ℕ) (window : Option ℕ)
+      → prefix_and_api_in (texts_of text ++ texts_of version) ≡ Some (prefix, api) → seed_given (texts_of number) ≡ Some seed → polls_given (texts_of bound) ≡ Some polls → window_given (texts_of width) ≡ Some window
+      → asked_in rows ≡ Some (record { prefix = prefix; api = api; seed = seed; polls = polls; window = window })
+  with_all text version number bound width text_is version_is number_is bound_is width_is prefix api seed polls window prefix_found seed_found polls_found window_found =
       let first : prefix_and_api_in places ≡ Some (prefix, api) = prefix_is text version text_is version_is ∙ prefix_found in
       let second : seed_given seeds ≡ Some seed = ap seed_given (value_is found (codes "seed") number number_is) ∙ seed_found in
       let third : polls_given most ≡ Some polls = ap polls_given (value_is found (codes "polls") bound bound_is) ∙ polls_found in
-      λ i. run_with (first i) (second i) (third i)
+      let fourth : window_given widths ≡ Some window = ap window_given (value_is found (codes "window") width width_is) ∙ window_found in
+      λ i. run_with (first i) (second i) (third i) (fourth i)

@@ -16,7 +16,7 @@ use Rattle.clap.proofs.WalkLemmas.{walk_stopped}
 use Rattle.clap.proofs.FaultLemmas.{past as past_first, stopped_fault}
 use Rattle.command_rules.specs.declared.args.Args.{Args}
 use Rattle.command_rules.specs.declared.args.Args.TheVariants.{Run, Replay, Gen, Watch, Asm, Disasm}
-use Rattle.command_rules.specs.Grammar.{CommandName, WordKind, apart, args_of, asked_of, asm, command_in, command_names, command_text, disasm, gen, gen_in, joined, kind_in, polls, polls_given, positional, prefix_and_api_in, replay, run, run_in, run_with, seed, seed_given, separator, unknown, watch}
+use Rattle.command_rules.specs.Grammar.{CommandName, WordKind, apart, args_of, asked_of, asm, command_in, command_names, command_text, disasm, gen, gen_in, joined, kind_in, polls, polls_given, positional, prefix_and_api_in, replay, run, run_in, run_with, seed, seed_given, separator, unknown, watch, window, window_given}
 use Rattle.command_laws.specs.Found.{EachUtf8, asked_by, asked_in, asked_with, listed, workers_asked_in}
 use Rattle.command_laws.specs.Program.{program}
 use Rattle.command_laws.proofs.WordKinds.{IsIn, IsUnknown, Meets, by_character, by_name, is_separator, meets}
@@ -41,6 +41,7 @@ asked_is : (rows : List Row) (tally : Tally) → Holds rows tally → asked_in r
 asked_is rows tally holds =
     λ i. run_with (prefix_and_api_in (listed (first_is prefix rows tally holds i) ++ listed (first_is api rows tally holds i)))
     (seed_given (listed (first_is (option seed) rows tally holds i))) (polls_given (listed (first_is (option polls) rows tally holds i)))
+    (window_given (listed (first_is (option window) rows tally holds i)))
 
 -- ---- after the walk
 
@@ -80,7 +81,7 @@ no_default_fault (rule ∷ rules) none rows =
 -- ---- `run` and `replay`
 
 run_defaults : HasNoDefaults run_rules
-run_defaults = (refl, (refl, (refl, (refl, tt))))
+run_defaults = (refl, (refl, (refl, (refl, (refl, tt)))))
 
 abbrev pub leaf_fault : List ℕ → List (List ℕ) → Kinds
 leaf_fault name words = level_fault (leaf name) [] nothing_held words false []

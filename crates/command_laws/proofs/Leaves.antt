@@ -6,7 +6,7 @@ use Rattle.clap.specs.Walk.{Row, Rule, arg_by_id, arg_by_long, at_row, has_row, 
 use Rattle.clap.specs.Simple.{Shape, built_leaf, filled, inherited, marked_built, with_index, with_leaf_noted}
 use Rattle.clap.specs.declared.parser.matches.ValueSource.TheVariants.{CommandLine}
 use Rattle.clap.specs.declared.builder.value_parser.Reading.{Reading}
-use Rattle.command_rules.specs.Grammar.{OptionName, seed, polls, name_text}
+use Rattle.command_rules.specs.Grammar.{OptionName, seed, polls, window, name_text}
 use Rattle.command_laws.specs.Program.{option_rule, positional_rule, program, run_app}
 
 -- ---- the arguments
@@ -39,12 +39,14 @@ rule_for (option name) = rule_of_option name
 pub by_long : (name : OptionName) → arg_by_long run_rules (name_text name) ≡ Some (rule_of_option name)
 by_long seed = refl
 by_long polls = refl
+by_long window = refl
 
 pub by_id : (id : ArgumentId) → arg_by_id run_rules (id_text id) ≡ Some (rule_for id)
 by_id prefix = refl
 by_id api = refl
 by_id (option seed) = refl
 by_id (option polls) = refl
+by_id (option window) = refl
 
 -- ---- the values of arguments
 

@@ -6,7 +6,7 @@ use Rattle.clap.specs.Kinds.{Kinds, or_else}
 use Rattle.clap.specs.Faults.{settle_fault, use_fault, walk_fault}
 use Rattle.clap.specs.declared.error.kind.ErrorKind.{ErrorKind}
 use Rattle.clap.specs.declared.error.kind.ErrorKind.TheVariants.{ArgumentConflict, InvalidValue}
-use Rattle.command_rules.specs.Grammar.{OptionName, seed, polls, name_text, WordKind, separator, joined, apart, unknown, positional, kind_in}
+use Rattle.command_rules.specs.Grammar.{OptionName, seed, polls, window, name_text, WordKind, separator, joined, apart, unknown, positional, kind_in}
 use Rattle.command_laws.specs.Found.{EachUtf8}
 use Rattle.command_laws.proofs.WordKinds.{Meets, meets}
 use Rattle.command_laws.proofs.Leaves.{ArgumentId, Holds, Tally, api, has_row_is, holds_more, id_text, leaf, option, prefix, rule_of_option, run_rules, with_value}
@@ -134,10 +134,12 @@ IsAt past tally = (word : List ℕ) × (other : List ℕ) × (tally prefix ≡ S
 other_prefix : (option_name : OptionName) (value : List ℕ) (tally : Tally) → with_value (option option_name) value tally prefix ≡ tally prefix
 other_prefix seed value tally = refl
 other_prefix polls value tally = refl
+other_prefix window value tally = refl
 
 other_api : (option_name : OptionName) (value : List ℕ) (tally : Tally) → with_value (option option_name) value tally api ≡ tally api
 other_api seed value tally = refl
 other_api polls value tally = refl
+other_api window value tally = refl
 
 pub stays_at : (place : Place) (option_name : OptionName) (value : List ℕ) (tally : Tally) → IsAt place tally → IsAt place (with_value (option option_name) value tally)
 stays_at first option_name value tally is = (other_prefix option_name value tally ∙ is.0, other_api option_name value tally ∙ is.1)

@@ -6,34 +6,34 @@ use Rattle.command_rules.specs.Grammar.{args_of}
 use Rattle.command_laws.specs.Program.{program}
 use Rattle.command_rules.specs.declared.args.Args.TheVariants.{Run, Replay, Gen, Watch, Asm, Disasm}
 
-run_plain : args_of (codes "run" ∷ codes "t" ∷ codes "630" ∷ []) ≡ Some (Run (record { prefix = codes "t"; api = V630; seed = 0; polls = 10000 }))
+run_plain : args_of (codes "run" ∷ codes "t" ∷ codes "630" ∷ []) ≡ Some (Run (record { prefix = codes "t"; api = V630; seed = 0; polls = 10000; window = None }))
 run_plain = refl
 
-replay_plain : args_of (codes "replay" ∷ codes "t" ∷ codes "630" ∷ []) ≡ Some (Replay (record { prefix = codes "t"; api = V630; seed = 0; polls = 10000 }))
+replay_plain : args_of (codes "replay" ∷ codes "t" ∷ codes "630" ∷ []) ≡ Some (Replay (record { prefix = codes "t"; api = V630; seed = 0; polls = 10000; window = None }))
 replay_plain = refl
 
-options_joined : args_of (codes "run" ∷ codes "--seed=7" ∷ codes "t" ∷ codes "--polls=1" ∷ codes "630" ∷ []) ≡ Some (Run (record { prefix = codes "t"; api = V630; seed = 7; polls = 1 }))
+options_joined : args_of (codes "run" ∷ codes "--seed=7" ∷ codes "t" ∷ codes "--polls=1" ∷ codes "630" ∷ []) ≡ Some (Run (record { prefix = codes "t"; api = V630; seed = 7; polls = 1; window = None }))
 options_joined = refl
 
-options_apart : args_of (codes "replay" ∷ codes "t" ∷ codes "630" ∷ codes "--polls" ∷ codes "100000" ∷ codes "--seed" ∷ codes "18446744073709551615" ∷ []) ≡ Some (Replay (record { prefix = codes "t"; api = V630; seed = 18446744073709551615; polls = 100000 }))
+options_apart : args_of (codes "replay" ∷ codes "t" ∷ codes "630" ∷ codes "--polls" ∷ codes "100000" ∷ codes "--seed" ∷ codes "18446744073709551615" ∷ []) ≡ Some (Replay (record { prefix = codes "t"; api = V630; seed = 18446744073709551615; polls = 100000; window = None }))
 options_apart = refl
 
-hyphen_alone_is_a_prefix : args_of (codes "run" ∷ codes "-" ∷ codes "630" ∷ []) ≡ Some (Run (record { prefix = codes "-"; api = V630; seed = 0; polls = 10000 }))
+hyphen_alone_is_a_prefix : args_of (codes "run" ∷ codes "-" ∷ codes "630" ∷ []) ≡ Some (Run (record { prefix = codes "-"; api = V630; seed = 0; polls = 10000; window = None }))
 hyphen_alone_is_a_prefix = refl
 
-empty_prefix : args_of (codes "run" ∷ codes "" ∷ codes "630" ∷ []) ≡ Some (Run (record { prefix = codes ""; api = V630; seed = 0; polls = 10000 }))
+empty_prefix : args_of (codes "run" ∷ codes "" ∷ codes "630" ∷ []) ≡ Some (Run (record { prefix = codes ""; api = V630; seed = 0; polls = 10000; window = None }))
 empty_prefix = refl
 
-separator_is_dropped : args_of (codes "run" ∷ codes "--seed" ∷ codes "0" ∷ codes "--" ∷ codes "t" ∷ codes "630" ∷ []) ≡ Some (Run (record { prefix = codes "t"; api = V630; seed = 0; polls = 10000 }))
+separator_is_dropped : args_of (codes "run" ∷ codes "--seed" ∷ codes "0" ∷ codes "--" ∷ codes "t" ∷ codes "630" ∷ []) ≡ Some (Run (record { prefix = codes "t"; api = V630; seed = 0; polls = 10000; window = None }))
 separator_is_dropped = refl
 
-behind_the_separator_words_are_positional : args_of (codes "run" ∷ codes "--" ∷ codes "--seed=1" ∷ codes "630" ∷ []) ≡ Some (Run (record { prefix = codes "--seed=1"; api = V630; seed = 0; polls = 10000 }))
+behind_the_separator_words_are_positional : args_of (codes "run" ∷ codes "--" ∷ codes "--seed=1" ∷ codes "630" ∷ []) ≡ Some (Run (record { prefix = codes "--seed=1"; api = V630; seed = 0; polls = 10000; window = None }))
 behind_the_separator_words_are_positional = refl
 
-second_separator_is_positional : args_of (codes "run" ∷ codes "--" ∷ codes "--" ∷ codes "630" ∷ []) ≡ Some (Run (record { prefix = codes "--"; api = V630; seed = 0; polls = 10000 }))
+second_separator_is_positional : args_of (codes "run" ∷ codes "--" ∷ codes "--" ∷ codes "630" ∷ []) ≡ Some (Run (record { prefix = codes "--"; api = V630; seed = 0; polls = 10000; window = None }))
 second_separator_is_positional = refl
 
-separator_last : args_of (codes "run" ∷ codes "t" ∷ codes "630" ∷ codes "--" ∷ []) ≡ Some (Run (record { prefix = codes "t"; api = V630; seed = 0; polls = 10000 }))
+separator_last : args_of (codes "run" ∷ codes "t" ∷ codes "630" ∷ codes "--" ∷ []) ≡ Some (Run (record { prefix = codes "t"; api = V630; seed = 0; polls = 10000; window = None }))
 separator_last = refl
 
 no_words : args_of ([]) ≡ None
@@ -114,10 +114,10 @@ no_places = refl
 no_api : args_of (codes "run" ∷ codes "t" ∷ []) ≡ None
 no_api = refl
 
-run_500 : args_of (codes "run" ∷ codes "t" ∷ codes "500" ∷ []) ≡ Some (Run (record { prefix = codes "t"; api = V500; seed = 0; polls = 10000 }))
+run_500 : args_of (codes "run" ∷ codes "t" ∷ codes "500" ∷ []) ≡ Some (Run (record { prefix = codes "t"; api = V500; seed = 0; polls = 10000; window = None }))
 run_500 = refl
 
-replay_500 : args_of (codes "replay" ∷ codes "t" ∷ codes "--" ∷ codes "500" ∷ []) ≡ Some (Replay (record { prefix = codes "t"; api = V500; seed = 0; polls = 10000 }))
+replay_500 : args_of (codes "replay" ∷ codes "t" ∷ codes "--" ∷ codes "500" ∷ []) ≡ Some (Replay (record { prefix = codes "t"; api = V500; seed = 0; polls = 10000; window = None }))
 replay_500 = refl
 
 other_api : args_of (codes "run" ∷ codes "t" ∷ codes "510" ∷ []) ≡ None
@@ -129,7 +129,28 @@ longer_api = refl
 third_place : args_of (codes "run" ∷ codes "t" ∷ codes "630" ∷ codes "x" ∷ []) ≡ None
 third_place = refl
 
-unknown_option : args_of (codes "run" ∷ codes "t" ∷ codes "630" ∷ codes "--window=1" ∷ []) ≡ None
+narrowest_window : args_of (codes "run" ∷ codes "t" ∷ codes "630" ∷ codes "--window=1" ∷ []) ≡ Some (Run (record { prefix = codes "t"; api = V630; seed = 0; polls = 10000; window = Some 1 }))
+narrowest_window = refl
+
+widest_window : args_of (codes "replay" ∷ codes "--window" ∷ codes "1000000" ∷ codes "t" ∷ codes "500" ∷ []) ≡ Some (Replay (record { prefix = codes "t"; api = V500; seed = 0; polls = 10000; window = Some 1000000 }))
+widest_window = refl
+
+no_window : args_of (codes "run" ∷ codes "t" ∷ codes "630" ∷ codes "--window=0" ∷ []) ≡ None
+no_window = refl
+
+too_wide : args_of (codes "run" ∷ codes "t" ∷ codes "630" ∷ codes "--window=1000001" ∷ []) ≡ None
+too_wide = refl
+
+two_windows : args_of (codes "run" ∷ codes "--window=1" ∷ codes "t" ∷ codes "630" ∷ codes "--window=1" ∷ []) ≡ None
+two_windows = refl
+
+window_is_a_hyphen : args_of (codes "run" ∷ codes "t" ∷ codes "630" ∷ codes "--window" ∷ codes "-" ∷ []) ≡ None
+window_is_a_hyphen = refl
+
+gen_with_a_window : args_of (codes "gen" ∷ codes "5" ∷ codes "--window=1" ∷ []) ≡ None
+gen_with_a_window = refl
+
+unknown_option : args_of (codes "run" ∷ codes "t" ∷ codes "630" ∷ codes "--windows=1" ∷ []) ≡ None
 unknown_option = refl
 
 beginning_of_an_option : args_of (codes "run" ∷ codes "t" ∷ codes "630" ∷ codes "--see=1" ∷ []) ≡ None
@@ -187,7 +208,7 @@ too_many_polls : args_of (codes "run" ∷ codes "t" ∷ codes "630" ∷ codes "-
 too_many_polls = refl
 
 -- a prefix has at most 1,000 bytes
-longest_prefix : args_of (codes "run" ∷ replicate 1000 97 ∷ codes "630" ∷ []) ≡ Some (Run (record { prefix = replicate 1000 97; api = V630; seed = 0; polls = 10000 }))
+longest_prefix : args_of (codes "run" ∷ replicate 1000 97 ∷ codes "630" ∷ []) ≡ Some (Run (record { prefix = replicate 1000 97; api = V630; seed = 0; polls = 10000; window = None }))
 longest_prefix = refl
 
 longer_prefix : args_of (codes "run" ∷ replicate 1001 97 ∷ codes "630" ∷ []) ≡ None

@@ -6,7 +6,7 @@ use Rattle.clap.specs.Walk.{option as waits_for, positional as several}
 use Rattle.clap.specs.Kinds.{Kinds, or_else}
 use Rattle.clap.specs.declared.error.kind.ErrorKind.TheVariants.{ArgumentConflict, InvalidValue, UnknownArgument}
 use Rattle.clap.specs.Faults.{flags_fault, settle_fault, turn_fault, use_fault}
-use Rattle.command_rules.specs.Grammar.{OptionName, seed, polls, name_text}
+use Rattle.command_rules.specs.Grammar.{OptionName, seed, polls, window, name_text}
 use Rattle.command_laws.proofs.WordKinds.{IsUnknown, by_name, by_character, is_separator}
 use Rattle.command_laws.proofs.Leaves.{ArgumentId, api, by_id, by_long, id_text, leaf, option, prefix, rule_for, rule_of_option, run_rules}
 
@@ -100,7 +100,7 @@ apart_walks rows pending place word option_name e long = rw (e, long, by_long op
 -- ---- options that the command doesn't have
 
 no_long : (name : List ℕ) → ((option_name : OptionName) → bytes_eq (name_text option_name) name ≡ false) → arg_by_long run_rules name ≡ None
-no_long name differs = rw (differs seed, differs polls) refl
+no_long name differs = rw (differs seed, differs polls, differs window) refl
 
 pub unknown_fault : (name : List ℕ) (rows : List Row) (pending : Pending) (waiting : Waiting) (place : Place) (word : List ℕ)
     → is_separator word ≡ false → IsUnknown word → turn_at name (at rows pending waiting place false) word ≡ UnknownArgument ∷ []
@@ -167,6 +167,7 @@ module _ (rows : List Row) (pending : Pending) (waiting : Waiting) (word : List 
 same_name : (option_name : OptionName) → bytes_eq (name_text option_name) (name_text option_name) ≡ true
 same_name seed = refl
 same_name polls = refl
+same_name window = refl
 
 pub value_fault : (name : List ℕ) (rows : List Row) (place : Place) (word : List ℕ) (option_name : OptionName) → IsPlain word
     → turn_at name (at rows (Some (name_text option_name, [])) (waits_for (name_text option_name)) place false) word ≡ []

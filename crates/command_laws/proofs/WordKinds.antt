@@ -7,7 +7,7 @@ use Rattle.std.proofs.lemmas.Slice.Eq.{bytes_eq-Decides, starts_is}
 use Rattle.std.proofs.lemmas.Bool.Decides.{Decides-eqb, nat_tests}
 use Rattle.clap.specs.Lexer.{long_of, short_of}
 use Rattle.key_bytes.specs.Keys.{begins_with}
-use Rattle.command_rules.specs.Grammar.{OptionName, seed, polls, WordKind, separator, joined, apart, unknown, positional, kind_in, name_text, option_in, option_names, option_text}
+use Rattle.command_rules.specs.Grammar.{OptionName, seed, polls, window, WordKind, separator, joined, apart, unknown, positional, kind_in, name_text, option_in, option_names, option_text}
 
 -- a word that names an option which the command doesn't have: by its whole name, or by one character
 pub data IsUnknown (word : List ℕ) : Type 0 where
@@ -64,10 +64,12 @@ Excluded name word = (bytes_eq word (option_text name) ≡ false) × (begins_wit
 alone : (name : OptionName) → bytes_eq (45 ∷ 45 ∷ name_text name) (option_text name) ≡ true
 alone seed = refl
 alone polls = refl
+alone window = refl
 
 with_value : (name : OptionName) (value : List ℕ) → begins_with (45 ∷ 45 ∷ (name_text name ++ 61 ∷ value)) (option_text name ++ codes "=") ≡ true
 with_value seed value = refl
 with_value polls value = refl
+with_value window value = refl
 
 differs : (name : OptionName) (text : List ℕ) → Excluded name (45 ∷ 45 ∷ text) → bytes_eq (name_text name) (before_equals text) ≡ false
 differs name text excluded = go (bytes_eq (name_text name) (before_equals text)) refl (cut text)
@@ -85,6 +87,7 @@ differs name text excluded = go (bytes_eq (name_text name) (before_equals text))
 apart_alone : (name : OptionName) → Meets (apart name) (option_text name)
 apart_alone seed = (refl, refl)
 apart_alone polls = (refl, refl)
+apart_alone window = (refl, refl)
 
 apart_meets : (name : OptionName) (word : List ℕ) → bytes_eq word (option_text name) ≡ true → Meets (apart name) word
 apart_meets name word same =
@@ -94,6 +97,7 @@ apart_meets name word same =
 joined_alone : (name : OptionName) (value : List ℕ) → Meets (joined name value) ((option_text name ++ codes "=") ++ value)
 joined_alone seed value = (refl, refl)
 joined_alone polls value = (refl, refl)
+joined_alone window value = (refl, refl)
 
 joined_meets : (name : OptionName) (word : List ℕ) → begins_with word (option_text name ++ codes "=") ≡ true
     → Meets (joined name (drop (length (option_text name ++ codes "=")) word)) word
@@ -106,6 +110,7 @@ joined_meets name word begins =
 same_length : (name : OptionName) → length (option_text name ++ codes "=") ≡ length (option_text name) + 1
 same_length seed = refl
 same_length polls = refl
+same_length window = refl
 
 abbrev pub IsIn : {X : Type 0} → X → List X → Type 0
 IsIn name [] = ⊥
@@ -114,6 +119,7 @@ IsIn name (other ∷ others) = (name ≡ other) ⊎ IsIn name others
 each_name : (name : OptionName) → IsIn name option_names
 each_name seed = inl refl
 each_name polls = inr (inl refl)
+each_name window = inr (inr (inl refl))
 
 -- a word `--` and more, where each option is among these or excluded
 named : (names : List OptionName) (x : ℕ) (xs : List ℕ) → ((name : OptionName) → IsIn name names ⊎ Excluded name (45 ∷ 45 ∷ x ∷ xs))

@@ -5,7 +5,7 @@ use Rattle.key_bytes.specs.Keys.{begins_with}
 use Rattle.command_rules.specs.declared.args.RunArgs.{RunArgs}
 use Rattle.command_rules.specs.declared.args.Args.{Args}
 use Rattle.command_rules.specs.declared.args.Args.TheVariants.{Run, Replay, Gen, Watch, Asm, Disasm}
-use Rattle.command_rules.specs.Grammar.{CommandName, run, replay, gen, watch, asm, disasm, command_in, command_names, polls_given, prefix_and_api_in, run_with, seed_given, workers_in}
+use Rattle.command_rules.specs.Grammar.{CommandName, run, replay, gen, watch, asm, disasm, command_in, command_names, polls_given, prefix_and_api_in, run_with, seed_given, window_given, workers_in}
 
 -- a value as the list of an argument's values, which has one or none
 abbrev pub listed : Option (List ℕ) → List (List ℕ)
@@ -17,6 +17,7 @@ abbrev pub asked_in : List Row → Option RunArgs
 asked_in rows =
     run_with (prefix_and_api_in (listed (first_of (codes "prefix") rows) ++ listed (first_of (codes "api") rows)))
     (seed_given (listed (first_of (codes "seed") rows))) (polls_given (listed (first_of (codes "polls") rows)))
+    (window_given (listed (first_of (codes "window") rows)))
 
 -- of `gen`
 abbrev pub workers_asked_in : List Row → Option ℕ

@@ -2,7 +2,7 @@
 use Rattle.std.specs.Prelude.{ℕ, true, List, [], Some, codes}
 use Rattle.clap.specs.Words.{App, Rule, Shape, new_app, new_rule, with_rule, with_subcommand}
 use Rattle.clap.specs.Simple.{new_shape}
-use Rattle.command_rules.specs.Grammar.{OptionName, name_text, seed, polls}
+use Rattle.command_rules.specs.Grammar.{OptionName, name_text, seed, polls, window}
 
 -- an option that takes one value, and a positional argument that must be there
 abbrev pub option_rule : OptionName → Rule
@@ -11,11 +11,13 @@ option_rule name = record (new_rule (name_text name)) { long = Some (name_text n
 abbrev pub positional_rule : List ℕ → Rule
 positional_rule id = record (new_rule id) { required = true }
 
+-- `run` and `replay`, without their options
+abbrev pub positional_app : List ℕ → App
+positional_app name = with_rule (with_rule (new_app name) (positional_rule (codes "prefix"))) (positional_rule (codes "api"))
+
 -- `run` and `replay`
 abbrev pub run_app : List ℕ → App
-run_app name =
-    with_rule (with_rule (with_rule (with_rule (new_app name) (positional_rule (codes "prefix"))) (positional_rule (codes "api")))
-    (option_rule seed)) (option_rule polls)
+run_app name = with_rule (with_rule (with_rule (positional_app name) (option_rule seed)) (option_rule polls)) (option_rule window)
 
 -- `gen`
 abbrev pub gen_app : App

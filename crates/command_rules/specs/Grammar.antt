@@ -15,13 +15,15 @@ use Rattle.command_rules.specs.declared.args.Args.TheVariants.{Run, Replay, Gen,
 pub data OptionName : Type 0 where
   seed : OptionName
   polls : OptionName
+  window : OptionName
 
 abbrev pub option_names : List OptionName
-option_names = seed ∷ polls ∷ []
+option_names = seed ∷ polls ∷ window ∷ []
 
 abbrev pub name_text : OptionName → List ℕ
 name_text seed = codes "seed"
 name_text polls = codes "polls"
+name_text window = codes "window"
 
 abbrev pub same_option : OptionName → OptionName → Bool
 same_option a b = bytes_eq (name_text a) (name_text b)
@@ -119,6 +121,12 @@ seed_given = number_given 0 0 18446744073709551615
 abbrev pub polls_given : List (List ℕ) → Option ℕ
 polls_given = number_given 10000 1 100000
 
+-- the window of an option that comes at most once: there is none without it
+abbrev pub window_given : List (List ℕ) → Option (Option ℕ)
+window_given [] = Some None
+window_given (value ∷ []) = option_map Some (number_in 1 1000000 value)
+window_given (value ∷ other ∷ more) = None
+
 -- ---- commands
 
 -- the API version that a word names
@@ -136,16 +144,18 @@ prefix_and_api_in (prefix ∷ word ∷ []) =
     if nat_le (length prefix) 1000 then option_map (λ api. (prefix, api)) (api_in word) else None
 prefix_and_api_in (prefix ∷ word ∷ other ∷ more) = None
 
-abbrev pub run_with : Option (List ℕ × Api) → Option ℕ → Option ℕ → Option RunArgs
-run_with (Some places) (Some first) (Some most) =
-    Some (record { prefix = places.0; api = places.1; seed = first; polls = most })
-run_with (Some places) (Some first) None = None
-run_with (Some places) None most = None
-run_with None first most = None
+abbrev pub run_with : Option (List ℕ × Api) → Option ℕ → Option ℕ → Option (Option ℕ) → Option RunArgs
+run_with (Some places) (Some first) (Some most) (Some width) =
+    Some (record { prefix = places.0; api = places.1; seed = first; polls = most; window = width })
+run_with (Some places) (Some first) (Some most) None = None
+run_with (Some places) (Some first) None width = None
+run_with (Some places) None most width = None
+run_with None first most width = None
 
 abbrev pub run_of : List Argument → Option RunArgs
 run_of arguments =
     run_with (prefix_and_api_in (positionals_of arguments)) (seed_given (values_of seed arguments)) (polls_given (values_of polls arguments))
+    (window_given (values_of window arguments))
 
 -- what the words after `run` or `replay` ask for
 abbrev pub run_in : List (List ℕ) → Option RunArgs

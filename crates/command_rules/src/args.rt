@@ -14,6 +14,8 @@ pub struct RunArgs {
     pub seed: u64,
     /// How often the polls of one wait may be answered that it isn't decided yet.
     pub polls: u32,
+    /// How many versions the window has that reads and commits may stand in, where there is one.
+    pub window: Option<u32>,
 }
 
 /// A command of the program.

@@ -4,7 +4,7 @@ ghost use Rattle.std.specs.Prelude.{◌≡◌, IfOk, Some, false};
 ghost use Rattle.clap.specs.Walk.{rule_of};
 ghost use Rattle.clap.specs.Simple.{app_of, new_rule};
 ghost use Rattle.clap.specs.declared.Command.TheViews.{out-Command};
-ghost use Rattle.command_laws.specs.Program.{bare_app, gen_app, positional_rule, program, run_app, run_program, watch_program};
+ghost use Rattle.command_laws.specs.Program.{bare_app, gen_app, positional_app, positional_rule, program, run_app, run_program, watch_program};
 
 use clap::{Arg, Command};
 use std::alloc::{AllocError, Global};
@@ -25,16 +25,25 @@ fn option<'a>(alloc: Global, name: &'a str) -> Arg<'a>
     Arg::new(alloc, name).long(name)
 }
 
+// `run` or `replay`, without its options.
+fn positional_command<'a>(alloc: Global, name: &'a str) -> Result<Command<'a>, AllocError>
+    ensures app { IfOk result (λ command. app_of command ≡ positional_app name.entry.now) }
+    ensures local { IfOk result (λ command. (out-Command command).has_globals ≡ false) }
+{
+    Command::new(alloc, name)
+        .arg(positional(alloc, "prefix"))?
+        .arg(positional(alloc, "api"))
+}
+
 // `run` or `replay`.
 fn run_command<'a>(alloc: Global, name: &'a str) -> Result<Command<'a>, AllocError>
     ensures app { IfOk result (λ command. app_of command ≡ run_app name.entry.now) }
     ensures local { IfOk result (λ command. (out-Command command).has_globals ≡ false) }
 {
-    Command::new(alloc, name)
-        .arg(positional(alloc, "prefix"))?
-        .arg(positional(alloc, "api"))?
+    positional_command(alloc, name)?
         .arg(option(alloc, "seed"))?
-        .arg(option(alloc, "polls"))
+        .arg(option(alloc, "polls"))?
+        .arg(option(alloc, "window"))
 }
 
 // `gen`.

@@ -6,7 +6,7 @@ ghost use Rattle.clap.specs.Matches.{found_of};
 ghost use Rattle.clap.specs.Walk.{rows_of};
 ghost use Rattle.clap.specs.Simple.{subcommand_rows_of};
 ghost use Rattle.clap.specs.declared.error.kind.ErrorKind.TheVariants.{OutOfMemory};
-ghost use Rattle.command_rules.specs.Grammar.{api_in, args_of, number_given, number_in, prefix_and_api_in};
+ghost use Rattle.command_rules.specs.Grammar.{api_in, args_of, number_given, number_in, prefix_and_api_in, window_given};
 ghost use Rattle.command_laws.specs.Found.{asked_by, asked_in, is_marked, listed, workers_asked_in};
 
 use crate::args::ArgWords;
@@ -27,6 +27,9 @@ const POLLS: u64 = 10_000;
 
 // How many it may have at most.
 const POLLS_LIMIT: u64 = 100_000;
+
+// How many versions a window may have at most.
+const WINDOW_LIMIT: u64 = 1_000_000;
 
 // How many workers `gen` may be asked for at most.
 const WORKERS_LIMIT: u64 = 30;
@@ -90,11 +93,15 @@ fn run_found(alloc: Global, matches: &ArgMatches) -> Result<RunArgs, ArgFault>
     let Some(polls) = number_found(matches.get_str("polls"), POLLS, 1, POLLS_LIMIT) else {
         return Err(ArgFault::Usage);
     };
+    let Some(window) = window_found(matches.get_str("window")) else {
+        return Err(ArgFault::Usage);
+    };
     Ok(RunArgs {
         prefix: Bytes::from_slice(alloc, prefix.as_bytes())?,
         api,
         seed,
         polls: polls as u32,
+        window,
     })
 }
 
@@ -146,6 +153,19 @@ fn number_found(word: Option<&str>, default: u64, least: u64, most: u64) -> Opti
     match word {
         Some(word) => number(word, least, most),
         None => Some(default),
+    }
+}
+
+// The window of an option, or that there is none where it isn't given.
+fn window_found(word: Option<&str>) -> Option<Option<u32>>
+    ensures { result ≡ window_given (listed (option_map (λ text. text.now) word.entry)) }
+{
+    match word {
+        Some(word) => {
+            let width = number(word, 1, WINDOW_LIMIT)?;
+            Some(Some(width as u32))
+        }
+        None => Some(None),
     }
 }
 

@@ -11,7 +11,7 @@ use Rattle.std.specs.Ordering.{eq_by_cmp, is_eq}
 use Rattle.key_bytes.specs.Keys.{key_cmp, key_lt}
 use Rattle.key_bytes.proofs.Orders.{irreflexive}
 use Rattle.range_map.proofs.Held.{IsBelow, IsRising, rising_below, rising_rest}
-use Rattle.conflict_ranges.specs.Writes.{version_in}
+use Rattle.conflict_ranges.specs.Generations.{version_in}
 use Rattle.conflict_ranges.proofs.Greatest.{greatest, grows}
 
 module _ (p : List ℕ → Bool) where

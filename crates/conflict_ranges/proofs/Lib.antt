@@ -1,6 +1,7 @@
 pub mod Alone
 pub mod Between
 pub mod Changed
+pub mod Forgotten
 pub mod Greatest
 pub mod Meeting
 pub mod Nexts

@@ -1,4 +1,4 @@
--- The versions of keys in an index, by themselves and in ranges, before and after a change.
+-- The versions of keys in a generation, by themselves and in ranges, before and after a change.
 use Rattle.std.proofs.Common.{◌≡◌, ◌≤◌, ◌<◌, ◌⊎◌, inl, inr, ℕ, max, arith, Bool, true, false, cond, not, List, Option, None, Some, is_some, refl, sym, ap, subst, ◌∙◌}
 use Rattle.std.proofs.lemmas.Bool.{cases_lt}
 use Rattle.std.proofs.lemmas.Cmp.{tied_itself}
@@ -12,7 +12,7 @@ use Rattle.key_bytes.specs.Keys.{key_cmp, after, within}
 use Rattle.database_rules.proofs.Ranges.{has_one}
 use Rattle.range_map.specs.Boundaries.{Boundaries, held, is_boundary, changed}
 use Rattle.range_map.proofs.Held.{IsRising, held-changed}
-use Rattle.conflict_ranges.specs.Writes.{version_in, newest_at, Index, IsBounded, GoesAlone, KeepsRoom}
+use Rattle.conflict_ranges.specs.Generations.{version_in, version_at, LastWrites, IsBounded, GoesAlone, KeepsRoom}
 use Rattle.conflict_ranges.proofs.Rooms.{room_kept}
 use Rattle.conflict_ranges.proofs.Splits.{boundary_given}
 
@@ -54,8 +54,8 @@ known_now keys k version =
 
 -- ---- a key that is given a version by itself
 
-module _ (begin end : List ℕ) (version : ℕ) (old : Index) (bounded : IsBounded old) (low : version ≤ old.newest) where
-  abbrev pub alone : Index
+module _ (begin end : List ℕ) (version : ℕ) (old : LastWrites) (bounded : IsBounded old) (low : version ≤ old.newest) where
+  abbrev pub alone : LastWrites
   alone = record old { keys = insert old.keys begin version }
 
   pub alone_bounded : IsBounded alone
@@ -70,14 +70,14 @@ module _ (begin end : List ℕ) (version : ℕ) (old : Index) (bounded : IsBound
       by_test q false = bounded.keys q
 
   pub alone_given : GoesAlone old version begin end → (q : List ℕ)
-      → newest_at alone q ≡ cond (within begin end q) version (newest_at old q)
+      → version_at alone q ≡ cond (within begin end q) version (version_at old q)
   alone_given goes q =
       ap (λ found. max (version_in found) (held old.ranges q)) (get-insert nat_list_cmp_total old.keys begin version q)
       ∙ by_test (eq_by_cmp key_cmp q begin)
-      ∙ ap (λ t. cond t version (newest_at old q)) (sym (one_key begin q) ∙ ap (λ end. within begin end q) (sym goes.0))
+      ∙ ap (λ t. cond t version (version_at old q)) (sym (one_key begin q) ∙ ap (λ end. within begin end q) (sym goes.0))
     where
       by_test : (t : Bool) → max (version_in (cond t (Some version) (get old.keys q))) (held old.ranges q)
-          ≡ cond t version (newest_at old q)
+          ≡ cond t version (version_at old q)
       by_test true = let above = goes.1 in let less = bounded.ranges q in omega (arith, above, less)
       by_test false = refl
 
@@ -87,9 +87,9 @@ module _ (begin end : List ℕ) (version : ℕ) (old : Index) (bounded : IsBound
 
 -- ---- a key that is given a version by itself, which none is above: it is the newest then
 
-module _ (key : List ℕ) (version : ℕ) (old : Index) (bounded : IsBounded old) (above : old.newest ≤ version) (keys : Versions)
+module _ (key : List ℕ) (version : ℕ) (old : LastWrites) (bounded : IsBounded old) (above : old.newest ≤ version) (keys : Versions)
     (is : keys ≡ insert old.keys key version) where
-  abbrev raised : Index
+  abbrev raised : LastWrites
   raised = record old { newest = version }
 
   raised_bounded : IsBounded raised
@@ -98,7 +98,7 @@ module _ (key : List ℕ) (version : ℕ) (old : Index) (bounded : IsBounded old
     ranges = λ q. let less = bounded.ranges q in omega (arith, less, above);
   }
 
-  abbrev pub newest_alone : Index
+  abbrev pub newest_alone : LastWrites
   newest_alone = record { keys = keys; ranges = old.ranges; newest = version }
 
   pub newest_alone_bounded : IsBounded newest_alone
@@ -106,9 +106,9 @@ module _ (key : List ℕ) (version : ℕ) (old : Index) (bounded : IsBounded old
       subst (λ (keys : Versions). IsBounded (record { keys = keys; ranges = old.ranges; newest = version })) (sym is)
       (alone_bounded key (after key) version raised raised_bounded (omega arith))
 
-  pub newest_alone_given : (q : List ℕ) → newest_at newest_alone q ≡ cond (within key (after key) q) version (newest_at old q)
+  pub newest_alone_given : (q : List ℕ) → version_at newest_alone q ≡ cond (within key (after key) q) version (version_at old q)
   newest_alone_given q =
-      ap (λ (keys : Versions). newest_at (record { keys = keys; ranges = old.ranges; newest = version }) q) is
+      ap (λ (keys : Versions). version_at (record { keys = keys; ranges = old.ranges; newest = version }) q) is
       ∙ alone_given key (after key) version raised raised_bounded (omega arith) (refl, omega arith) q
 
 -- ---- a range that is given a version
@@ -128,7 +128,7 @@ bounded_left begin end keys newest all q =
     by_test true = all q
     by_test false = omega arith
 
-module _ (begin end : List ℕ) (version : ℕ) (old : Index) (ranges : Boundaries ℕ) (rising : IsRising old.ranges.entries)
+module _ (begin end : List ℕ) (version : ℕ) (old : LastWrites) (ranges : Boundaries ℕ) (rising : IsRising old.ranges.entries)
     (is_begin : is_boundary begin old.ranges ≡ true) (is_end : is_boundary end old.ranges ≡ true)
     (is : ranges ≡ changed (within begin end) (λ _. version) old.ranges) (bounded : IsBounded old) (low : version ≤ old.newest) where
   -- what ranges give a key
@@ -147,13 +147,13 @@ module _ (begin end : List ℕ) (version : ℕ) (old : Index) (ranges : Boundari
   boundary_kept boundary there = boundary_given (within begin end) version old.ranges ranges is boundary ∙ there
 
   -- where no version is above this one, the keys by themselves stay as they are
-  abbrev pub in_range : Index
+  abbrev pub in_range : LastWrites
   in_range = record old { ranges = ranges }
 
   pub range_bounded : IsBounded in_range
   range_bounded = record { keys = bounded.keys; ranges = bounded_now }
 
-  pub range_given : old.newest ≤ version → (q : List ℕ) → newest_at in_range q ≡ cond (within begin end q) version (newest_at old q)
+  pub range_given : old.newest ≤ version → (q : List ℕ) → version_at in_range q ≡ cond (within begin end q) version (version_at old q)
   range_given above q =
       ap (max (version_in (get old.keys q))) (held_now q) ∙ by_test (within begin end q)
     where
@@ -167,13 +167,13 @@ module _ (begin end : List ℕ) (version : ℕ) (old : Index) (ranges : Boundari
       room_kept version range old in_range (record { newest = refl; keys = λ key there. there; boundaries = boundary_kept })
 
   -- where one is, the keys of the range lose what they had by themselves
-  abbrev pub instead : Index
+  abbrev pub instead : LastWrites
   instead = record old { keys = retain_keys old.keys (λ k. not (within begin end k)); ranges = ranges }
 
   pub instead_bounded : IsBounded instead
   instead_bounded = record { keys = bounded_left begin end old.keys old.newest bounded.keys; ranges = bounded_now }
 
-  pub instead_given : (q : List ℕ) → newest_at instead q ≡ cond (within begin end q) version (newest_at old q)
+  pub instead_given : (q : List ℕ) → version_at instead q ≡ cond (within begin end q) version (version_at old q)
   instead_given q =
       (λ i. max (version_in (left_of begin end old.keys q i)) (held_now q i)) ∙ by_test (within begin end q)
     where
@@ -191,20 +191,20 @@ module _ (begin end : List ℕ) (version : ℕ) (old : Index) (ranges : Boundari
 -- ---- the newest version that a key of a range has
 
 -- no key of a range has more than this
-abbrev pub IsAboveAll : (begin end : List ℕ) → Index → ℕ → Type 0
-IsAboveAll begin end index newest = (key : List ℕ) → within begin end key ≡ true → newest_at index key ≤ newest
+abbrev pub IsAboveAll : (begin end : List ℕ) → LastWrites → ℕ → Type 0
+IsAboveAll begin end generation newest = (key : List ℕ) → within begin end key ≡ true → version_at generation key ≤ newest
 
 -- it is 0, or a key of the range has it
-abbrev pub IsReached : (begin end : List ℕ) → Index → ℕ → Type 0
-IsReached begin end index newest = (newest ≡ 0) ⊎ ((key : List ℕ) × (within begin end key ≡ true) × (newest_at index key ≡ newest))
+abbrev pub IsReached : (begin end : List ℕ) → LastWrites → ℕ → Type 0
+IsReached begin end generation newest = (newest ≡ 0) ⊎ ((key : List ℕ) × (within begin end key ≡ true) × (version_at generation key ≡ newest))
 
-module _ (begin end : List ℕ) (index : Index) (newest : ℕ) where
-  pub above_one : end ≡ after begin → newest ≡ newest_at index begin → IsAboveAll begin end index newest
+module _ (begin end : List ℕ) (generation : LastWrites) (newest : ℕ) where
+  pub above_one : end ≡ after begin → newest ≡ version_at generation begin → IsAboveAll begin end generation newest
   above_one single is key is_in =
       let same : key ≡ begin = tells_apart exact_bytes key begin (sym (one_key begin key) ∙ ap (λ end. within begin end key) (sym single) ∙ is_in) in
-      let its = ap (newest_at index) same in omega (arith, is, its)
+      let its = ap (version_at generation) same in omega (arith, is, its)
 
-  pub reached_one : end ≡ after begin → newest ≡ newest_at index begin → IsReached begin end index newest
+  pub reached_one : end ≡ after begin → newest ≡ version_at generation begin → IsReached begin end generation newest
   reached_one single is = inr (
     begin,
     ap (λ end. within begin end begin) single ∙ one_key begin begin ∙ ap is_eq (tied_itself nat_list_cmp_total begin),
@@ -212,24 +212,24 @@ module _ (begin end : List ℕ) (index : Index) (newest : ℕ) where
   )
 
   module _ (of_ranges of_keys : ℕ) (is : newest ≡ max of_ranges of_keys)
-      (ranges_above : (key : List ℕ) → within begin end key ≡ true → held index.ranges key ≤ of_ranges)
-      (keys_above : (key : List ℕ) → within begin end key ≡ true → version_in (get index.keys key) ≤ of_keys) where
-    pub above_both : IsAboveAll begin end index newest
+      (ranges_above : (key : List ℕ) → within begin end key ≡ true → held generation.ranges key ≤ of_ranges)
+      (keys_above : (key : List ℕ) → within begin end key ≡ true → version_in (get generation.keys key) ≤ of_keys) where
+    pub above_both : IsAboveAll begin end generation newest
     above_both key is_in = let one = ranges_above key is_in in let other = keys_above key is_in in omega (arith, is, one, other)
 
-    pub reached_both : ((key : List ℕ) × (within begin end key ≡ true) × (held index.ranges key ≡ of_ranges))
-        → ((of_keys ≡ 0) ⊎ ((key : List ℕ) × (within begin end key ≡ true) × (version_in (get index.keys key) ≡ of_keys)))
-        → IsReached begin end index newest
+    pub reached_both : ((key : List ℕ) × (within begin end key ≡ true) × (held generation.ranges key ≡ of_ranges))
+        → ((of_keys ≡ 0) ⊎ ((key : List ℕ) × (within begin end key ≡ true) × (version_in (get generation.keys key) ≡ of_keys)))
+        → IsReached begin end generation newest
     reached_both (key, is_in, has) by_keys = elim (cases_lt of_ranges of_keys) [
       | inl more ↦ by_key more by_keys
       | inr less ↦
           let other = keys_above key is_in in
-          let same : newest_at index key ≡ newest = omega (arith, is, less, has, other) in inr (key, is_in, same)
+          let same : version_at generation key ≡ newest = omega (arith, is, less, has, other) in inr (key, is_in, same)
     ]
       where
-        by_key : of_ranges < of_keys → ((of_keys ≡ 0) ⊎ ((key : List ℕ) × (within begin end key ≡ true) × (version_in (get index.keys key) ≡ of_keys)))
-            → IsReached begin end index newest
+        by_key : of_ranges < of_keys → ((of_keys ≡ 0) ⊎ ((key : List ℕ) × (within begin end key ≡ true) × (version_in (get generation.keys key) ≡ of_keys)))
+            → IsReached begin end generation newest
         by_key more (inl none) = absurd (omega (arith, more, none))
         by_key more (inr (key, is_in, has)) =
             let other = ranges_above key is_in in
-            let same : newest_at index key ≡ newest = omega (arith, is, more, has, other) in inr (key, is_in, same)
+            let same : version_at generation key ≡ newest = omega (arith, is, more, has, other) in inr (key, is_in, same)

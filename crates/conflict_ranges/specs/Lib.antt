@@ -1,4 +1,5 @@
 pub mod Ends
+pub mod Generations
 pub mod Only
 pub mod Segments
 pub mod Writes

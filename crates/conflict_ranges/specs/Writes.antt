@@ -1,58 +1,31 @@
--- The last write version of each key.
-use Rattle.std.specs.Prelude.{◌≡◌, ◌≢◌, ◌≤◌, ◌<◌, ◌⊎◌, ℕ, max, true, List, [], ◌∷◌, Option, Some, None}
-use Rattle.std.specs.FinMap as finite
+-- The last write version of each key, above those that are forgotten.
+use Rattle.std.specs.Prelude.{◌≤◌, ◌<◌, ℕ, max, List, nat_lt, if◌then◌else◌}
 use Rattle.key_bytes.specs.declared.range.KeyRange.{KeyRange}
-use Rattle.key_bytes.specs.Keys.{key_cmp, after}
-use Rattle.range_map.specs.Boundaries.{Boundaries, held, is_boundary}
+use Rattle.conflict_ranges.specs.Generations as generations
+use Rattle.conflict_ranges.specs.Generations.{LastWrites, version_at}
 
--- the versions of keys that were installed alone, those of keys in ranges, and one that none of these is above
+-- What was installed up to some version and isn't forgotten as a whole, what was installed since, a version that none of these is
+-- above, and the greatest version that was forgotten. Contracts cite the words below, `newest` and `forgotten`.
 pub record Index : Type 0 where
-  pub keys : finite.FinMap key_cmp ℕ
-  pub ranges : Boundaries ℕ
+  pub older : LastWrites
+  pub younger : LastWrites
   pub newest : ℕ
+  pub forgotten : ℕ
 
--- a version, or 0 where there is none
-abbrev pub version_in : Option ℕ → ℕ
-version_in None = 0
-version_in (Some version) = version
+-- a version where it is above another, and else 0
+abbrev pub above : ℕ → ℕ → ℕ
+above low version = if nat_lt low version then version else 0
 
--- the newest version of a key: alone or in a range
+-- the newest version of a key, or 0 where it is forgotten
 abbrev pub newest_at : Index → List ℕ → ℕ
-newest_at index key = max (version_in (finite.get index.keys key)) (held index.ranges key)
+newest_at index key = above index.forgotten (max (version_at index.older key) (version_at index.younger key))
 
--- no version is above the newest
-pub record IsBounded (index : Index) : Type 0 where
-  pub keys : (key : List ℕ) → version_in (finite.get index.keys key) ≤ index.newest
-  pub ranges : (key : List ℕ) → held index.ranges key ≤ index.newest
+-- no generation has a version above the newest
+abbrev pub IsBounded : Index → Type 0
+IsBounded index = (index.older.newest ≤ index.newest) × (index.younger.newest ≤ index.newest)
 
--- the newest version, once this one is among them
-abbrev pub with_version : ℕ → Index → Index
-with_version version index = record index { newest = max index.newest version }
-
--- the keys from one to another are the first alone, and no version is above this one: then they are kept as a key, and else as a range
-abbrev pub GoesAlone : Index → ℕ → List ℕ → List ℕ → Type 0
-GoesAlone index version begin end = (end ≡ after begin) × (index.newest ≤ version)
-
-abbrev pub GoesAsRange : Index → ℕ → List ℕ → List ℕ → Type 0
-GoesAsRange index version begin end = (end ≢ after begin) ⊎ (version < index.newest)
-
--- giving a range this version takes no memory
-pub record HasRoomFor (index : Index) (version : ℕ) (range : KeyRange) : Type 0 where
-  pub alone : GoesAlone index version range.begin range.end → finite.contains_key index.keys range.begin ≡ true
-  pub as_range : GoesAsRange index version range.begin range.end
-      → (is_boundary range.begin index.ranges ≡ true) × (is_boundary range.end index.ranges ≡ true)
-
--- giving these ranges this version takes no memory
+-- giving these ranges this version takes no memory; the older generation takes part only where it has a greater version
 abbrev pub IsReadyFor : Index → ℕ → List KeyRange → Type 0
-IsReadyFor index version [] = Unit {0}
-IsReadyFor index version (range ∷ ranges) = HasRoomFor index version range × IsReadyFor index version ranges
-
--- what is known stays known, and the newest version stays
-pub record Keeps (old new : Index) : Type 0 where
-  pub newest : new.newest ≡ old.newest
-  pub keys : (key : List ℕ) → finite.contains_key old.keys key ≡ true → finite.contains_key new.keys key ≡ true
-  pub boundaries : (boundary : List ℕ) → is_boundary boundary old.ranges ≡ true → is_boundary boundary new.ranges ≡ true
-
--- each range that has room at a version still has it
-abbrev pub KeepsRoom : ℕ → Index → Index → Type 0
-KeepsRoom version old new = (range : KeyRange) → HasRoomFor old version range → HasRoomFor new version range
+IsReadyFor index version ranges =
+    generations.IsReadyFor index.younger version ranges
+    × (version < index.older.newest → generations.IsReadyFor index.older version ranges)

@@ -4,7 +4,7 @@ ghost use Rattle.std.specs.Prelude.{◌≡◌, ◌≢◌, ◌≤◌, ◌⊎◌, 
 ghost use Rattle.std.specs.FinMap as finite;
 ghost use Rattle.key_bytes.specs.Keys.{after, key_lt, within};
 ghost use Rattle.range_map.specs.Boundaries.{held};
-ghost use Rattle.conflict_ranges.specs.Writes.{version_in};
+ghost use Rattle.conflict_ranges.specs.Generations.{version_in};
 
 use key_bytes::Key;
 use key_map::KeyMap;

@@ -1,38 +1,41 @@
-//! The last write version of each key.
+//! The last write version of each key, above those that are forgotten.
 
-ghost use Rattle.std.specs.Prelude.{◌≡◌, ◌≤◌, ◌⊎◌, ℕ, List, [], true, max, if◌then◌else◌, MatchBool, OnOk, OnErr};
-ghost use Rattle.std.specs.FinMap as finite;
+ghost use Rattle.std.specs.Prelude.{◌≡◌, ◌≤◌, ◌⊎◌, ℕ, List, true, max, if◌then◌else◌, OnOk, OnErr};
 ghost use Rattle.key_bytes.specs.Keys.{after, within};
 ghost use Rattle.key_bytes.specs.Ranges.{has};
-ghost use Rattle.database_rules.specs.States.{covers, range_from};
-ghost use Rattle.range_map.specs.Boundaries.{is_boundary};
-ghost use Rattle.conflict_ranges.specs.Writes.{newest_at, GoesAlone, GoesAsRange, HasRoomFor, IsReadyFor, Keeps, KeepsRoom, with_version};
+ghost use Rattle.database_rules.specs.States.{covers};
+ghost use Rattle.conflict_ranges.specs.Writes.{above, newest_at, IsReadyFor};
 
-use crate::newest::{Written, is_after, newest_of_keys, newest_of_ranges};
+use crate::generation::Generation;
 use crate::range_set::RangeSet;
 use key_bytes::{Key, KeyRange};
-use key_map::KeyMap;
-use range_map::RangeMap;
 use std::alloc::{AllocError, Global};
 use std::marker::Model;
+use std::mem;
 
 /// The newest version of each key: that of the last commit with it among its write conflict ranges, or 0 (API reference,
-/// "Transaction": conflict ranges). A range of one key is kept as that key, any other by its ends. Contracts see what is known of
-/// keys alone and of ranges; `newest_at` says of both the version of a key.
+/// "Transaction": conflict ranges). Versions that are forgotten count as 0. Contracts say by `newest_at` what version a key has.
 pub struct WriteIndex {
-    keys: KeyMap<u64>,
-    ranges: RangeMap<u64>,
-    // No version is greater.
+    alloc: Global,
+    // What was installed up to some version. Once all of it is forgotten it goes as a whole, and the younger one takes its place.
+    older: Generation,
+    // What was installed since.
+    younger: Generation,
+    // No version that was installed is greater.
     newest: u64,
+    // No version up to this one is answered.
+    forgotten: u64,
 }
 
 // Written out, so that a caller's proof sees one call where an index ends, and nothing of what lies in it.
 impl Drop for WriteIndex {
     fn drop(self) {
         let WriteIndex {
-            keys: _,
-            ranges: _,
+            alloc: _,
+            older: _,
+            younger: _,
             newest: _,
+            forgotten: _,
         } = self;
     }
 }
@@ -47,21 +50,24 @@ impl Model for WriteIndex {
 
     ghost coded = { Prim.hlevel (codes, coded_ℕ, coded_list, finite.code {R = key_cmp} (coded_list coded_ℕ) coded_ℕ) };
 
-    ghost view = { λ index. record { keys = index.keys; ranges = index.ranges; newest = index.newest } };
+    ghost view = { λ index. record { older = index.older; younger = index.younger; newest = index.newest; forgotten = index.forgotten } };
 
-    ghost invariant = { λ index. IsBounded (record { keys = index.keys; ranges = index.ranges; newest = index.newest }) };
+    ghost invariant = { λ index. IsBounded (record { older = index.older; younger = index.younger; newest = index.newest; forgotten = index.forgotten }) };
 }
 
 impl WriteIndex {
     /// Makes the index where no key was written: each has version 0.
     pub fn new(alloc: Global) -> WriteIndex
-        ensures empty { result ≡ record { keys = finite.empty; ranges = record { base = 0; entries = [] }; newest = 0 } }
         ensures unwritten { (key : List ℕ) → newest_at result key ≡ 0 }
+        ensures newest { result.newest ≡ 0 }
+        ensures forgotten { result.forgotten ≡ 0 }
     {
         WriteIndex {
-            keys: KeyMap::new(alloc),
-            ranges: RangeMap::new(alloc, 0),
+            alloc,
+            older: Generation::new(alloc),
+            younger: Generation::new(alloc),
             newest: 0,
+            forgotten: 0,
         }
     }
 
@@ -70,11 +76,35 @@ impl WriteIndex {
         ensures is { result ≡ self.now.newest }
         ensures above { (key : List ℕ) → newest_at self.now key ≤ result }
     {
+        self.older.shows_bounded();
+        self.younger.shows_bounded();
         self.newest
     }
 
-    /// Returns the newest version that a key of the range has; 0 where the range is empty. For one key it takes two searches, and
-    /// else four, and one step for each key and each boundary in the range.
+    /// Returns the greatest version that was forgotten, at first 0.
+    pub fn forgotten(&self) -> u64
+        ensures { result ≡ self.now.forgotten }
+    {
+        self.forgotten
+    }
+
+    /// Forgets the versions up to `below`: a key that has one of them has 0 from now on. It takes no memory. What was installed is
+    /// kept in two generations: once the newest version of the older one is forgotten, that one is dropped, a step for each of its
+    /// keys and boundaries, and the younger one takes its place. So each key and each boundary goes once, and what is kept is of
+    /// versions that weren't forgotten when the older generation became it, or later ones.
+    pub fn forget(&mut self, below: u64)
+        ensures kept { (key : List ℕ) → newest_at self.new key ≡ above self.new.forgotten (newest_at self.old key) }
+        ensures forgotten { self.new.forgotten ≡ max self.old.forgotten below }
+        ensures newest { self.new.newest ≡ self.old.newest }
+    {
+        self.forgotten = self.forgotten.max(below);
+        if self.older.newest() <= self.forgotten {
+            self.older = mem::replace(&mut self.younger, Generation::new(self.alloc));
+        }
+    }
+
+    /// Returns the newest version that a key of the range has; 0 where the range is empty. For one key it takes two searches of each
+    /// generation, and else four, and one step for each key and each boundary in the range.
     pub fn newest_in(&self, range: &KeyRange) -> u64
         ensures above { (key : List ℕ) → has range.now key ≡ true → newest_at self.now key ≤ result }
         ensures reached { (result ≡ 0)
@@ -90,31 +120,25 @@ impl WriteIndex {
         ensures reached { (result ≡ 0)
             ⊎ ((key : List ℕ) × (within begin.now end.now key ≡ true) × (newest_at self.now key ≡ result)) }
     {
-        if is_after(begin, end) {
-            return self.newest_of(begin);
-        }
-        if !begin.cmp(end).is_lt() {
+        let newest = self.kept_between(begin, end);
+        if newest <= self.forgotten {
             return 0;
         }
-        newest_of_ranges(&self.ranges, begin, end).max(newest_of_keys(&self.keys, begin, end))
+        newest
     }
 
-    // The newest version of a key. It takes no memory, and two searches.
-    fn newest_of(&self, key: &Key) -> u64
-        ensures { result ≡ newest_at self.now key.now }
+    // The newest version that a key from `begin` on has that is less than `end`, or a forgotten one. Without a window the older
+    // generation is empty, and isn't asked.
+    fn kept_between(&self, begin: &Key, end: &Key) -> u64
+        ensures above { (key : List ℕ) → within begin.now end.now key ≡ true → newest_at self.now key ≤ result }
+        ensures reached { (result ≤ self.now.forgotten)
+            ⊎ ((key : List ℕ) × (within begin.now end.now key ≡ true) × (newest_at self.now key ≡ result)) }
     {
-        let in_ranges = *self.ranges.at(key);
-        match self.keys.get(key) {
-            Some(version) => in_ranges.max(*version),
-            None => in_ranges,
+        let younger = self.younger.newest_between(begin, end);
+        if self.older.newest() <= self.forgotten {
+            return younger;
         }
-    }
-
-    // Whether these keys, from `begin` up to `end`, are kept as a key where they get this version. It takes no memory.
-    fn goes_alone(&self, begin: &Key, end: &Key, version: u64) -> bool
-        ensures { MatchBool result (GoesAlone self.now version begin.now end.now) (GoesAsRange self.now version begin.now end.now) }
-    {
-        self.newest <= version && is_after(begin, end)
+        younger.max(self.older.newest_between(begin, end))
     }
 
     /// Takes the memory that `install` of these ranges at this version needs: one search for a range of one key, and for any other
@@ -122,185 +146,84 @@ impl WriteIndex {
     pub fn reserve(&mut self, ranges: &RangeSet, version: u64) -> Result<(), AllocError>
         ensures same { (key : List ℕ) → newest_at self.new key ≡ newest_at self.old key }
         ensures newest { self.new.newest ≡ self.old.newest }
+        ensures forgotten { self.new.forgotten ≡ self.old.forgotten }
         ensures ready { OnOk result (IsReadyFor self.new version ranges.now) }
     {
-        for (begin, end) in ranges.ranges() {
-            self.make_room(begin, end, version)?;
+        self.younger.reserve(ranges, version)?;
+        if version < self.older.newest() {
+            self.older.reserve(ranges, version)?;
         }
         Ok(())
     }
 
-    // The same for `install_list`: the ranges may meet, and be empty.
-    fn reserve_list(&mut self, ranges: &[KeyRange], version: u64) -> Result<(), AllocError>
-        ensures same { (key : List ℕ) → newest_at self.new key ≡ newest_at self.old key }
-        ensures newest { self.new.newest ≡ self.old.newest }
-        ensures ready { OnOk result (IsReadyFor self.new version ranges.now) }
-    {
-        for range in ranges {
-            self.make_room(&range.begin, &range.end, version)?;
-        }
-        Ok(())
-    }
-
-    // Makes room for one range.
-    fn make_room(&mut self, begin: &Key, end: &Key, version: u64) -> Result<(), AllocError>
-        ensures same { (key : List ℕ) → newest_at self.new key ≡ newest_at self.old key }
-        ensures newest { self.new.newest ≡ self.old.newest }
-        ensures kept { KeepsRoom version self.old self.new }
-        ensures room { OnOk result (HasRoomFor self.new version (range_from begin.now end.now)) }
-    {
-        if self.goes_alone(begin, end, version) {
-            return self.add_key(begin);
-        }
-        self.ranges.split_both(begin, end)
-    }
-
-    // Makes a key known, which no commit has had as a range of its own yet.
-    fn add_key(&mut self, key: &Key) -> Result<(), AllocError>
-        ensures same { (key : List ℕ) → newest_at self.new key ≡ newest_at self.old key }
-        ensures kept { Keeps self.old self.new }
-        ensures known { OnOk result (finite.contains_key self.new.keys key.now ≡ true) }
-    {
-        self.keys.insert_missing(key.copy()?, 0)?;
-        Ok(())
-    }
-
-    /// Gives the keys of the ranges this version, after room was made for them. It takes one search for each range, and one write
-    /// for each boundary in it; where a greater version is known, one step for each key besides.
+    /// Gives the keys of the ranges this version, after room was made for them, with nothing installed or forgotten since. It takes
+    /// one search for each range, and one write for each boundary in it; where a greater version is known, one step for each key
+    /// besides.
     pub fn install(&mut self, ranges: RangeSet, version: u64)
         requires { IsReadyFor self.old version ranges }
         ensures given { (key : List ℕ) → newest_at self.new key
-            ≡ (if covers ranges key then version else newest_at self.old key) }
+            ≡ (if covers ranges key then above self.old.forgotten version else newest_at self.old key) }
         ensures newest { self.new.newest ≡ max self.old.newest version }
+        ensures forgotten { self.new.forgotten ≡ self.old.forgotten }
     {
-        self.raise_newest(version);
-        for (begin, end) in ranges.ranges() {
-            self.give(begin, end, version);
+        if version < self.older.newest() {
+            self.older.install(&ranges, version);
         }
-    }
-
-    // The same for a list of ranges, which may meet, and be empty.
-    fn install_list(&mut self, ranges: &[KeyRange], version: u64)
-        requires { IsReadyFor self.old version ranges.now }
-        ensures given { (key : List ℕ) → newest_at self.new key
-            ≡ (if covers ranges.now key then version else newest_at self.old key) }
-        ensures newest { self.new.newest ≡ max self.old.newest version }
-    {
-        self.raise_newest(version);
-        for range in ranges {
-            self.give(&range.begin, &range.end, version);
-        }
+        self.younger.install(&ranges, version);
+        self.newest = self.newest.max(version);
     }
 
     /// Gives the keys of a list of ranges this version; they may meet, and be empty. After a refusal each key keeps its version. One
     /// range of one key takes what `install_key` takes, and other ranges what `reserve` and `install` take.
     pub fn install_all(&mut self, ranges: &[KeyRange], version: u64) -> Result<(), AllocError>
         ensures given { OnOk result ((key : List ℕ) → newest_at self.new key
-            ≡ (if covers ranges.now key then version else newest_at self.old key)) }
+            ≡ (if covers ranges.now key then above self.old.forgotten version else newest_at self.old key)) }
         ensures newest { OnOk result (self.new.newest ≡ max self.old.newest version) }
+        ensures forgotten { self.new.forgotten ≡ self.old.forgotten }
         ensures same { OnErr result ((key : List ℕ) → newest_at self.new key ≡ newest_at self.old key) }
         ensures newest_kept { OnErr result (self.new.newest ≡ self.old.newest) }
     {
-        if let [range] = ranges {
-            if is_after(&range.begin, &range.end) {
-                return self.install_key(&range.begin, version);
-            }
+        if version < self.older.newest() {
+            return self.install_in_both(ranges, version);
         }
-        self.install_each(ranges, version)
+        self.younger.install_all(ranges, version)?;
+        self.newest = self.newest.max(version);
+        Ok(())
     }
 
     /// Gives a key this version. After a refusal each key keeps its version. It takes one search, and memory only where the key
     /// wasn't installed alone before; where a greater version is known, what `reserve` and `install` take for its range.
     pub fn install_key(&mut self, key: &Key, version: u64) -> Result<(), AllocError>
         ensures given { OnOk result ((other : List ℕ) → newest_at self.new other
-            ≡ (if within key.now (after key.now) other then version else newest_at self.old other)) }
+            ≡ (if within key.now (after key.now) other then above self.old.forgotten version else newest_at self.old other)) }
         ensures newest { OnOk result (self.new.newest ≡ max self.old.newest version) }
+        ensures forgotten { self.new.forgotten ≡ self.old.forgotten }
         ensures same { OnErr result ((other : List ℕ) → newest_at self.new other ≡ newest_at self.old other) }
         ensures newest_kept { OnErr result (self.new.newest ≡ self.old.newest) }
     {
-        if self.newest <= version {
-            return self.put_key(key, version);
+        if version < self.older.newest() {
+            let range = KeyRange::single(key.allocator(), key)?;
+            return self.install_in_both(&[range], version);
         }
-        let range = KeyRange::single(key.allocator(), key)?;
-        self.install_each(&[range], version)
+        self.younger.install_key(key, version)?;
+        self.newest = self.newest.max(version);
+        Ok(())
     }
 
-    // Takes the memory for the ranges of a list, and gives their keys this version.
-    fn install_each(&mut self, ranges: &[KeyRange], version: u64) -> Result<(), AllocError>
+    // Gives the keys of a list of ranges this version, in both generations, so that no greater one is left in the older one.
+    fn install_in_both(&mut self, ranges: &[KeyRange], version: u64) -> Result<(), AllocError>
         ensures given { OnOk result ((key : List ℕ) → newest_at self.new key
-            ≡ (if covers ranges.now key then version else newest_at self.old key)) }
+            ≡ (if covers ranges.now key then above self.old.forgotten version else newest_at self.old key)) }
         ensures newest { OnOk result (self.new.newest ≡ max self.old.newest version) }
+        ensures forgotten { self.new.forgotten ≡ self.old.forgotten }
         ensures same { OnErr result ((key : List ℕ) → newest_at self.new key ≡ newest_at self.old key) }
         ensures newest_kept { OnErr result (self.new.newest ≡ self.old.newest) }
     {
-        self.reserve_list(ranges, version)?;
-        self.install_list(ranges, version);
-        Ok(())
-    }
-
-    // Gives a key this version, which none is above: one search. Only a key that wasn't installed alone before takes memory. After
-    // a refusal the index is unchanged.
-    fn put_key(&mut self, key: &Key, version: u64) -> Result<(), AllocError>
-        requires { self.old.newest ≤ version }
-        ensures given { OnOk result ((other : List ℕ) → newest_at self.new other
-            ≡ (if within key.now (after key.now) other then version else newest_at self.old other)) }
-        ensures newest { OnOk result (self.new.newest ≡ version) }
-        ensures same { OnErr result (self.new ≡ self.old) }
-    {
-        self.keys.insert(key.copy()?, version)?;
-        self.newest = version;
-        Ok(())
-    }
-
-    // Counts this version as installed. It takes no memory.
-    fn raise_newest(&mut self, version: u64)
-        ensures newest { self.new ≡ with_version version self.old }
-    {
+        self.older.reserve_list(ranges, version)?;
+        self.younger.reserve_list(ranges, version)?;
+        self.older.install_list(ranges, version);
+        self.younger.install_list(ranges, version);
         self.newest = self.newest.max(version);
-    }
-
-    // Gives the keys of one range this version. It takes no memory.
-    fn give(&mut self, begin: &Key, end: &Key, version: u64)
-        requires bounded { version ≤ self.old.newest }
-        requires room { HasRoomFor self.old version (range_from begin.now end.now) }
-        ensures given { (key : List ℕ) → newest_at self.new key
-            ≡ (if within begin.now end.now key then version else newest_at self.old key) }
-        ensures kept { KeepsRoom version self.old self.new }
-        ensures newest { self.new.newest ≡ self.old.newest }
-    {
-        if self.goes_alone(begin, end, version) {
-            self.give_key(begin, end, version);
-        } else {
-            self.give_range(begin, end, version);
-        }
-    }
-
-    // Gives a key that is known this version: the one key from `begin` up to `end`. It takes no memory.
-    fn give_key(&mut self, begin: &Key, end: &Key, version: u64)
-        requires alone { GoesAlone self.old version begin.now end.now }
-        requires bounded { version ≤ self.old.newest }
-        requires known { finite.contains_key self.old.keys begin.now ≡ true }
-        ensures given { (key : List ℕ) → newest_at self.new key
-            ≡ (if within begin.now end.now key then version else newest_at self.old key) }
-        ensures kept { KeepsRoom version self.old self.new }
-        ensures newest { self.new.newest ≡ self.old.newest }
-    {
-        *self.keys.get_mut(begin).unwrap() = version;
-    }
-
-    // Gives the keys between two boundaries this version. It takes no memory.
-    fn give_range(&mut self, begin: &Key, end: &Key, version: u64)
-        requires bounded { version ≤ self.old.newest }
-        requires boundaries { (is_boundary begin.now self.old.ranges ≡ true) × (is_boundary end.now self.old.ranges ≡ true) }
-        ensures given { (key : List ℕ) → newest_at self.new key
-            ≡ (if within begin.now end.now key then version else newest_at self.old key) }
-        ensures kept { KeepsRoom version self.old self.new }
-        ensures newest { self.new.newest ≡ self.old.newest }
-    {
-        self.ranges.shows_rising();
-        self.ranges.change(begin, end, &Written(version));
-        if version < self.newest {
-            self.keys.clear_range(begin, end);
-        }
+        Ok(())
     }
 }

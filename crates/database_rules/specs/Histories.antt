@@ -1,5 +1,6 @@
 -- What a transaction did, and the history of the database.
-use Rattle.std.specs.Prelude.{ℕ, Bool, true, false, List, [], ◌∷◌, ◌++◌, length, map, take, drop, reverse}
+use Rattle.std.specs.Prelude.{ℕ, ◌-◌, Bool, true, false, List, [], ◌∷◌, ◌++◌, length, map, take, drop, reverse}
+use Rattle.std.specs.Option.{option_map_or}
 use Rattle.std.specs.List.{list_any}
 use Rattle.std.specs.FinMap as finite
 use Rattle.key_bytes.specs.declared.range.KeyRange.{KeyRange}
@@ -107,6 +108,13 @@ conflicts history version reads = list_any (λ commit. any_meet commit.write_con
 pub record Setting : Type 0 where
   pub history : History
   pub options : DatabaseOptions
+
+-- the lowest version that can be read, where this is the last one: it less the window, where there is one
+abbrev pub lowest : DatabaseOptions → (last : ℕ) → ℕ
+lowest options last = option_map_or (λ window. last - window) options.window 0
+
+abbrev pub low : Setting → ℕ
+low setting = lowest setting.options (last setting.history)
 
 -- the setting after more commits
 abbrev pub grown_by : Setting → List Commit → Setting

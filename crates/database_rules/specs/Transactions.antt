@@ -4,7 +4,7 @@ use Rattle.std.specs.List.{list_any}
 use Rattle.key_bytes.specs.declared.range.KeyRange.{KeyRange}
 use Rattle.key_bytes.specs.Keys.{key_lt, top}
 use Rattle.database_rules.specs.declared.Code.{Code}
-use Rattle.database_rules.specs.declared.TheConstants.{ACCESSED_UNREADABLE, CLIENT_INVALID_OPERATION, EXACT_MODE_WITHOUT_LIMITS, FUTURE_VERSION, INVALID_MUTATION_TYPE, INVERTED_RANGE, KEY_LIMIT, KEY_OUTSIDE_LEGAL_RANGE, KEY_TOO_LARGE, NOT_COMMITTED, READ_VERSION_ALREADY_SET, SIZE_LIMIT, TRANSACTION_CANCELLED, TRANSACTION_TOO_LARGE, USED_DURING_COMMIT, VALUE_LIMIT, VALUE_TOO_LARGE, VERSION_INVALID}
+use Rattle.database_rules.specs.declared.TheConstants.{ACCESSED_UNREADABLE, CLIENT_INVALID_OPERATION, EXACT_MODE_WITHOUT_LIMITS, FUTURE_VERSION, INVALID_MUTATION_TYPE, INVERTED_RANGE, KEY_LIMIT, KEY_OUTSIDE_LEGAL_RANGE, KEY_TOO_LARGE, NOT_COMMITTED, READ_VERSION_ALREADY_SET, SIZE_LIMIT, TRANSACTION_CANCELLED, TRANSACTION_TOO_LARGE, TRANSACTION_TOO_OLD, USED_DURING_COMMIT, VALUE_LIMIT, VALUE_TOO_LARGE, VERSION_INVALID}
 use Rattle.database_rules.specs.declared.Phase.{Phase}
 use Rattle.database_rules.specs.declared.Phase.TheVariants as phase
 use Rattle.database_rules.specs.declared.Tried.TheVariants as tried
@@ -17,7 +17,7 @@ use Rattle.database_rules.specs.Databases.{Database, Mutation, Set, Clear, Clear
 use Rattle.database_rules.specs.States.{has_room, seen, stamped, stamped_bytes, unreadable}
 use Rattle.database_rules.specs.Intervals.{any_meet, interval}
 use Rattle.database_rules.specs.Reads.{Read, Get, GetKey, GetKeyRange, GetRange, Answer}
-use Rattle.database_rules.specs.Histories.{Script, Wrote, HasRead, Granted, written, write_conflicts_by, conflicts, Setting, at, last}
+use Rattle.database_rules.specs.Histories.{Script, Wrote, HasRead, Granted, written, write_conflicts_by, conflicts, Setting, at, last, low}
 
 pub record Transaction : Type 0 where
   -- the number of its life
@@ -177,6 +177,10 @@ view setting transaction = seen (writes_of transaction) (at setting.history (ver
 abbrev pub with_version : Setting → Transaction → Transaction
 with_version setting transaction = record transaction { version = Some (version_in setting transaction) }
 
+-- the version is lower than those that can be read
+abbrev pub is_behind : Setting → Transaction → Bool
+is_behind setting transaction = nat_lt (version_in setting transaction) (low setting)
+
 -- the version is above the last one
 abbrev pub is_ahead : Setting → Transaction → Bool
 is_ahead setting transaction = nat_lt (last setting.history) (version_in setting transaction)
@@ -192,7 +196,10 @@ is_hidden setting transaction read = any_meet (interval read (view setting trans
 -- the checks of a read at its version
 abbrev pub late_checks : Setting → Transaction → Read → List (Bool × ℕ)
 late_checks setting transaction read =
-    (is_ahead setting transaction, FUTURE_VERSION) ∷ (is_hidden setting transaction read, ACCESSED_UNREADABLE) ∷ []
+    (is_behind setting transaction, TRANSACTION_TOO_OLD)
+    ∷ (is_ahead setting transaction, FUTURE_VERSION)
+    ∷ (is_hidden setting transaction read, ACCESSED_UNREADABLE)
+    ∷ []
 
 -- the transaction after a read that was answered and adds these ranges; one by snapshot leaves no trace
 abbrev pub with_read : Bool → Read → Answer → List KeyRange → Transaction → Transaction
@@ -254,11 +261,12 @@ with_write_conflict_disabled transaction = record transaction { skips_write_conf
 
 -- ---- its commit
 
--- the checks of a commit at its version: it is above the last one, or a commit after it has a key of the transaction's read
--- conflict ranges among its write conflict ranges
+-- the checks of a commit at its version: it is lower than those that can be read, or above the last one, or a commit after it has a
+-- key of the transaction's read conflict ranges among its write conflict ranges
 abbrev pub conflict_checks : Setting → Transaction → List (Bool × ℕ)
 conflict_checks setting transaction =
-    (is_ahead setting transaction, FUTURE_VERSION)
+    (is_behind setting transaction, TRANSACTION_TOO_OLD)
+    ∷ (is_ahead setting transaction, FUTURE_VERSION)
     ∷ (conflicts setting.history (version_in setting transaction) transaction.read_ranges, NOT_COMMITTED)
     ∷ []
 

@@ -60,6 +60,9 @@ pub const USED_DURING_COMMIT: u16 = 2017;
 /// The commit of the life was read-only, so there is no versionstamp.
 pub const NO_COMMIT_VERSION: u16 = 2021;
 
+/// The version of a transaction is lower than those that can still be read.
+pub const TRANSACTION_TOO_OLD: u16 = 1007;
+
 /// No atomic operation has this name.
 pub const INVALID_MUTATION_TYPE: u16 = 2018;
 

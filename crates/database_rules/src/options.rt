@@ -1,5 +1,8 @@
 //! Options: what a database is opened with, and how a range is read.
 
+ghost use Rattle.std.specs.Prelude.{◌≡◌, ◌≤◌};
+ghost use Rattle.database_rules.specs.Histories.{lowest};
+
 use crate::Api;
 use crate::mode::Mode;
 
@@ -8,6 +11,21 @@ use crate::mode::Mode;
 pub struct DatabaseOptions {
     /// The version of the API, by which names of atomic operations are read.
     pub api: Api,
+    /// How many versions before the last one can still be read; `None` is all of them.
+    pub window: Option<u32>,
+}
+
+impl DatabaseOptions {
+    /// Returns the lowest version that can be read, where `last` is the last one.
+    pub fn lowest(self, last: u64) -> u64
+        ensures value { result ≡ lowest self last }
+        ensures inside { result ≤ last }
+    {
+        match self.window {
+            Some(window) => last.saturating_sub(window as u64),
+            None => 0,
+        }
+    }
 }
 
 /// How a range is read: up to which limit, in which order, and in which streaming mode (API reference of release 6.3,

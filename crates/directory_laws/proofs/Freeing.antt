@@ -10,7 +10,7 @@ use Rattle.key_bytes.specs.Keys.{key_lt, within, begins_with}
 use Rattle.key_bytes.specs.Successors.{strinc, raised}
 use Rattle.key_bytes.proofs.Orders.{lt_first, lt_rest, key_cmp-same_front}
 use Rattle.fdb_tuple.specs.Spelling.{string_spelled}
-use Rattle.database_rules.specs.declared.TheConstants.{FUTURE_VERSION, ACCESSED_UNREADABLE}
+use Rattle.database_rules.specs.declared.TheConstants.{FUTURE_VERSION, TRANSACTION_TOO_OLD, ACCESSED_UNREADABLE}
 use Rattle.database_rules.specs.Databases.{Database}
 use Rattle.database_rules.specs.Histories.{Setting}
 use Rattle.database_rules.specs.Intervals.{any_meet, interval, slice_interval}
@@ -18,7 +18,7 @@ use Rattle.database_rules.specs.KeyByKey.{is_plain}
 use Rattle.database_rules.specs.Reads.{Read, GetKeyRange, answer}
 use Rattle.database_rules.specs.Slices.{Entries, slice}
 use Rattle.database_rules.specs.States.{covers, unreadable, range_from}
-use Rattle.database_rules.specs.Transactions.{Transaction, view, writes_of, with_version, is_ahead, is_hidden, first_failing, read_code}
+use Rattle.database_rules.specs.Transactions.{Transaction, view, writes_of, with_version, is_ahead, is_behind, is_hidden, first_failing, read_code}
 use Rattle.database_rules.proofs.Ranges.{covers_single, any_meet_at}
 use Rattle.fdb_calls.specs.Calling.{read_by, read_at_version}
 use Rattle.allocator_rules.specs.Acts.{Reads, act_called, refusal}
@@ -54,20 +54,21 @@ readable_before setting course t value after key plain goes is =
 
 -- ---- a read that was let through
 
-not_hidden : (setting : Setting) (t : Transaction) (snapshot : Bool) (read : Read) (ahead hidden : Bool)
-    → refusal (read_at_version (first_failing ((ahead, FUTURE_VERSION) ∷ (hidden, ACCESSED_UNREADABLE) ∷ [])) setting t snapshot
+not_hidden : (setting : Setting) (t : Transaction) (snapshot : Bool) (read : Read) (behind ahead hidden : Bool)
+    → refusal (read_at_version (first_failing ((behind, TRANSACTION_TOO_OLD) ∷ (ahead, FUTURE_VERSION) ∷ (hidden, ACCESSED_UNREADABLE) ∷ [])) setting t snapshot
     read).reply ≡ None
     → hidden ≡ false
-not_hidden setting t snapshot read true hidden passed = absurd cc
-not_hidden setting t snapshot read false true passed = absurd cc
-not_hidden setting t snapshot read false false passed = refl
+not_hidden setting t snapshot read true ahead hidden passed = absurd cc
+not_hidden setting t snapshot read false true hidden passed = absurd cc
+not_hidden setting t snapshot read false false true passed = absurd cc
+not_hidden setting t snapshot read false false false passed = refl
 
 clear_by : (setting : Setting) (t : Transaction) (first : Option ℕ) (snapshot : Bool) (read : Read)
     → refusal (read_by first setting t snapshot read).reply ≡ None → is_hidden setting t read ≡ false
 clear_by setting t (Some code) snapshot read passed = absurd cc
 clear_by setting t None snapshot read passed =
     let taken = with_version setting t in
-    not_hidden setting taken snapshot read (is_ahead setting taken) (is_hidden setting taken read) passed
+    not_hidden setting taken snapshot read (is_behind setting taken) (is_ahead setting taken) (is_hidden setting taken read) passed
 
 -- its read conflict range may be read
 rests_readable : (setting : Setting) (t : Transaction) (snapshot : Bool) (read : Read) (ranges : List KeyRange) (key : List ℕ)

@@ -4,12 +4,12 @@ use Rattle.std.proofs.Common.{◌≡◌, ℕ, ◌+◌, ◌^◌, ◌<◌, ◌≤�
 use Rattle.std.specs.Prelude.{◌||◌}
 use Rattle.std.proofs.lemmas.Bool.{or_cases, or_left, or_right}
 use Rattle.key_bytes.specs.declared.range.KeyRange.{KeyRange}
-use Rattle.database_rules.specs.declared.TheConstants.{FUTURE_VERSION, NOT_COMMITTED}
+use Rattle.database_rules.specs.declared.TheConstants.{FUTURE_VERSION, NOT_COMMITTED, TRANSACTION_TOO_OLD}
 use Rattle.database_rules.specs.declared.Phase.{Phase}
 use Rattle.database_rules.specs.Databases.{Mutation, Set, Clear, ClearRange, Atomic}
 use Rattle.database_rules.specs.Histories.{Commit, History, Setting, conflicts, write_conflicts_by, last, without_conflict_by, stamp_of}
 use Rattle.database_rules.specs.States.{covers}
-use Rattle.database_rules.specs.Transactions.{Transaction, conflict_checks, first_failing, is_ahead, version_in, with_version, writes_of}
+use Rattle.database_rules.specs.Transactions.{Transaction, conflict_checks, first_failing, is_ahead, is_behind, version_in, with_version, writes_of}
 use Rattle.database_rules.proofs.States.{covers-append}
 use Rattle.fdb_calls.specs.Calling.{commit_of, next_version}
 use Rattle.allocator_rules.proofs.Keeping.{allocated_keeps}
@@ -72,7 +72,10 @@ commit_sound setting transaction few none held =
       ranged = λ key touched. covers-append (own ++ transaction.write_ranges) without_conflict key
           ∙ by_either own transaction.write_ranges without_conflict key
           (sym (covers-append own without_conflict key) ∙ written_covered stamp transaction.script key touched);
-      judged = (passed conflict [] (passed (is_ahead setting (with_version setting transaction), FUTURE_VERSION) (conflict ∷ []) none).1).0;
+      judged =
+          let taken = with_version setting transaction in
+          let ahead : Bool × ℕ = (is_ahead setting taken, FUTURE_VERSION) in
+          (passed conflict [] (passed ahead (conflict ∷ []) (passed (is_behind setting taken, TRANSACTION_TOO_OLD) (ahead ∷ conflict ∷ []) none).1).1).0;
       small = filled_small (next_version setting) (writes_of transaction) few held.small;
     }
   where

@@ -2,7 +2,7 @@
 use Rattle.std.proofs.Common.{◌≡◌, ℕ, ◌≤◌, ◌⊎◌, inl, inr, Bool, true, false, cond, List, [], ◌∷◌, ◌++◌, Option, Some, None, refl}
 use Rattle.std.specs.Prelude.{ℤ, pos, negsuc, not, nat_lt, unsigned_abs, is_some}
 use Rattle.std.proofs.lemmas.Bool.{cond_both, ltb-false, ltb-true, not-false}
-use Rattle.database_rules.specs.declared.TheConstants.{ACCESSED_UNREADABLE, FUTURE_VERSION, READ_VERSION_ALREADY_SET, TRANSACTION_CANCELLED, USED_DURING_COMMIT, VERSION_INVALID}
+use Rattle.database_rules.specs.declared.TheConstants.{ACCESSED_UNREADABLE, FUTURE_VERSION, READ_VERSION_ALREADY_SET, TRANSACTION_CANCELLED, TRANSACTION_TOO_OLD, USED_DURING_COMMIT, VERSION_INVALID}
 use Rattle.database_rules.specs.declared.AtomicOp.{AtomicOp}
 use Rattle.database_rules.specs.declared.Code.{Code}
 use Rattle.database_rules.specs.declared.Phase.{Phase}
@@ -14,7 +14,7 @@ use Rattle.database_rules.specs.Intervals.{one}
 use Rattle.database_rules.specs.Modes.{lacks_limit}
 use Rattle.database_rules.specs.Reads.{Read}
 use Rattle.database_rules.specs.Reads as read
-use Rattle.database_rules.specs.Transactions.{Transaction, after_phase, atomic_code, cancelled, first_failing, is_ahead, is_cancelled, is_hidden, is_positive, is_retryable, is_tried, late_checks, named_checks, op_code, phase_code, range_code, read_code, set_version_code, with_write_conflict_disabled, version_in, with_phase, with_read_range, with_version, with_write_range}
+use Rattle.database_rules.specs.Transactions.{Transaction, after_phase, atomic_code, cancelled, first_failing, is_ahead, is_behind, is_cancelled, is_hidden, is_positive, is_retryable, is_tried, late_checks, named_checks, op_code, phase_code, range_code, read_code, set_version_code, with_write_conflict_disabled, version_in, with_phase, with_read_range, with_version, with_write_range}
 use Rattle.fdb_calls.specs.declared.Reply.{Reply}
 use Rattle.fdb_calls.specs.declared.TxnCall.{TxnCall}
 use Rattle.fdb_calls.specs.declared.TxnCall.TheVariants as call
@@ -86,10 +86,11 @@ module _ (setting : Setting) (Holds : Transaction → Type 0) (acts : AreActsKep
           → IsQuiet Holds (read_at_version code setting (with_version setting t) snapshot read)
       by (Some code) is = answers_quiet Holds (with_version setting t) _ holds
       by None is =
+          let behind : Bool × ℕ = (is_behind setting (with_version setting t), TRANSACTION_TOO_OLD) in
           let ahead : Bool × ℕ = (is_ahead setting (with_version setting t), FUTURE_VERSION) in
           let hidden : Bool × ℕ = (is_hidden setting (with_version setting t) read, ACCESSED_UNREADABLE) in
           answers_quiet Holds _ _ (acts.read t snapshot read
-          (ltb-false (last setting.history) (version_in setting t) (passed ahead (hidden ∷ []) is).0) holds)
+          (ltb-false (last setting.history) (version_in setting t) (passed ahead (hidden ∷ []) (passed behind (ahead ∷ hidden ∷ []) is).1).0) holds)
 
   -- a read takes a version, unless it is refused before
   read_quiet : (t : Transaction) (lacks snapshot : Bool) (read : Read) → Holds t → IsQuiet Holds (read_called setting t lacks snapshot read)

@@ -52,7 +52,7 @@ pub record World : Type 0 where
 
 -- what the arguments of a run open the database with
 abbrev pub database_options : RunArgs → DatabaseOptions
-database_options arguments = record { api = arguments.api }
+database_options arguments = record { api = arguments.api; window = arguments.window }
 
 -- the setting at the beginning, where the pairs of the input are the first commit
 abbrev pub setting_of : List (List ℕ × List ℕ) → RunArgs → Setting

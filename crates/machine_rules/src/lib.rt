@@ -63,7 +63,10 @@ pub fn machine_options(arguments: &RunArgs) -> MachineOptions
 pub fn database_options(arguments: &RunArgs) -> DatabaseOptions
     ensures { result ≡ database_options arguments.now }
 {
-    DatabaseOptions { api: arguments.api }
+    DatabaseOptions {
+        api: arguments.api,
+        window: arguments.window,
+    }
 }
 
 /// How a machine has ended.

@@ -6,12 +6,12 @@ use Rattle.std.proofs.lemmas.List.{append-nil, append_cancel_left}
 use Rattle.std.proofs.lemmas.List.Concat.{flat_map-append}
 use Rattle.key_bytes.specs.declared.range.KeyRange.{KeyRange}
 use Rattle.database_rules.specs.declared.Code.{Code}
-use Rattle.database_rules.specs.declared.TheConstants.{ACCESSED_UNREADABLE, FUTURE_VERSION}
+use Rattle.database_rules.specs.declared.TheConstants.{ACCESSED_UNREADABLE, FUTURE_VERSION, TRANSACTION_TOO_OLD}
 use Rattle.database_rules.specs.Databases.{Mutation, Set, Clear, ClearRange, Atomic}
 use Rattle.database_rules.specs.Histories.{Setting, last, written}
 use Rattle.database_rules.specs.Intervals.{added, one}
 use Rattle.database_rules.specs.Reads.{Answer, Read, answer}
-use Rattle.database_rules.specs.Transactions.{Transaction, clear_code, first_failing, is_ahead, is_hidden, map_below, op_code, phase_code, range_code, read_code, set_code, with_write_conflict_disabled, version_in, view, with_read, with_version, with_write_range, writes_of}
+use Rattle.database_rules.specs.Transactions.{Transaction, clear_code, first_failing, is_ahead, is_behind, is_hidden, map_below, op_code, phase_code, range_code, read_code, set_code, with_write_conflict_disabled, version_in, view, with_read, with_version, with_write_range, writes_of}
 use Rattle.database_rules.proofs.AddingConflicts.{written-append, written_read, written_wrote}
 use Rattle.fdb_calls.specs.declared.Reply.{Reply}
 use Rattle.fdb_calls.specs.declared.Reply.TheVariants as reply
@@ -22,7 +22,7 @@ use Rattle.prefix_laws.proofs.Recording.{act_grown, grown_twice, same_grown}
 
 -- ---- one call
 
--- a read that was made: its version is not above the last, no key of its read conflict range is unreadable, and so it leaves the
+-- a read that was made: its version can be read, no key of its read conflict range is unreadable, and so it leaves the
 -- transaction
 pub record IsReadMade (setting : Setting) (transaction : Transaction) (snapshot : Bool) (read : Read) (after : Transaction) : Type 0 where
   pub reached : version_in setting transaction ≤ last setting.history
@@ -31,9 +31,9 @@ pub record IsReadMade (setting : Setting) (transaction : Transaction) (snapshot 
       ≡ with_read snapshot read (answer read (view setting transaction))
       (added read (map_below setting transaction) (writes_of transaction)) (with_version setting transaction)
 
--- by whether its version is above the last, and whether its read conflict range has an unreadable key
-abbrev late_code : (ahead hidden : Bool) → Option ℕ
-late_code ahead hidden = first_failing ((ahead, FUTURE_VERSION) ∷ (hidden, ACCESSED_UNREADABLE) ∷ [])
+-- by whether its version is too old, or above the last, and whether its read conflict range has an unreadable key
+abbrev late_code : (behind ahead hidden : Bool) → Option ℕ
+late_code behind ahead hidden = first_failing ((behind, TRANSACTION_TOO_OLD) ∷ (ahead, FUTURE_VERSION) ∷ (hidden, ACCESSED_UNREADABLE) ∷ [])
 
 -- a read that was let through was made
 pub read_made : (setting : Setting) (transaction : Transaction) (lacks snapshot : Bool) (read : Read)
@@ -41,13 +41,14 @@ pub read_made : (setting : Setting) (transaction : Transaction) (lacks snapshot 
     → IsReadMade setting transaction snapshot read (read_called setting transaction lacks snapshot read).transaction
 read_made setting transaction lacks snapshot read passed = early (read_code transaction.phase lacks read) passed
   where
-    late : (ahead hidden : Bool) → is_ahead setting transaction ≡ ahead → is_hidden setting transaction read ≡ hidden
-        → refusal (read_at_version (late_code ahead hidden) setting (with_version setting transaction) snapshot read).reply ≡ None
+    late : (behind ahead hidden : Bool) → is_ahead setting transaction ≡ ahead → is_hidden setting transaction read ≡ hidden
+        → refusal (read_at_version (late_code behind ahead hidden) setting (with_version setting transaction) snapshot read).reply ≡ None
         → IsReadMade setting transaction snapshot read
-        (read_at_version (late_code ahead hidden) setting (with_version setting transaction) snapshot read).transaction
-    late true hidden ahead_is hidden_is passed = absurd cc
-    late false true ahead_is hidden_is passed = absurd cc
-    late false false ahead_is hidden_is passed = record {
+        (read_at_version (late_code behind ahead hidden) setting (with_version setting transaction) snapshot read).transaction
+    late true ahead hidden ahead_is hidden_is passed = absurd cc
+    late false true hidden ahead_is hidden_is passed = absurd cc
+    late false false true ahead_is hidden_is passed = absurd cc
+    late false false false ahead_is hidden_is passed = record {
       reached = ltb-false (last setting.history) (version_in setting transaction) ahead_is;
       seen = hidden_is;
       is = refl;
@@ -56,7 +57,7 @@ read_made setting transaction lacks snapshot read passed = early (read_code tran
     early : (code : Option ℕ) → refusal (read_by code setting transaction snapshot read).reply ≡ None
         → IsReadMade setting transaction snapshot read (read_by code setting transaction snapshot read).transaction
     early (Some code) passed = absurd cc
-    early None passed = late (is_ahead setting transaction) (is_hidden setting transaction read) refl refl passed
+    early None passed = late (is_behind setting transaction) (is_ahead setting transaction) (is_hidden setting transaction read) refl refl passed
 
 -- a read writes nothing
 written_with_read : (snapshot : Bool) (read : Read) (answer : Answer) (ranges : List KeyRange) (transaction : Transaction)

@@ -2,9 +2,9 @@
 -- its own, so that it holds of every world that requests reach.
 use Rattle.std.proofs.Common.{◌≡◌, ℕ, ◌≤◌, Bool, List, [], ◌∷◌, ◌++◌, None, refl, sym, ap, subst}
 use Rattle.std.proofs.lemmas.Option.{same_Some}
-use Rattle.database_rules.specs.declared.TheConstants.{FUTURE_VERSION, NOT_COMMITTED}
+use Rattle.database_rules.specs.declared.TheConstants.{FUTURE_VERSION, NOT_COMMITTED, TRANSACTION_TOO_OLD}
 use Rattle.database_rules.specs.Histories.{Commit, History, Setting, at, conflicts, last, stamp_of}
-use Rattle.database_rules.specs.Transactions.{Transaction, conflict_checks, first_failing, is_ahead, version_in, with_version}
+use Rattle.database_rules.specs.Transactions.{Transaction, conflict_checks, first_failing, is_ahead, is_behind, version_in, with_version}
 use Rattle.fdb_calls.specs.Calling.{commit_of, next_version}
 use Rattle.allocator_rules.specs.Granting.{Ending, Grants, IsFull, IsNoCounter, IsRefused, allocated}
 use Rattle.machine_rules.proofs.Chains.{one_more}
@@ -83,7 +83,10 @@ commit_fit setting transaction space none held granting =
       fit = fit.filled;
       grants = λ place number found. grant_in setting stamp space transaction number (fit.grants place number found);
       distinct = fit.distinct;
-      judged = (passed conflict [] (passed (is_ahead setting (with_version setting transaction), FUTURE_VERSION) (conflict ∷ []) none).1).0;
+      judged =
+          let taken = with_version setting transaction in
+          let ahead : Bool × ℕ = (is_ahead setting taken, FUTURE_VERSION) in
+          (passed conflict [] (passed ahead (conflict ∷ []) (passed (is_behind setting taken, TRANSACTION_TOO_OLD) (ahead ∷ conflict ∷ []) none).1).1).0;
     }
 
 -- a grown history and a sound commit more

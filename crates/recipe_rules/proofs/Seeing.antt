@@ -9,8 +9,8 @@ use Rattle.database_rules.specs.Intervals.{any_meet, interval, one}
 use Rattle.database_rules.specs.KeyByKey.{at_key, is_plain}
 use Rattle.database_rules.specs.Reads.{Read, Get, answer}
 use Rattle.database_rules.specs.States.{covers, unreadable, seen, touches}
-use Rattle.database_rules.specs.declared.TheConstants.{FUTURE_VERSION, ACCESSED_UNREADABLE}
-use Rattle.database_rules.specs.Transactions.{Transaction, view, version_in, map_below, writes_of, with_version, is_ahead, is_hidden, first_failing, late_checks, read_code, set_code, clear_code, range_code, op_code}
+use Rattle.database_rules.specs.declared.TheConstants.{FUTURE_VERSION, TRANSACTION_TOO_OLD, ACCESSED_UNREADABLE}
+use Rattle.database_rules.specs.Transactions.{Transaction, view, version_in, map_below, writes_of, with_version, is_ahead, is_behind, is_hidden, first_failing, late_checks, read_code, set_code, clear_code, range_code, op_code}
 use Rattle.database_rules.proofs.AddingConflicts.{written_wrote, written_read}
 use Rattle.database_rules.proofs.Ranges.{covers_one, any_meet_at}
 use Rattle.fdb_calls.specs.Calling.{read_by, read_at_version, write_by}
@@ -36,12 +36,13 @@ pub writes_after_read : (setting : Setting) (t : Transaction) (read : Read) (sna
     → writes_of (act_called setting t (Reads read snapshot)).transaction ≡ writes_of t
 writes_after_read setting t read snapshot = read_writes setting t (read_code t.phase false read) snapshot read
 
-not_hidden : (setting : Setting) (t : Transaction) (snapshot : Bool) (read : Read) (ahead hidden : Bool)
-    → refusal (read_at_version (first_failing ((ahead, FUTURE_VERSION) ∷ (hidden, ACCESSED_UNREADABLE) ∷ [])) setting t snapshot read).reply ≡ None
+not_hidden : (setting : Setting) (t : Transaction) (snapshot : Bool) (read : Read) (behind ahead hidden : Bool)
+    → refusal (read_at_version (first_failing ((behind, TRANSACTION_TOO_OLD) ∷ (ahead, FUTURE_VERSION) ∷ (hidden, ACCESSED_UNREADABLE) ∷ [])) setting t snapshot read).reply ≡ None
     → hidden ≡ false
-not_hidden setting t snapshot read true hidden passed = absurd cc
-not_hidden setting t snapshot read false true passed = absurd cc
-not_hidden setting t snapshot read false false passed = refl
+not_hidden setting t snapshot read true ahead hidden passed = absurd cc
+not_hidden setting t snapshot read false true hidden passed = absurd cc
+not_hidden setting t snapshot read false false true passed = absurd cc
+not_hidden setting t snapshot read false false false passed = refl
 
 not_met : (q : List ℕ) (ranges others : List KeyRange) → any_meet ranges others ≡ false → covers ranges q ≡ true → covers others q ≡ false
 not_met q ranges others apart inside = by (covers others q) refl
@@ -57,7 +58,7 @@ readable_by setting t (Some code) snapshot read q passed inside = absurd cc
 readable_by setting t None snapshot read q passed inside =
     let taken = with_version setting t in
     not_met q (interval read (view setting t)) (unreadable (writes_of t))
-    (not_hidden setting taken snapshot read (is_ahead setting taken) (is_hidden setting taken read) passed) inside
+    (not_hidden setting taken snapshot read (is_behind setting taken) (is_ahead setting taken) (is_hidden setting taken read) passed) inside
 
 -- no write makes a key unreadable on which a read rests that was let through
 pub readable_in : (setting : Setting) (t : Transaction) (snapshot : Bool) (read : Read) (q : List ℕ)

@@ -1,4 +1,4 @@
-//! What a case of requests begins with: the API version, the pairs of the database, and the random words.
+//! What a case of requests begins with: what the database is opened with, its pairs, and the random words.
 
 use crate::asking::{bytes, pair_of, word};
 use crate::spell_fault::SpellFault;
@@ -6,15 +6,18 @@ use crate::spelling::{number, read_words};
 use case_files::blocks::{is_line_feed, value_of};
 use client_core::Core;
 use command_rules::RunArgs;
-use database_rules::Api;
+use database_rules::{Api, DatabaseOptions};
 use key_bytes::{Bytes, Pair, Pairs};
 use std::alloc::{AllocError, Global};
 
-/// Loads the pairs of a case under its API version.
+/// Loads the pairs of a case under its API version and its window of versions.
 pub fn load(alloc: Global, block: &[u8]) -> Result<Core, SpellFault> {
-    let api = read_api(value_of(block, b"api "))?;
+    let options = DatabaseOptions {
+        api: read_api(value_of(block, b"api "))?,
+        window: read_window(value_of(block, b"window "))?,
+    };
     let pairs = read_pairs(alloc, block)?;
-    Ok(Core::load(alloc, &arguments(alloc, api)?, pairs)?)
+    Ok(Core::load(alloc, &arguments(alloc, options)?, pairs)?)
 }
 
 // The API version of a line `api`; 630 where there is none.
@@ -26,12 +29,21 @@ fn read_api(line: Option<&[u8]>) -> Result<Api, SpellFault> {
     }
 }
 
-fn arguments(alloc: Global, api: Api) -> Result<RunArgs, AllocError> {
+// The window of versions of a line `window`; none where there is no line.
+fn read_window(line: Option<&[u8]>) -> Result<Option<u32>, SpellFault> {
+    match line {
+        Some(line) => Ok(Some(number(line)?)),
+        None => Ok(None),
+    }
+}
+
+fn arguments(alloc: Global, options: DatabaseOptions) -> Result<RunArgs, AllocError> {
     Ok(RunArgs {
         prefix: Bytes::from_slice(alloc, b"p")?,
-        api,
+        api: options.api,
         seed: 0,
         polls: 10,
+        window: options.window,
     })
 }
 

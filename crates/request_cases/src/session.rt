@@ -108,7 +108,7 @@ impl Session {
         let read = read_words(self.alloc, asked)?;
         let words = read.as_slice();
         match word(words, 0)? {
-            b"" | b"case" | b"api" | b"pair" | b"numbers" | b"random" => {
+            b"" | b"case" | b"api" | b"window" | b"pair" | b"numbers" | b"random" => {
                 Ok(String::new(self.alloc))
             }
             b"layer" => self.set_layer(words),

@@ -7,6 +7,7 @@ use Rattle.std.specs.FinMap as finite
 use Rattle.std.proofs.lemmas.List.Concat.{flat_map-cons}
 use Rattle.std.proofs.lemmas.List.Folds.{list_all-map}
 use Rattle.std.proofs.lemmas.Option.{none-some, same_Some}
+use Rattle.txn_core.proofs.Stored.{low_inside}
 use Rattle.client_core.specs.Stands.{CoreModel, StandsFor}
 use Rattle.version_store.specs.Versions.{at, last_of}
 use Rattle.database_rules.specs.Databases.{Database}
@@ -34,7 +35,7 @@ kept_map core = at core.store (last_of core.store)
 
 pub kept_newest : (core : CoreModel) (world : World) → StandsFor core world → kept_map core ≡ newest world
 kept_newest core world stands =
-    ap (at core.store) stands.contents.keeps.last_is ∙ stands.contents.keeps.at_is (last world.setting.history) (omega arith)
+    ap (at core.store) stands.contents.keeps.last_is ∙ stands.contents.keeps.at_is (last world.setting.history) (low_inside world.setting) (omega arith)
 
 -- machine 0, as it is started over what a core keeps, is the one machine of the start
 pub is_first : (suspended : SuspendedMachine) (arguments : RunArgs) (core : CoreModel) → IsStarted suspended arguments core → IsFirst suspended arguments core

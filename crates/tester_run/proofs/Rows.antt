@@ -1,5 +1,5 @@
 -- The premise of `complete`, met by worked words and bytes.
-use Rattle.std.proofs.Common.{◌≡◌, ◌∷◌, ℕ, List, [], Some, Ok, Err, codes, refl, sym, ◌∙◌, arith}
+use Rattle.std.proofs.Common.{◌≡◌, ◌∷◌, ℕ, List, [], Some, None, Ok, Err, codes, refl, sym, ◌∙◌, arith}
 use Rattle.outside.specs.Counts.{Rose}
 use Rattle.database_rules.specs.declared.Api.TheVariants.{V630}
 use Rattle.command_rules.specs.declared.args.RunArgs.{RunArgs}
@@ -14,7 +14,7 @@ use Rattle.tester_run.specs.Faults.{InputFault, InLine, NoRequest, EndsEarly, No
 use Rattle.tester_run.specs.Outcomes.{IsLawful}
 
 abbrev asked : RunArgs
-asked = record { prefix = codes "p"; api = V630; seed = 0; polls = 10000 }
+asked = record { prefix = codes "p"; api = V630; seed = 0; polls = 10000; window = None }
 
 no_rise : Rose 0 0 → ⊥
 no_rise rose = omega arith

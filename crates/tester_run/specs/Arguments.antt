@@ -8,7 +8,7 @@ use Rattle.generator.specs.Generated.{main_prefix}
 
 -- what `gen` makes is run under the prefix of main and API version 630, with seed 0
 abbrev pub gen_arguments : RunArgs
-gen_arguments = record { prefix = main_prefix; api = V630; seed = 0; polls = 10000 }
+gen_arguments = record { prefix = main_prefix; api = V630; seed = 0; polls = 10000; window = None }
 
 -- the arguments of its run; the commands on text run no machine
 abbrev pub arguments_of : Args → Option RunArgs

@@ -86,6 +86,7 @@ fn gen_arguments(alloc: Global) -> Result<RunArgs, AllocError>
         api: Api::V630,
         seed: GEN_SEED,
         polls: GEN_POLLS,
+        window: None,
     })
 }
 

@@ -1,16 +1,17 @@
 -- What a read of a transaction of the code is answered, for each transaction that it stands for.
-use Rattle.std.proofs.Common.{◌≡◌, ℕ, Bool, true, false, not, ◌&&◌, ◌||◌, List, [], ◌∷◌, Option, Some, None, Result, Ok, Err, inl, inr, refl, sym, ap, subst, ◌∙◌}
+use Rattle.std.proofs.Common.{◌≡◌, ℕ, Bool, true, false, not, ◌&&◌, ◌||◌, List, [], ◌∷◌, Option, Some, None, Result, Ok, Err, inl, inr, refl, sym, ap, subst, ◌∙◌, ◌≤◌, arith}
+use Rattle.std.proofs.lemmas.Bool.{ltb-false}
 use Rattle.std.specs.Prelude.{unwrap_or, nat_lt}
 use Rattle.std.specs.FinMap as finite
 use Rattle.key_bytes.specs.declared.range.KeyRange.{KeyRange}
 use Rattle.database_rules.specs.declared.Code.{Code}
-use Rattle.database_rules.specs.declared.TheConstants.{ACCESSED_UNREADABLE, FUTURE_VERSION}
+use Rattle.database_rules.specs.declared.TheConstants.{ACCESSED_UNREADABLE, FUTURE_VERSION, TRANSACTION_TOO_OLD}
 use Rattle.database_rules.specs.Databases.{Database, Mutation}
 use Rattle.database_rules.specs.States.{covers, seen, unreadable}
 use Rattle.database_rules.specs.Intervals.{any_meet, added, decided, interval, without}
 use Rattle.database_rules.specs.Reads.{Read, Answer, answer}
-use Rattle.database_rules.specs.Histories.{Setting, at}
-use Rattle.database_rules.specs.Transactions.{Transaction, writes_of, version_in, map_below, view, is_ahead, is_hidden, is_read_outside, first_failing, with_version, read_code}
+use Rattle.database_rules.specs.Histories.{Setting, at, low}
+use Rattle.database_rules.specs.Transactions.{Transaction, writes_of, version_in, map_below, view, is_ahead, is_behind, is_hidden, is_read_outside, first_failing, with_version, read_code}
 use Rattle.database_rules.proofs.Ranges.{covers_without, meet_by_keys}
 use Rattle.database_rules.proofs.Deciding.{is_decided, decided_is}
 use Rattle.conflict_ranges.specs.Writes.{Index}
@@ -20,9 +21,9 @@ use Rattle.fdb_calls.specs.declared.Reply.{Reply}
 use Rattle.fdb_calls.specs.declared.Reply.TheVariants as reply
 use Rattle.fdb_calls.specs.Answers.{Answered}
 use Rattle.fdb_calls.specs.Calling.{Called, reply_of, refuses, read_answered, read_at_version, read_by, read_called}
-use Rattle.version_store.specs.Versions.{Versions}
+use Rattle.version_store.specs.Versions.{Versions, oldest_of}
 use Rattle.txn_core.specs.Stands.{Kept, SameMutations, StandsFor, Keeps}
-use Rattle.txn_core.specs.Accesses.{version_of, seen_by, is_ahead_of, early_code, Admits, Rests, HasRested, ranges_of}
+use Rattle.txn_core.specs.Accesses.{version_of, seen_by, is_ahead_of, is_behind_of, version_code, early_code, Admits, Rests, HasRested, ranges_of}
 use Rattle.txn_core.proofs.States.{same_maps}
 use Rattle.txn_core.proofs.Stored.{keeps_at}
 use Rattle.txn_core.proofs.Standing.{versioned, stands_read, stands_same_reads}
@@ -38,18 +39,44 @@ pub version_same : (kept : Kept) (store : Versions) (index : Index) (setting : S
     → Keeps store index setting → version_of kept store ≡ version_in setting t
 version_same kept store index setting t stands keeps = λ i. unwrap_or (stands.version i) (keeps.last_is i)
 
+-- a version that can be read is no lower than the lowest
+pub not_behind : (kept : Kept) (store : Versions) (index : Index) (setting : Setting) → Keeps store index setting
+    → version_code kept store ≡ None → low setting ≤ version_of kept store
+not_behind kept store index setting keeps readable = by (is_behind_of kept store) refl readable
+  where
+    by : (behind : Bool) → is_behind_of kept store ≡ behind
+        → first_failing ((behind, TRANSACTION_TOO_OLD) ∷ (is_ahead_of kept store, FUTURE_VERSION) ∷ []) ≡ None → low setting ≤ version_of kept store
+    by true is none = absurd cc
+    by false is none =
+        let oldest = keeps.oldest_is in let least = ltb-false (version_of kept store) (oldest_of store) is in omega (arith, oldest, least)
+
 -- the code sees what each transaction sees that it stands for
 pub view_same : (kept : Kept) (store : Versions) (index : Index) (setting : Setting) (t : Transaction) → StandsFor kept t
-    → Keeps store index setting → seen_by kept store ≡ view setting t
-view_same kept store index setting t stands keeps =
+    → Keeps store index setting → version_code kept store ≡ None → seen_by kept store ≡ view setting t
+view_same kept store index setting t stands keeps readable =
     ap (seen kept.mutations)
-    (keeps_at store index setting (version_of kept store) keeps ∙ ap (at setting.history) (version_same kept store index setting t stands keeps))
+    (keeps_at store index setting (version_of kept store) keeps (not_behind kept store index setting keeps readable) ∙ ap (at setting.history) (version_same kept store index setting t stands keeps))
     ∙ seen_same kept.mutations (writes_of t) (at setting.history (version_in setting t)) stands.mutations
 
 pub ahead_same : (kept : Kept) (store : Versions) (index : Index) (setting : Setting) (t : Transaction) → StandsFor kept t
     → Keeps store index setting → is_ahead_of kept store ≡ is_ahead setting t
 ahead_same kept store index setting t stands keeps =
     λ i. nat_lt (keeps.last_is i) (version_same kept store index setting t stands keeps i)
+
+pub behind_same : (kept : Kept) (store : Versions) (index : Index) (setting : Setting) (t : Transaction) → StandsFor kept t
+    → Keeps store index setting → is_behind_of kept store ≡ is_behind setting t
+behind_same kept store index setting t stands keeps =
+    λ i. nat_lt (version_same kept store index setting t stands keeps i) (keeps.oldest_is i)
+
+-- the code of a version that can't be read
+abbrev pub unreadable_code : Setting → Transaction → Option ℕ
+unreadable_code setting t = first_failing ((is_behind setting t, TRANSACTION_TOO_OLD) ∷ (is_ahead setting t, FUTURE_VERSION) ∷ [])
+
+pub version_code_same : (kept : Kept) (store : Versions) (index : Index) (setting : Setting) (t : Transaction) → StandsFor kept t
+    → Keeps store index setting → version_code kept store ≡ unreadable_code setting t
+version_code_same kept store index setting t stands keeps =
+    λ i. first_failing ((behind_same kept store index setting t stands keeps i, TRANSACTION_TOO_OLD)
+    ∷ (ahead_same kept store index setting t stands keeps i, FUTURE_VERSION) ∷ [])
 
 -- a key of the ranges is unreadable for the code where one is for the transaction
 hidden_same : (kept : Kept) (t : Transaction) (ranges : List KeyRange) → StandsFor kept t
@@ -79,31 +106,51 @@ refused_early : (setting : Setting) (t : Transaction) (lacks snapshot : Bool) (r
     → read_called setting t lacks snapshot read ≡ refuses t code
 refused_early setting t lacks snapshot read code is = ap (λ code. read_by code setting t snapshot read) is
 
-abbrev late : Bool → Bool → Option ℕ
-late ahead hidden = first_failing ((ahead, FUTURE_VERSION) ∷ (hidden, ACCESSED_UNREADABLE) ∷ [])
+abbrev late : Bool → Bool → Bool → Option ℕ
+late behind ahead hidden = first_failing ((behind, TRANSACTION_TOO_OLD) ∷ (ahead, FUTURE_VERSION) ∷ (hidden, ACCESSED_UNREADABLE) ∷ [])
 
 -- no earlier check refuses it
-called_late : (setting : Setting) (t : Transaction) (lacks snapshot : Bool) (read : Read) (ahead hidden : Bool) → read_code t.phase lacks read ≡ None
-    → is_ahead setting t ≡ ahead → is_hidden setting t read ≡ hidden
-    → read_called setting t lacks snapshot read ≡ read_at_version (late ahead hidden) setting (with_version setting t) snapshot read
-called_late setting t lacks snapshot read ahead hidden none is_it is_so =
+called_late : (setting : Setting) (t : Transaction) (lacks snapshot : Bool) (read : Read) (code : Option ℕ) → read_code t.phase lacks read ≡ None
+    → late (is_behind setting t) (is_ahead setting t) (is_hidden setting t read) ≡ code
+    → read_called setting t lacks snapshot read ≡ read_at_version code setting (with_version setting t) snapshot read
+called_late setting t lacks snapshot read code none is =
     ap (λ code. read_by code setting t snapshot read) none
-    ∙ (λ i. read_at_version (late (is_it i) (is_so i)) setting (with_version setting t) snapshot read)
+    ∙ ap (λ code. read_at_version code setting (with_version setting t) snapshot read) is
 
-refused_ahead : (setting : Setting) (t : Transaction) (lacks snapshot : Bool) (read : Read) → read_code t.phase lacks read ≡ None
-    → is_ahead setting t ≡ true → read_called setting t lacks snapshot read ≡ refuses (with_version setting t) FUTURE_VERSION
-refused_ahead setting t lacks snapshot read none ahead = called_late setting t lacks snapshot read true (is_hidden setting t read) none ahead refl
+late_version : (behind ahead hidden : Bool) (code : ℕ)
+    → first_failing ((behind, TRANSACTION_TOO_OLD) ∷ (ahead, FUTURE_VERSION) ∷ []) ≡ Some code → late behind ahead hidden ≡ Some code
+late_version true ahead hidden code is = is
+late_version false true hidden code is = is
+late_version false false hidden code is = absurd cc
+
+late_readable : (behind ahead hidden : Bool) → first_failing ((behind, TRANSACTION_TOO_OLD) ∷ (ahead, FUTURE_VERSION) ∷ []) ≡ None
+    → late behind ahead hidden ≡ first_failing ((hidden, ACCESSED_UNREADABLE) ∷ [])
+late_readable true ahead hidden none = absurd cc
+late_readable false true hidden none = absurd cc
+late_readable false false hidden none = refl
+
+refused_version : (setting : Setting) (t : Transaction) (lacks snapshot : Bool) (read : Read) (code : ℕ) → read_code t.phase lacks read ≡ None
+    → unreadable_code setting t ≡ Some code → read_called setting t lacks snapshot read ≡ refuses (with_version setting t) code
+refused_version setting t lacks snapshot read code none is =
+    called_late setting t lacks snapshot read (Some code) none
+    (late_version (is_behind setting t) (is_ahead setting t) (is_hidden setting t read) code is)
 
 refused_hidden : (setting : Setting) (t : Transaction) (lacks snapshot : Bool) (read : Read) → read_code t.phase lacks read ≡ None
-    → is_ahead setting t ≡ false → is_hidden setting t read ≡ true
+    → unreadable_code setting t ≡ None → is_hidden setting t read ≡ true
     → read_called setting t lacks snapshot read ≡ refuses (with_version setting t) ACCESSED_UNREADABLE
-refused_hidden setting t lacks snapshot read none ahead hidden = called_late setting t lacks snapshot read false true none ahead hidden
+refused_hidden setting t lacks snapshot read none readable hidden =
+    called_late setting t lacks snapshot read (Some ACCESSED_UNREADABLE) none
+    (late_readable (is_behind setting t) (is_ahead setting t) (is_hidden setting t read) readable
+    ∙ ap (λ hidden. first_failing ((hidden, ACCESSED_UNREADABLE) ∷ [])) hidden)
 
 answered_late : (setting : Setting) (t : Transaction) (lacks snapshot : Bool) (read : Read) → read_code t.phase lacks read ≡ None
-    → is_ahead setting t ≡ false → is_hidden setting t read ≡ false
+    → unreadable_code setting t ≡ None → is_hidden setting t read ≡ false
     → read_called setting t lacks snapshot read
     ≡ read_answered snapshot read (answer read (view setting t)) (added read (map_below setting t) (writes_of t)) (with_version setting t)
-answered_late setting t lacks snapshot read none ahead hidden = called_late setting t lacks snapshot read false false none ahead hidden
+answered_late setting t lacks snapshot read none readable hidden =
+    called_late setting t lacks snapshot read None none
+    (late_readable (is_behind setting t) (is_ahead setting t) (is_hidden setting t read) readable
+    ∙ ap (λ hidden. first_failing ((hidden, ACCESSED_UNREADABLE) ∷ [])) hidden)
 
 refusal_answers : {A : Type 0} (shown : A → Reply) (code : Code) (number : ℕ) (stands : Transaction → Type 0) (t after : Transaction) (called : Called)
     → code.0 ≡ number → called ≡ refuses after number → stands after → Answered shown (Err (fault.Code code)) stands t called
@@ -123,10 +170,10 @@ admit_answered B shown (fault.Code code) old new store index setting t lacks sna
     (refused_early setting t lacks snapshot read code.0 (sym (early_same old t lacks read outside stands is) ∙ early.0))
     (subst (λ k. StandsFor k t) (sym early.1) stands)
 admit_answered B shown (fault.Code code) old new store index setting t lacks snapshot read outside is stands keeps (inr ahead) =
-    refusal_answers shown code FUTURE_VERSION (StandsFor new) t (with_version setting t) _ ahead.2
-    (refused_ahead setting t lacks snapshot read (sym (early_same old t lacks read outside stands is) ∙ ahead.0)
-    (sym (ahead_same old store index setting t stands keeps) ∙ ahead.1))
-    (subst (λ k. StandsFor k (with_version setting t)) (sym ahead.3)
+    refusal_answers shown code code.0 (StandsFor new) t (with_version setting t) _ refl
+    (refused_version setting t lacks snapshot read code.0 (sym (early_same old t lacks read outside stands is) ∙ ahead.0)
+    (sym (version_code_same old store index setting t stands keeps) ∙ ahead.1))
+    (subst (λ k. StandsFor k (with_version setting t)) (sym ahead.2)
     (versioned setting old (version_of old store) t stands (version_same old store index setting t stands keeps)))
 admit_answered B shown fault.NoMemory old new store index setting t lacks snapshot read outside is stands keeps admits = absurd admits
 
@@ -135,7 +182,7 @@ admit_answered B shown fault.NoMemory old new store index setting t lacks snapsh
 pub record IsAdmitted (old mid : Kept) (store : Versions) (outside lacks : Bool) (ranges : List KeyRange) (read : Read) : Type 0 where
   pub outside_is : outside ≡ is_read_outside read
   pub early : early_code old outside lacks ≡ None
-  pub ahead : is_ahead_of old store ≡ false
+  pub readable : version_code old store ≡ None
   pub same : mid ≡ old
   pub interval_is : ranges ≡ interval read (seen_by old store)
 
@@ -145,11 +192,11 @@ module _ {A : Type 0} (shown : A → Reply) (old mid new : Kept) (store : Versio
   none : read_code t.phase lacks read ≡ None
   none = sym (early_same old t lacks read outside stands admitted.outside_is) ∙ admitted.early
 
-  not_ahead : is_ahead setting t ≡ false
-  not_ahead = sym (ahead_same old store index setting t stands keeps) ∙ admitted.ahead
+  may_read : unreadable_code setting t ≡ None
+  may_read = sym (version_code_same old store index setting t stands keeps) ∙ admitted.readable
 
   interval_same : ranges ≡ interval read (view setting t)
-  interval_same = admitted.interval_is ∙ ap (interval read) (view_same old store index setting t stands keeps)
+  interval_same = admitted.interval_is ∙ ap (interval read) (view_same old store index setting t stands keeps admitted.readable)
 
   hidden_is : any_meet ranges (unreadable mid.mutations) ≡ is_hidden setting t read
   hidden_is =
@@ -186,7 +233,7 @@ module _ {A : Type 0} (shown : A → Reply) (old mid new : Kept) (store : Versio
       → Answered shown (Err why) (StandsFor new) t (read_called setting t lacks snapshot read)
   rest_refused B (fault.Code code) rests =
       refusal_answers shown code ACCESSED_UNREADABLE (StandsFor new) t (with_version setting t) _ rests.0
-      (refused_hidden setting t lacks snapshot read none not_ahead (sym hidden_is ∙ rests.1)) (version_taken rests.2)
+      (refused_hidden setting t lacks snapshot read none may_read (sym hidden_is ∙ rests.1)) (version_taken rests.2)
   rest_refused B fault.NoMemory rests =
       subst (λ k. StandsFor k t) (sym (rests.0 ∙ ap (λ (k : Kept). record k { read_ranges = new.read_ranges }) admitted.same))
       (stands_same_reads old t new.read_ranges (λ key. rests.1 key ∙ ap (λ (k : Kept). covers k.read_ranges key) admitted.same) stands)
@@ -210,8 +257,8 @@ module _ {A : Type 0} (shown : A → Reply) (old mid new : Kept) (store : Versio
       → Answered shown (Ok value) (StandsFor new) t (read_called setting t lacks snapshot read)
   rest_answered value said done shown_is is rests =
       subst (λ (made : Called). (shown value ≡ made.reply) × StandsFor new made.transaction)
-      (sym (answered_late setting t lacks snapshot read none not_ahead (sym hidden_is ∙ rests.0))) (
-        shown_is ∙ ap reply_of (is ∙ ap (answer read) (view_same old store index setting t stands keeps)),
+      (sym (answered_late setting t lacks snapshot read none may_read (sym hidden_is ∙ rests.0))) (
+        shown_is ∙ ap reply_of (is ∙ ap (answer read) (view_same old store index setting t stands keeps admitted.readable)),
         stands_read snapshot read (answer read (view setting t)) (added read (map_below setting t) (writes_of t)) new (with_version setting t)
             (rested_stands (ranges_of snapshot ranges) rests.1).0 (λ key. noted key rests.1),
       )

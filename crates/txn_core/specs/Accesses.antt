@@ -1,8 +1,8 @@
 -- What one read and one write of a transaction of the code do.
-use Rattle.std.specs.Prelude.{◌≡◌, ◌⊎◌, ℕ, Bool, true, false, ◌||◌, List, [], ◌∷◌, Option, Some, None, Result, Ok, Err, min, nat_lt, unwrap_or}
+use Rattle.std.specs.Prelude.{◌≡◌, ◌⊎◌, ℕ, Bool, true, false, ◌||◌, List, [], ◌∷◌, Option, Some, None, Result, Ok, Err, max, min, nat_lt, unwrap_or}
 use Rattle.key_bytes.specs.declared.range.KeyRange.{KeyRange}
 use Rattle.database_rules.specs.declared.AtomicOp.{AtomicOp}
-use Rattle.database_rules.specs.declared.TheConstants.{ACCESSED_UNREADABLE, EXACT_MODE_WITHOUT_LIMITS, FUTURE_VERSION, KEY_OUTSIDE_LEGAL_RANGE}
+use Rattle.database_rules.specs.declared.TheConstants.{ACCESSED_UNREADABLE, EXACT_MODE_WITHOUT_LIMITS, FUTURE_VERSION, KEY_OUTSIDE_LEGAL_RANGE, TRANSACTION_TOO_OLD}
 use Rattle.database_rules.specs.Databases.{Database, Mutation, Atomic}
 use Rattle.database_rules.specs.States.{covers, seen, unreadable}
 use Rattle.database_rules.specs.Intervals.{any_meet, decided, without}
@@ -14,7 +14,7 @@ use Rattle.fdb_calls.specs.declared.fault.TrFault.TheVariants as fault
 use Rattle.fdb_calls.specs.Answers.{Answered}
 use Rattle.fdb_calls.specs.declared.Reply.{Reply}
 use Rattle.fdb_calls.specs.Calling.{Called, reply_of, read_called}
-use Rattle.version_store.specs.Versions.{Versions, last_of}
+use Rattle.version_store.specs.Versions.{Versions, last_of, oldest_of}
 use Rattle.version_store.specs.Versions as versions
 use Rattle.txn_core.specs.Stands.{Kept, StandsFor}
 
@@ -30,9 +30,9 @@ StandsWritten old new mutation = (t : Transaction) → StandsFor old t → Stand
 abbrev pub version_of : Kept → Versions → ℕ
 version_of kept store = unwrap_or kept.version (last_of store)
 
--- what it sees of a store; a version above the last one has the last map
+-- what it sees of a store; a version above the last one has the last map, and one below the oldest the oldest map
 abbrev pub seen_by : Kept → Versions → Database
-seen_by kept store = seen kept.mutations (versions.at store (min (version_of kept store) (last_of store)))
+seen_by kept store = seen kept.mutations (versions.at store (max (oldest_of store) (min (version_of kept store) (last_of store))))
 
 -- A write is accepted where no check fails, this being the code of the first that does; one that is refused, or finds no
 -- memory, leaves all as it was.
@@ -46,6 +46,10 @@ abbrev pub IsRefusedBy : {A : Type 0} → Result A TrFault → Kept → Kept →
 IsRefusedBy (Ok _) old new code = ⊥
 IsRefusedBy (Err (fault.Code refused)) old new code = (code ≡ Some refused.0) × StandsOn old new
 IsRefusedBy (Err fault.NoMemory) old new code = StandsOn old new
+
+-- its version is below the oldest one of a store
+abbrev pub is_behind_of : Kept → Versions → Bool
+is_behind_of kept store = nat_lt (version_of kept store) (oldest_of store)
 
 -- its version is above the last one of a store
 abbrev pub is_ahead_of : Kept → Versions → Bool
@@ -88,14 +92,18 @@ abbrev pub early_code : Kept → (outside lacks : Bool) → Option ℕ
 early_code kept outside lacks = first_failing (after_phase kept.phase
     ((outside, KEY_OUTSIDE_LEGAL_RANGE) ∷ (lacks, EXACT_MODE_WITHOUT_LIMITS) ∷ []))
 
--- A read is let through to its answer: no earlier check refuses it, and its version isn't above the last one. It is refused by
--- an earlier check, and all is as before; or since its version is above the last one, and has it taken.
+-- the code of a version that can't be read, where there is one
+abbrev pub version_code : Kept → Versions → Option ℕ
+version_code kept store = first_failing ((is_behind_of kept store, TRANSACTION_TOO_OLD) ∷ (is_ahead_of kept store, FUTURE_VERSION) ∷ [])
+
+-- A read is let through to its answer: no earlier check refuses it, and its version can be read. It is refused by an earlier
+-- check, and all is as before; or since its version can't be read, and has it taken.
 abbrev pub Admits : {A : Type 0} → Result A TrFault → (old new : Kept) → Versions → (outside lacks : Bool) → Type 0
 Admits (Ok _) old new store outside lacks =
-    (early_code old outside lacks ≡ None) × (is_ahead_of old store ≡ false) × (new ≡ old)
+    (early_code old outside lacks ≡ None) × (version_code old store ≡ None) × (new ≡ old)
 Admits (Err (fault.Code code)) old new store outside lacks =
     ((early_code old outside lacks ≡ Some code.0) × (new ≡ old))
-    ⊎ ((early_code old outside lacks ≡ None) × (is_ahead_of old store ≡ true) × (code.0 ≡ FUTURE_VERSION)
+    ⊎ ((early_code old outside lacks ≡ None) × (version_code old store ≡ Some code.0)
     × (new ≡ record old { version = Some (version_of old store) }))
 Admits (Err fault.NoMemory) old new store outside lacks = ⊥
 

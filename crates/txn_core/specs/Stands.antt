@@ -3,13 +3,13 @@ use Rattle.std.specs.Prelude.{◌≡◌, ℕ, ◌≤◌, ◌⊎◌, Bool, true, 
 use Rattle.key_bytes.specs.declared.range.KeyRange.{KeyRange}
 use Rattle.database_rules.specs.declared.Phase.{Phase}
 use Rattle.database_rules.specs.Databases.{Mutation}
-use Rattle.database_rules.specs.Histories.{Setting, grown_by, at, last, write_range}
+use Rattle.database_rules.specs.Histories.{Setting, grown_by, at, last, low, write_range}
 use Rattle.database_rules.specs.Newest.{newest_of}
 use Rattle.database_rules.specs.States.{covers, state_under, all_filled, unreadable}
 use Rattle.database_rules.specs.Transactions.{Transaction, writes_of, write_conflicts_of, is_read_only, with_version}
-use Rattle.conflict_ranges.specs.Writes.{newest_at, Index}
+use Rattle.conflict_ranges.specs.Writes.{newest_at, above, Index}
 use Rattle.fdb_calls.specs.Calling.{Called}
-use Rattle.version_store.specs.Versions.{Versions, last_of}
+use Rattle.version_store.specs.Versions.{Versions, last_of, oldest_of}
 use Rattle.version_store.specs.Versions as versions
 use Rattle.txn_core.specs.declared.answer.Answer.{Answer}
 
@@ -63,12 +63,15 @@ pub record StandsFor (kept : Kept) (transaction : Transaction) : Type 0 where
   pub with_write_conflict_disabled : kept.skips_write_conflict ≡ transaction.skips_write_conflict
   pub phase : kept.phase ≡ transaction.phase
 
--- a store has the map of a history at each of its versions, and an index has for each key the newest commit with it among its write
--- conflict ranges
+-- A store has the map of a history at each version that can be read, and an index has for each key the newest commit with it among its
+-- write conflict ranges, where that is later than the lowest such version.
 pub record Keeps (store : Versions) (index : Index) (setting : Setting) : Type 0 where
   pub last_is : last_of store ≡ last setting.history
-  pub at_is : (version : ℕ) → version ≤ last setting.history → versions.at store version ≡ at setting.history version
-  pub newest_is : (key : List ℕ) → newest_at index key ≡ newest_of setting.history key
+  pub oldest_is : oldest_of store ≡ low setting
+  pub at_is : (version : ℕ) → low setting ≤ version → version ≤ last setting.history
+      → versions.at store version ≡ at setting.history version
+  pub forgotten_is : index.forgotten ≤ low setting
+  pub newest_is : (key : List ℕ) → above (low setting) (newest_at index key) ≡ above (low setting) (newest_of setting.history key)
 
 -- a transaction still stands as it did, or as it did but for its version, which was taken
 abbrev pub StandsStill : (Transaction → Type 0) → Setting → Transaction → Type 0

@@ -4,7 +4,7 @@ ghost use Rattle.std.specs.Prelude.{◌≡◌, ◌++◌, ◌∷◌, ◌^◌, ◌
 ghost use Rattle.database_rules.specs.Histories.{write_range, stamp_of};
 ghost use Rattle.database_rules.specs.Intervals.{one};
 ghost use Rattle.database_rules.specs.States.{covers};
-ghost use Rattle.conflict_ranges.specs.Writes.{newest_at};
+ghost use Rattle.conflict_ranges.specs.Writes.{above, newest_at};
 ghost use Rattle.txn_core.specs.Stands.{write_conflicts_among, write_conflicts_in};
 ghost use Rattle.write_map.specs.Mutations.{mutation_of, mutations_of};
 
@@ -119,7 +119,8 @@ impl Txn {
         version: u64,
     ) -> Result<(), AllocError>
         ensures given { OnOk result ((key : List ℕ) → newest_at index.new key
-            ≡ (if covers (write_conflicts_in stamp.now self.now) key then version else newest_at index.old key)) }
+            ≡ (if covers (write_conflicts_in stamp.now self.now) key then above index.old.forgotten version else newest_at index.old key)) }
+        ensures forgotten { index.new.forgotten ≡ index.old.forgotten }
         ensures same { OnErr result ((key : List ℕ) → newest_at index.new key ≡ newest_at index.old key) }
     {
         match self.only_write_conflicts() {

@@ -63,7 +63,7 @@ impl Txn {
             )),
             TxnCall::CommittedVersion => Ok(self.answer_committed_version()),
             TxnCall::Versionstamp => Ok(self.answer_promise()),
-            TxnCall::Commit => self.commit(store, index),
+            TxnCall::Commit => self.commit(store, index, options),
             TxnCall::OnError { code } => Ok(self.answer_error(*code, life)),
             TxnCall::Reset => Ok(self.answer_reset(life)),
             TxnCall::Cancel => Ok(self.answer_cancel()),

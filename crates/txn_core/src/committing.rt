@@ -1,9 +1,9 @@
 //! Commits.
 
-ghost use Rattle.std.specs.Prelude.{◌≡◌, ◌+◌, ◌∷◌, ◌^◌, ◌<◌, ℕ, [], Ok, Err, nat_lt, option_map, IfOk, OnOk, OnErr};
+ghost use Rattle.std.specs.Prelude.{◌≡◌, ◌+◌, ◌∷◌, ◌^◌, ◌<◌, ◌≤◌, ℕ, [], Ok, Err, nat_lt, option_map, IfOk, OnOk, OnErr};
 ghost use Rattle.database_rules.specs.declared.Phase.TheVariants as phase;
 ghost use Rattle.database_rules.specs.declared.Tried.TheVariants as tried;
-ghost use Rattle.database_rules.specs.Histories.{Setting, conflicts, grown_by, stamp_of};
+ghost use Rattle.database_rules.specs.Histories.{Setting, conflicts, grown_by, low, stamp_of};
 ghost use Rattle.database_rules.specs.Transactions as rules;
 ghost use Rattle.conflict_ranges.specs.Writes.{Index};
 ghost use Rattle.fdb_calls.specs.declared.fault.TrFault.TheVariants as fault;
@@ -18,7 +18,7 @@ use crate::codes::commit_code;
 use crate::txn::Txn;
 use crate::verdict::Verdict;
 use conflict_ranges::WriteIndex;
-use database_rules::{Code, FUTURE_VERSION, NOT_COMMITTED, Phase, Tried};
+use database_rules::{Code, DatabaseOptions, NOT_COMMITTED, Phase, Tried};
 use fdb_calls::TrFault;
 use std::alloc::AllocError;
 use version_store::Store;
@@ -34,7 +34,7 @@ impl Txn {
     // Whether a commit after a version wrote a key of the transaction's read conflict ranges. It takes no search where no commit
     // came after that version.
     fn has_conflict(&self, index: &WriteIndex, version: u64) -> bool
-        ensures { (store : Versions) (setting : Setting) → Keeps store index.now setting
+        ensures { (store : Versions) (setting : Setting) → Keeps store index.now setting → low setting ≤ version
             → result ≡ conflicts setting.history version self.now.read_ranges }
     {
         if index.newest() <= version {
@@ -53,13 +53,13 @@ impl Txn {
         ensures { (setting : Setting) (t : rules.Transaction) → StandsFor self.now t → Keeps store.now index.now setting
             → option_map rules.number_of result ≡ conflict_refusal setting t }
     {
-        if self.is_ahead(store) {
-            Some(Code(FUTURE_VERSION))
-        } else if self.has_conflict(index, self.version_over(store)) {
-            Some(Code(NOT_COMMITTED))
-        } else {
-            None
+        if let Some(code) = self.version_code(store) {
+            return Some(code);
         }
+        if self.has_conflict(index, self.version_over(store)) {
+            return Some(Code(NOT_COMMITTED));
+        }
+        None
     }
 
     // The checks of a commit, and whether there is anything to write. A transaction that goes on to its version takes it.
@@ -101,10 +101,15 @@ impl Txn {
 
     // Makes the next version of the writes. After want of memory the transaction stands as before, and the store and the index
     // keep what they kept.
-    fn make_version(&mut self, store: &mut Store, index: &mut WriteIndex) -> Result<(), AllocError>
+    fn make_version(
+        &mut self,
+        store: &mut Store,
+        index: &mut WriteIndex,
+        options: DatabaseOptions,
+    ) -> Result<(), AllocError>
         requires { last_of store.old + 1 < 2 ^ 63 }
         ensures ok { OnOk result ((setting : Setting) (t : rules.Transaction) → StandsFor self.old t → Keeps store.old index.old setting
-            → StandsFor self.new (rules.with_phase t (phase.Tried (tried.Version (next_version setting))))
+            → setting.options ≡ options → StandsFor self.new (rules.with_phase t (phase.Tried (tried.Version (next_version setting))))
             × Keeps store.new index.new (grown_by setting (commit_of (stamp_of (next_version setting)) setting t ∷ []))) }
         ensures err { OnErr result ((setting : Setting) (t : rules.Transaction) → StandsFor self.old t → Keeps store.old index.old setting
             → StandsFor self.new t × Keeps store.new index.new setting) }
@@ -115,6 +120,9 @@ impl Txn {
         store.reserve(&changes)?;
         self.add_write_conflicts(index, &stamp, version)?;
         store.install(changes);
+        let lowest = options.lowest(version);
+        store.prune(lowest);
+        index.forget(lowest);
         self.tried(Tried::Version(version));
         Ok(())
     }
@@ -124,11 +132,12 @@ impl Txn {
         &mut self,
         store: &mut Store,
         index: &mut WriteIndex,
+        options: DatabaseOptions,
         verdict: Verdict,
     ) -> Result<Answer, AllocError>
         requires { last_of store.old + 1 < 2 ^ 63 }
         ensures ok { IfOk result (λ answer. (t : rules.Transaction) (setting : Setting) → Judged (Ok verdict) (StandsFor self.old) setting t
-            → Keeps store.old index.old setting → Answers answer self.new store.new index.new setting (commit_called setting t)) }
+            → Keeps store.old index.old setting → setting.options ≡ options → Answers answer self.new store.new index.new setting (commit_called setting t)) }
         ensures err { OnErr result ((t : rules.Transaction) (setting : Setting) → Judged (Ok verdict) (StandsFor self.old) setting t
             → Keeps store.old index.old setting → StandsStill (StandsFor self.new) setting t × Keeps store.new index.new setting) }
     {
@@ -138,7 +147,7 @@ impl Txn {
                 Ok(Answer::done())
             }
             Verdict::Commits => {
-                self.make_version(store, index)?;
+                self.make_version(store, index, options)?;
                 Ok(Answer::done())
             }
         }
@@ -160,15 +169,16 @@ impl Txn {
         &mut self,
         store: &mut Store,
         index: &mut WriteIndex,
+        options: DatabaseOptions,
     ) -> Result<Answer, AllocError>
         requires { last_of store.old + 1 < 2 ^ 63 }
         ensures ok { IfOk result (λ answer. (t : rules.Transaction) (setting : Setting) → StandsFor self.old t → Keeps store.old index.old setting
-            → Answers answer self.new store.new index.new setting (commit_called setting t)) }
+            → setting.options ≡ options → Answers answer self.new store.new index.new setting (commit_called setting t)) }
         ensures err { OnErr result ((t : rules.Transaction) (setting : Setting) → StandsFor self.old t → Keeps store.old index.old setting
             → StandsStill (StandsFor self.new) setting t × Keeps store.new index.new setting) }
     {
         match self.judge(store, index) {
-            Ok(verdict) => self.commit_judged(store, index, verdict),
+            Ok(verdict) => self.commit_judged(store, index, options, verdict),
             Err(TrFault::Code(code)) => Ok(self.answer_refusal(code)),
             Err(TrFault::NoMemory) => Err(AllocError),
         }

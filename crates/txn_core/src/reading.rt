@@ -16,7 +16,7 @@ ghost use Rattle.txn_core.specs.Stands.{Keeps};
 use crate::codes::{is_end_outside, read_code};
 use crate::intervals::{selector_interval, slice_interval};
 use crate::txn::Txn;
-use database_rules::{Code, FUTURE_VERSION, RangeOptions, Selector};
+use database_rules::{RangeOptions, Selector};
 use fdb_calls::TrFault;
 use key_bytes::{Bytes, Key, KeyRange, Pairs, is_below};
 use range_read::{RangeFault, all, lacks_limit, resolve};
@@ -38,7 +38,10 @@ impl Txn {
         ensures shows { seen result.edits.now.mutations (at result.store.now result.version) ≡ seen_by self.now store.now }
         ensures mutations { result.edits.now.mutations ≡ self.now.mutations }
     {
-        let version = self.version_over(store).min(store.last());
+        let version = self
+            .version_over(store)
+            .min(store.last())
+            .max(store.oldest());
         View {
             edits: &self.edits,
             store,
@@ -91,17 +94,16 @@ impl Txn {
 
 // Each read takes the version, unless a check refuses it before that, or memory runs out: then it changes nothing.
 impl Txn {
-    // Whether a read is refused before it is answered: by an earlier check, or since its version is above the last one, which
-    // it takes.
+    // Whether a read is refused before it is answered: by an earlier check, or since its version can't be read, which it takes.
     fn admit(&mut self, store: &Store, is_outside: bool, lacks_limit: bool) -> Result<(), TrFault>
         ensures { Admits result self.old self.new store.now is_outside lacks_limit }
     {
         if let Some(code) = read_code(self.phase, is_outside, lacks_limit) {
             return Err(TrFault::Code(code));
         }
-        if self.is_ahead(store) {
+        if let Some(code) = self.version_code(store) {
             self.version = Some(self.version_over(store));
-            return Err(TrFault::Code(Code(FUTURE_VERSION)));
+            return Err(TrFault::Code(code));
         }
         Ok(())
     }

@@ -1,16 +1,17 @@
 //! What a read leaves: the version that it took, and the read conflict ranges of its transaction since then.
 
-ghost use Rattle.std.specs.Prelude.{◌≡◌, ◌≢◌, ◌||◌, ◌&&◌, not, ℕ, List, true, false, Ok, IsTrue, MatchOption, IfOk};
+ghost use Rattle.std.specs.Prelude.{option_map, ◌≡◌, ◌≢◌, ◌||◌, ◌&&◌, not, ℕ, List, true, false, Ok, IsTrue, MatchOption, IfOk};
 ghost use Rattle.std.specs.List.{list_any};
 ghost use Rattle.key_bytes.specs.Ranges.{has, meets};
 ghost use Rattle.ryw_view.specs.Segments.{is_open};
 ghost use Rattle.database_rules.specs.States.{covers, unreadable};
 ghost use Rattle.database_rules.specs.Intervals.{any_meet, decided, without};
-ghost use Rattle.txn_core.specs.Accesses.{Rests, is_ahead_of, ranges_of};
+ghost use Rattle.txn_core.specs.Accesses.{Rests, is_ahead_of, is_behind_of, ranges_of, version_code};
+ghost use Rattle.database_rules.specs.Transactions.{number_of};
 
 use crate::txn::Txn;
 use conflict_ranges::RangeSet;
-use database_rules::{ACCESSED_UNREADABLE, Code};
+use database_rules::{ACCESSED_UNREADABLE, Code, FUTURE_VERSION, TRANSACTION_TOO_OLD};
 use fdb_calls::TrFault;
 use key_bytes::KeyRange;
 use ryw_view::{add_undecided, around_below, hides};
@@ -116,10 +117,30 @@ fn add_unless(
 
 impl Txn {
     // Whether its version is above the last one of a store.
-    pub(crate) fn is_ahead(&self, store: &Store) -> bool
+    fn is_ahead(&self, store: &Store) -> bool
         ensures { result ≡ is_ahead_of self.now store.now }
     {
         store.last() < self.version_over(store)
+    }
+
+    // Whether its version is below the oldest one of a store.
+    fn is_behind(&self, store: &Store) -> bool
+        ensures { result ≡ is_behind_of self.now store.now }
+    {
+        self.version_over(store) < store.oldest()
+    }
+
+    // The code of a version that can't be read, where there is one. It takes no memory.
+    pub(crate) fn version_code(&self, store: &Store) -> Option<Code>
+        ensures { option_map number_of result ≡ version_code self.now store.now }
+    {
+        if self.is_behind(store) {
+            Some(Code(TRANSACTION_TOO_OLD))
+        } else if self.is_ahead(store) {
+            Some(Code(FUTURE_VERSION))
+        } else {
+            None
+        }
     }
 
     // What a read leaves that is answered on this interval: unless by snapshot, the transaction's read conflict ranges get the keys

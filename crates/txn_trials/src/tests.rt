@@ -109,7 +109,10 @@ fn are_entries(pairs: &Pairs, entries: &[Entry]) -> bool {
             .all(|(pair, entry)| is_entry(pair, entry))
 }
 
-const OPTIONS: DatabaseOptions = DatabaseOptions { api: Api::V630 };
+const OPTIONS: DatabaseOptions = DatabaseOptions {
+    api: Api::V630,
+    window: None,
+};
 
 // The versionstamp with which a test asks what a commit changes, and its write conflict ranges.
 const STAMP: &[u8; 10] = b"stampstamp";

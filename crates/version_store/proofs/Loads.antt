@@ -1,17 +1,17 @@
 -- Loading: each value is a chain of its own, and of two places of one key the later stays.
-use Rattle.std.proofs.Common.{◌≡◌, ◌≢◌, ℕ, zero, suc, ◌+◌, ◌-◌, ◌<◌, ◌≤◌, Bool, true, false, cond, List, [], ◌∷◌, ◌++◌, length, take, drop, get_or, map, Option, Some, None, slice_index_or, slice_set, refl, sym, ap, subst, ◌∙◌, arith}
+use Rattle.std.proofs.Common.{◌≡◌, ◌≢◌, ℕ, suc, ◌+◌, ◌-◌, ◌<◌, ◌≤◌, Bool, true, false, cond, List, [], ◌∷◌, ◌++◌, length, take, drop, get_or, map, Option, Some, None, is_some, slice_index_or, slice_set, refl, sym, ap, subst, ◌∙◌, arith}
+use Rattle.std.proofs.lemmas.Bool.{false≢true}
 use Rattle.std.proofs.lemmas.List.{map-append, append_assoc, length-take-le, take_more_set, drop-set-lt, drop_more}
 use Rattle.std.proofs.lemmas.List.Elements.{All-nil, All-cons, All-head, All-tail, All-append, All-weaker}
 use Rattle.std.proofs.lemmas.Map.Lookups.{exact_bytes}
 use Rattle.std.proofs.lemmas.Map.Views.{tells_apart}
-use Rattle.std.proofs.lemmas.Option.{none-some}
 use Rattle.std.proofs.lemmas.Map.Made.{IfSome-update_all}
 use Rattle.std.specs.BTreeMap.{BTreeMap, IsFromIterResult}
 use Rattle.std.specs.Cmp.Lexicographic.{nat_list_cmp_total}
 use Rattle.std.specs.FinMap as finite
-use Rattle.std.specs.List.{All}
+use Rattle.std.specs.List.{All, AllByRecursion}
 use Rattle.std.specs.Map.{update, update_all}
-use Rattle.std.specs.Option.{IfSome, IsSomeAnd, option_map, option_and_then}
+use Rattle.std.specs.Option.{IfSome, option_map, option_and_then}
 use Rattle.std.specs.Ordering.{eq_by_cmp}
 use Rattle.key_bytes.specs.declared.pairs.Pair.{Pair}
 use Rattle.key_bytes.specs.Entries.{entries_of}
@@ -20,63 +20,44 @@ use Rattle.key_map.specs.Inserted.{inserted}
 use Rattle.key_map.proofs.Finite.{get-map_of, map_of-collected}
 use Rattle.database_rules.specs.Databases.{Database, do_one, do_all}
 use Rattle.database_rules.specs.Histories.{set_of}
-use Rattle.version_store.specs.declared.chains.Node.{Node}
-use Rattle.version_store.specs.Chains.{Slots, Places, chain_from, chain_of, chains_of, database_of, spelled, AreBehind, IsNewest, IsSoundPlace, Sound}
+use Rattle.version_store.specs.declared.values.Values.{Values}
+use Rattle.version_store.specs.declared.values.Values.TheVariants.{One}
+use Rattle.version_store.specs.Chains.{Slots, Places, chain_in, chain_of, chains_of, database_of, total, IsFalling, IsSoundPlace, Sound}
+use Rattle.version_store.specs.Dues.{AreNoted, IsNoted}
 use Rattle.version_store.specs.Loading.{first_chain, first_chains, places_from, AreAlone, IsAlone}
-use Rattle.version_store.specs.Versions.{holding, database_at, place_of}
-use Rattle.version_store.proofs.Spans.{present_of, and_then-chain_of, get-database_of}
+use Rattle.version_store.specs.Versions.{holding, database_at, later, place_of, present}
+use Rattle.version_store.proofs.Present.{with_present}
+use Rattle.version_store.proofs.Slots.{apart-vacant, kept-others}
+use Rattle.version_store.proofs.Spans.{present_of, and_then-chain_of, entries-database_of, get-database_of}
+use Rattle.version_store.proofs.Totals.{total-cons, total-ones, All-found}
 
--- a node of version 1 that is a chain of its own
-module _ (slots : Slots) (place older : ℕ) (value : List ℕ)
-    (is : slice_index_or slots place None ≡ Some (record { version = 1; value = Some value; older = older; left = 0 })) where
+-- a value of version 1 that is a chain of its own
+module _ (slots : Slots) (place : ℕ) (value : List ℕ)
+    (is : slice_index_or slots place None ≡ Some (One (record { version = 1; value = Some value }))) where
   pub chain_of-placed : chain_of slots place ≡ first_chain value
-  unfolding spelled
-  chain_of-placed = ap (chain_from slots) is
+  chain_of-placed = ap chain_in is
 
   pub IsAlone-placed : IsAlone slots place
-  IsAlone-placed = subst (λ (o : Option Node). IsSomeAnd o (λ node. (node.version ≡ 1) × (node.left ≡ 0))) (sym is) (refl, refl)
+  IsAlone-placed = (ap (λ (o : Option Values). is_some o) is, (value, chain_of-placed))
 
--- a node comes to a vacant place: one that is alone stays
-module _ (slots slots' : Slots) (place : ℕ) (vacant : slice_index_or slots place None ≡ None)
-    (others : (at : ℕ) → at ≢ place → slice_index_or slots' at None ≡ slice_index_or slots at None) where
-  pub IsAlone-stays : (at : ℕ) → IsAlone slots at → IsAlone slots' at × (chain_of slots' at ≡ chain_of slots at)
-  unfolding spelled
-  IsAlone-stays at alone = stays_at (slice_index_or slots at None) refl alone
-    where
-      stays_at : (o : Option Node) → slice_index_or slots at None ≡ o → IsSomeAnd o (λ node. (node.version ≡ 1) × (node.left ≡ 0))
-          → IsAlone slots' at × (chain_of slots' at ≡ chain_of slots at)
-      stays_at None is there = absurd there
-      stays_at (Some node) is one =
-          let apart : at ≢ place = λ same. none-some node (sym vacant ∙ ap (λ p. slice_index_or slots p None) (sym same) ∙ is) in
-          let same : slice_index_or slots' at None ≡ Some node = others at apart ∙ is in (
-            subst (λ (o : Option Node). IsSomeAnd o (λ node. (node.version ≡ 1) × (node.left ≡ 0))) (sym same) one,
-            ap (chain_from slots') same ∙ chain_alone node one.1 ∙ sym (ap (chain_from slots) is),
-          )
-        where
-          chain_alone : (node : Node) → node.left ≡ 0 → chain_from slots' (Some node) ≡ chain_from slots (Some node)
-          chain_alone node none = spelled_none node.left none
-            where
-              spelled_none : (left : ℕ) → left ≡ 0
-                  → (node.version, node.value) ∷ spelled left slots' node.older ≡ (node.version, node.value) ∷ spelled left slots node.older
-              spelled_none zero _ = refl
-              spelled_none (suc n) none = absurd (omega (arith, none))
+-- its version is before the second
+IsSoundPlace-alone : (slots : Slots) (place : ℕ) → IsAlone slots place → IsSoundPlace slots 2 place
+IsSoundPlace-alone slots place (there, (value, is)) = (there, subst (IsFalling 2) (sym is) (omega arith, tt))
 
--- a node that is alone is sound for any keys
-IsSoundPlace-alone : (places : Places) (slots : Slots) (nodes place : ℕ) → IsAlone slots place → IsSoundPlace places slots nodes 1 place
-unfolding AreBehind
-IsSoundPlace-alone places slots nodes place = sound_at (slice_index_or slots place None)
-  where
-    behind_none : (left at : ℕ) → left ≡ 0 → AreBehind left places slots at
-    behind_none zero at none = tt
-    behind_none (suc n) at none = absurd (omega (arith, none))
+-- nothing has to be noted of it
+IsNoted-alone : (slots : Slots) (place : ℕ) → IsAlone slots place → IsNoted [] place (chain_of slots place)
+IsNoted-alone slots place (there, (value, is)) = subst (IsNoted [] place) (sym is) (λ absent. false≢true absent)
 
-    sound_at : (o : Option Node) → IsSomeAnd o (λ node. (node.version ≡ 1) × (node.left ≡ 0)) → IsSomeAnd o (IsNewest places slots nodes 1)
-    sound_at None there = there
-    sound_at (Some node) alone = record {
-      behind = behind_none node.left node.older alone.1;
-      short = omega (arith, alone.1);
-      version = omega (arith, alone.0);
-    }
+length-alone : (slots : Slots) (place : ℕ) → IsAlone slots place → length (chain_of slots place) ≤ 1
+length-alone slots place (there, (value, is)) = let one = ap length is in omega (arith, one)
+
+-- a value comes to a vacant place: what is alone stays
+pub IsAlone-stays : (slots slots' : Slots) (place : ℕ) → slice_index_or slots place None ≡ None
+    → ((at : ℕ) → at ≢ place → slice_index_or slots' at None ≡ slice_index_or slots at None)
+    → (at : ℕ) → IsAlone slots at → IsAlone slots' at × (chain_of slots' at ≡ chain_of slots at)
+IsAlone-stays slots slots' place vacant others at alone =
+    let kept = kept-others slots slots' at (others at (apart-vacant slots at place alone.0 vacant)) alone.0 in
+    ((kept.0, (alone.1.0, kept.1 ∙ alone.1.1)), kept.1)
 
 pub length-places_from : (place : ℕ) (pairs : List Pair) → length (places_from place pairs) ≡ length pairs
 length-places_from place [] = refl
@@ -126,6 +107,23 @@ module _ (pairs : List Pair) (place : ℕ) (inside : place < length pairs) (take
       ∙ ap (λ key. (key, (get_or pairs place d).value) ∷ entries_of (drop (place + 1) pairs)) (sym same)
       ∙ ap (λ left. (taken.key, (get_or pairs place d).value) ∷ entries_of left)
       (sym (drop-set-lt (place + 1) pairs place taken (omega arith)))
+
+-- a chain that is alone is later than version 0, and holds its value at version 1
+later-alone : (slots : Slots) (place : ℕ) → IsAlone slots place → later 0 (chain_of slots place) ≡ 1
+later-alone slots place (there, (value, is)) = ap (later 0) is
+
+length-present_alone : (slots : Slots) (e : List ℕ × ℕ) (es : Places) → IsAlone slots e.1
+    → length (present_of 1 slots (e ∷ es)) ≡ 1 + length (present_of 1 slots es)
+unfolding holding present
+length-present_alone slots e es (there, (value, is)) =
+    ap (λ chain. length (with_present e.0 (holding 1 chain) (present_of 1 slots es))) is ∙ omega arith
+
+later-present : (slots : Slots) (places : Places) → AllByRecursion (λ e. IsAlone slots e.1) places
+    → total (later 0) slots places ≡ length (present_of 1 slots places)
+unfolding present
+later-present slots [] all = refl
+later-present slots (e ∷ es) all =
+    omega (arith, total-cons (later 0) slots e es, later-alone slots e.1 all.0, length-present_alone slots e es all.0, later-present slots es all.1)
 
 -- chains that stay one by one stay all
 module _ (slots slots' : Slots)
@@ -200,18 +198,49 @@ module _ (left : List Pair) (tree : BTreeMap (List ℕ) ℕ) (made : IsFromIterR
       let whole : e.1 ≡ e.1 - 0 = omega arith in
       ap (key_at left) whole ∙ stands.1 ∙ tells_apart exact_bytes e.0 key same) (places_from 0 left) (key_at-places_from 0 left)))
 
-  pub Sound-loaded : (slots : Slots) (nodes : ℕ) → AreAlone slots (places_from 0 left) → Sound slots nodes 1 tree.entries
-  Sound-loaded slots nodes alone = record {
-    rising = made.1;
-    places_sound =
-        λ key. subst (λ o. IfSome o (IsSoundPlace tree.entries slots nodes 1)) (sym (made.0 key))
-        (IfSome-update_all (eq_by_cmp key_cmp) (IsSoundPlace tree.entries slots nodes 1) key (λ _. None) (places_from 0 left) tt
-        (All-weaker (λ e. IsAlone slots e.1) (λ e. eq_by_cmp key_cmp e.0 key ≡ true → IsSoundPlace tree.entries slots nodes 1 e.1)
-        (λ e one _. IsSoundPlace-alone tree.entries slots nodes e.1 one) (places_from 0 left) alone));
-    apart =
-        λ a b place one other. sym (subst (λ o. IfSome o (λ p. key_at left p ≡ a)) one (key_at-collected a))
-        ∙ subst (λ o. IfSome o (λ p. key_at left p ≡ b)) other (key_at-collected b);
-  }
+  -- the chain of each key is alone
+  module _ (slots : Slots) (alone : AreAlone slots (places_from 0 left)) where
+    alone_at : (key : List ℕ) → IfSome (place_of tree.entries key) (IsAlone slots)
+    alone_at key =
+        subst (λ o. IfSome o (IsAlone slots)) (sym (made.0 key))
+        (IfSome-update_all (eq_by_cmp key_cmp) (IsAlone slots) key (λ _. None) (places_from 0 left) tt
+        (All-weaker (λ e. IsAlone slots e.1) (λ e. eq_by_cmp key_cmp e.0 key ≡ true → IsAlone slots e.1)
+        (λ e one _. one) (places_from 0 left) alone))
+
+    pub Sound-loaded : Sound slots 2 tree.entries
+    Sound-loaded = record {
+      rising = made.1;
+      places_sound = λ key. sound_at (place_of tree.entries key) (alone_at key);
+      apart =
+          λ a b place one other. sym (subst (λ o. IfSome o (λ p. key_at left p ≡ a)) one (key_at-collected a))
+          ∙ subst (λ o. IfSome o (λ p. key_at left p ≡ b)) other (key_at-collected b);
+    }
+      where
+        sound_at : (o : Option ℕ) → IfSome o (IsAlone slots) → IfSome o (IsSoundPlace slots 2)
+        sound_at None all = tt
+        sound_at (Some place) all = IsSoundPlace-alone slots place all
+
+    pub AreNoted-loaded : AreNoted [] slots tree.entries
+    AreNoted-loaded key = noted_at (place_of tree.entries key) (alone_at key)
+      where
+        noted_at : (o : Option ℕ) → IfSome o (IsAlone slots) → IfSome o (λ p. IsNoted [] p (chain_of slots p))
+        noted_at None all = tt
+        noted_at (Some place) all = IsNoted-alone slots place all
+
+    -- as many values are later than version 0 as there are pairs at version 1
+    pub later-loaded : total (later 0) slots tree.entries ≡ length (finite.entries (database_of 1 slots tree.entries))
+    later-loaded =
+        later-present slots tree.entries (All-found (λ key place. IsAlone slots place) tree.entries made.1 alone_at)
+        ∙ sym (ap length (entries-database_of slots 1 tree.entries made.1))
+
+    pub total-loaded : total length slots tree.entries ≤ length tree.entries
+    total-loaded =
+        total-ones length slots tree.entries
+        (All-found (λ key place. length (chain_of slots place) ≤ 1) tree.entries made.1 (λ q. short (place_of tree.entries q) (alone_at q)))
+      where
+        short : (o : Option ℕ) → IfSome o (IsAlone slots) → IfSome o (λ place. length (chain_of slots place) ≤ 1)
+        short None all = tt
+        short (Some place) all = length-alone slots place all
 
 -- a tree that was collected of these places, with the chains of these pairs
 module _ (slots : Slots) (pairs : List (List ℕ × List ℕ)) (places : Places) (tree : BTreeMap (List ℕ) ℕ)

@@ -1,5 +1,5 @@
 -- Lists of changes whose keys rise.
-use Rattle.std.proofs.Common.{◌≡◌, ℕ, suc, ◌-◌, List, [], ◌∷◌, ◌++◌, length, Option, Some, IsTrue, refl, sym, ap, ◌∙◌, arith}
+use Rattle.std.proofs.Common.{◌≡◌, ℕ, suc, ◌-◌, List, [], ◌∷◌, ◌++◌, length, Option, Some, IsTrue, refl, sym, ap, subst, ◌∙◌, arith}
 use Rattle.std.proofs.lemmas.Option.{none-some}
 use Rattle.std.specs.Option.{option_map}
 use Rattle.std.proofs.lemmas.Bool.{false≢true}
@@ -57,3 +57,14 @@ last-changes_of (c ∷ []) change is = ap (option_map change_of) (sym is)
 last-changes_of (c ∷ d ∷ cs) change is =
     let e : length (c ∷ d ∷ cs) - 1 ≡ suc (length (d ∷ cs) - 1) = omega arith in
     last-changes_of (d ∷ cs) change (is ∙ ap (slice_get (c ∷ d ∷ cs)) e)
+
+-- the first key stands below the others, whose keys rise
+pub IsRising-first : (changes more : List (List ℕ × Option (List ℕ))) (change : List ℕ × Option (List ℕ)) → changes ≡ change ∷ more
+    → IsRising changes → AllByRecursion (λ y. key_cmp change.0 y ≡ Less) (keys_of more)
+unfolding IsStrictlySortedBy
+IsRising-first changes more change step rising = (subst IsRising step rising).0
+
+pub IsRising-rest : (changes more : List (List ℕ × Option (List ℕ))) (change : List ℕ × Option (List ℕ)) → changes ≡ change ∷ more
+    → IsRising changes → IsRising more
+unfolding IsStrictlySortedBy
+IsRising-rest changes more change step rising = (subst IsRising step rising).1

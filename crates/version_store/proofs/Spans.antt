@@ -62,7 +62,7 @@ module _ (slots : Slots) where
   keys_of-chains_of [] = refl
   keys_of-chains_of (e ∷ es) = ap (λ ks. e.0 ∷ ks) (keys_of-chains_of es)
 
-  rising-chains_of : (places : Places) → IsStrictlySortedBy key_cmp (keys_of places)
+  pub rising-chains_of : (places : Places) → IsStrictlySortedBy key_cmp (keys_of places)
       → IsStrictlySortedBy key_cmp (keys_of (chains_of slots places))
   rising-chains_of places rising = rw keys_of-chains_of rising
 

@@ -1,4 +1,7 @@
 pub mod Changed
-pub mod Versions
 pub mod Chains
+pub mod Dues
+pub mod Kept
 pub mod Loading
+pub mod Values
+pub mod Versions

@@ -1,9 +1,8 @@
 -- What a load makes of pairs: each value is the whole chain of its key.
-use Rattle.std.specs.Prelude.{◌≡◌, ℕ, ◌+◌, List, [], ◌∷◌, None, Some, slice_index_or, map}
+use Rattle.std.specs.Prelude.{◌≡◌, ℕ, ◌+◌, List, [], ◌∷◌, Some, map}
 use Rattle.std.specs.List.{All}
-use Rattle.std.specs.Option.{IsSomeAnd}
 use Rattle.key_bytes.specs.declared.pairs.Pair.{Pair}
-use Rattle.version_store.specs.Chains.{Slots, Places}
+use Rattle.version_store.specs.Chains.{Slots, Places, chain_of, IsThere}
 use Rattle.version_store.specs.Versions.{Chain}
 
 -- the chain of a key that was given one value, at version 1
@@ -14,11 +13,11 @@ first_chain value = (1, Some value) ∷ []
 abbrev pub first_chains : List (List ℕ × List ℕ) → List (List ℕ × Chain)
 first_chains pairs = map (λ pair. (pair.0, first_chain pair.1)) pairs
 
--- a node of version 1 is there, and none is behind it
+-- a place was given one value, at version 1
 abbrev pub IsAlone : Slots → ℕ → Type 0
-IsAlone slots place = IsSomeAnd (slice_index_or slots place None) (λ node. (node.version ≡ 1) × (node.left ≡ 0))
+IsAlone slots place = IsThere slots place × ((value : List ℕ) × (chain_of slots place ≡ first_chain value))
 
--- a node of version 1 is at each place, and none is behind it
+-- so it is at each place
 abbrev pub AreAlone : Slots → Places → Type 0
 AreAlone slots places = All (λ e. IsAlone slots e.1) places
 

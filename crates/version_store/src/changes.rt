@@ -86,7 +86,8 @@ impl Changes {
 
     // The changes themselves, in order.
     pub(crate) fn into_vec(self) -> Vec<Change>
-        ensures { changes_of result.items ≡ self }
+        ensures same { changes_of result.items ≡ self }
+        ensures rising { IsRising (changes_of result.items) }
     {
         self.items
     }

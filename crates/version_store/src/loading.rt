@@ -1,6 +1,6 @@
 //! Loading pairs as the first version.
 
-ghost use Rattle.std.specs.Prelude.{◌≡◌, ℕ, ◌+◌, ◌^◌, ◌<◌, [], length, IfOk, OnOk};
+ghost use Rattle.std.specs.Prelude.{◌≡◌, ℕ, ◌+◌, ◌^◌, ◌<◌, ◌≤◌, [], length, IfOk, OnOk};
 ghost use Rattle.std.specs.BTreeMap.{IsFromIterResult};
 ghost use Rattle.std.specs.FinMap as finite;
 ghost use Rattle.std.specs.Iterator.{YieldsFirst, item_count};
@@ -8,12 +8,14 @@ ghost use Rattle.key_bytes.specs.Entries.{entries_of};
 ghost use Rattle.key_bytes.specs.Keys.{key_cmp};
 ghost use Rattle.database_rules.specs.Databases.{do_all};
 ghost use Rattle.database_rules.specs.Histories.{loaded};
-ghost use Rattle.slab.specs.Slab.{slab_len};
-ghost use Rattle.version_store.specs.Chains.{chain_of, chains_of, database_of, Sound};
+ghost use Rattle.version_store.specs.Chains.{chain_of, chains_of, database_of, total, Sound};
+ghost use Rattle.version_store.specs.Dues.{AreNoted};
+ghost use Rattle.version_store.specs.Versions.{later};
 ghost use Rattle.version_store.specs.Loading.{first_chain, first_chains, places_from, AreAlone, IsAlone};
 
-use crate::chains::{MOST_NODES, Node};
-use key_bytes::{Bytes, Pair, Pairs};
+use crate::chains::MOST_KEYS;
+use crate::values::{Given, Values};
+use key_bytes::{Bytes, Pair};
 use slab::Slab;
 use std::alloc::{AllocError, Global};
 use std::collections::BTreeMap;
@@ -25,24 +27,27 @@ use std::vec::IntoIter;
 // that no list stands between the pairs and the tree but the one that the tree is made of.
 pub(crate) fn load_places(
     alloc: Global,
-    nodes: &mut Slab<Node>,
-    pairs: Pairs,
+    nodes: &mut Slab<Values>,
+    mut pairs: Vec<Pair>,
 ) -> Result<BTreeMap<Bytes, u32>, AllocError>
-    ensures sound { IfOk result (λ tree. Sound nodes.new.slots (slab_len nodes.new) 1 tree.entries) }
+    ensures sound { IfOk result (λ tree. Sound nodes.new.slots 2 tree.entries) }
     ensures empty { IfOk result (λ tree. database_of 0 nodes.new.slots tree.entries ≡ finite.empty) }
     ensures first { IfOk result (λ tree. database_of 1 nodes.new.slots tree.entries
-        ≡ do_all (loaded pairs).mutations finite.empty) }
+        ≡ do_all (loaded (entries_of pairs.items)).mutations finite.empty) }
+    ensures noted { IfOk result (λ tree. AreNoted [] nodes.new.slots tree.entries) }
+    ensures few { IfOk result (λ tree. total length nodes.new.slots tree.entries ≤ length tree.entries) }
+    ensures later { IfOk result (λ tree. total (later 0) nodes.new.slots tree.entries
+        ≡ length (finite.entries (database_of 1 nodes.new.slots tree.entries))) }
 {
-    if pairs.len() > MOST_NODES {
+    if pairs.len() > MOST_KEYS {
         return Err(AllocError);
     }
-    let mut pairs = pairs.into_vec();
     place_all(alloc, nodes, pairs.as_mut_slice())?;
     sorted(alloc, pairs)
 }
 
 // Moves each value into the nodes, as a chain of its own: that of the pair at a place goes to the same place.
-fn place_all(alloc: Global, nodes: &mut Slab<Node>, pairs: &mut [Pair]) -> Result<(), AllocError>
+fn place_all(alloc: Global, nodes: &mut Slab<Values>, pairs: &mut [Pair]) -> Result<(), AllocError>
     ensures len { length pairs.new ≡ length pairs.old }
     ensures chains { OnOk result (chains_of nodes.new.slots (places_from 0 pairs.new) ≡ first_chains (entries_of pairs.old)) }
     ensures alone { OnOk result (AreAlone nodes.new.slots (places_from 0 pairs.new)) }
@@ -64,19 +69,17 @@ fn take_value(alloc: Global, pair: &mut Pair) -> Bytes
 
 // Puts a value into the nodes at this place, as a chain of its own. A place that isn't the next one is refused like want
 // of memory.
-fn place_at(nodes: &mut Slab<Node>, place: usize, value: Bytes) -> Result<(), AllocError>
+fn place_at(nodes: &mut Slab<Values>, place: usize, value: Bytes) -> Result<(), AllocError>
     ensures chain { OnOk result (chain_of nodes.new.slots place ≡ first_chain value) }
     ensures alone { OnOk result (IsAlone nodes.new.slots place) }
     ensures others { OnOk result ((other : ℕ) → IsAlone nodes.old.slots other
         → IsAlone nodes.new.slots other
         × (chain_of nodes.new.slots other ≡ chain_of nodes.old.slots other)) }
 {
-    let newest = nodes.insert(Node {
+    let newest = nodes.insert(Values::One(Given {
         version: 1,
         value: Some(value),
-        older: 0,
-        left: 0,
-    })?;
+    }))?;
     if newest != place {
         return Err(AllocError);
     }

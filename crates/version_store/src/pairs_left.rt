@@ -6,7 +6,8 @@ ghost use Rattle.std.specs.Map.Iter.{TakesFirst, deref_pair};
 ghost use Rattle.version_store.specs.Chains.{chains_of};
 ghost use Rattle.version_store.specs.Versions.{present};
 
-use crate::chains::{Node, value_at};
+use crate::chains::value_at;
+use crate::values::Values;
 use key_bytes::{Bytes, Key, Pair, Pairs};
 use slab::Slab;
 use std::alloc::{AllocError, Global};
@@ -18,7 +19,7 @@ use std::marker::Model;
 /// these pairs.
 #[derive(Drop)]
 pub struct PairsLeft<'a> {
-    nodes: &'a Slab<Node>,
+    nodes: &'a Slab<Values>,
     span: Range<'a, Bytes, u32>,
     version: u64,
 }
@@ -36,7 +37,7 @@ impl<'a> Model for PairsLeft<'a> {
 impl<'a> PairsLeft<'a> {
     // The pairs that the keys of a span make at a version.
     pub(crate) fn new(
-        nodes: &'a Slab<Node>,
+        nodes: &'a Slab<Values>,
         span: Range<'a, Bytes, u32>,
         version: u64,
     ) -> PairsLeft<'a>

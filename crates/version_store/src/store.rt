@@ -1,6 +1,6 @@
 //! The store.
 
-ghost use Rattle.std.specs.Prelude.{◌≡◌, ℕ, ◌+◌, ◌^◌, ◌<◌, ◌≤◌, IfOk, IfErr, OnOk, option_copied};
+ghost use Rattle.std.specs.Prelude.{◌≡◌, ℕ, ◌+◌, ◌^◌, ◌<◌, ◌≤◌, max, true, false, length, IfOk, IfErr, OnOk, option_copied};
 ghost use Rattle.std.specs.FinMap as finite;
 ghost use Rattle.std.specs.List.{filter};
 ghost use Rattle.std.specs.Map.Iter.{deref_pair};
@@ -9,14 +9,17 @@ ghost use Rattle.key_bytes.specs.Keys.{key_le, key_lt, within};
 ghost use Rattle.key_map.specs.Ends.{first, last};
 ghost use Rattle.database_rules.specs.Databases.{do_all};
 ghost use Rattle.database_rules.specs.Histories.{loaded};
-ghost use Rattle.version_store.specs.Versions.{at, last_of, oldest_of, IsReadable, IsFaultAt, IsReadyFor};
+ghost use Rattle.version_store.specs.Versions.{at, is_pruned, last_of, later_of, nodes_of, oldest_of, HasFew, IsReadable, IsFaultAt, IsReadyFor};
 ghost use Rattle.version_store.specs.Changed.{changed};
 
-use crate::chains::{Node, add_keys, add_room, last_present, put_changes, value_at};
+use crate::chains::{add_keys, add_room, count_values, last_present, put_changes, value_at};
 use crate::changes::Changes;
 use crate::fault::VersionFault;
 use crate::loading::load_places;
+use crate::merging::merge_runs;
 use crate::pairs_left::{PairsLeft, copied};
+use crate::pruning::{Dues, prune_dues};
+use crate::values::Values;
 use key_bytes::{Bytes, Key, Pairs};
 use slab::Slab;
 use std::alloc::{AllocError, Global};
@@ -26,10 +29,15 @@ use std::marker::Model;
 /// The database at each of its versions.
 pub struct Store {
     alloc: Global,
-    // The place of each key's newest node, which stays.
+    // The place of each key, whose slot has what the key was given.
     tree: BTreeMap<Bytes, u32>,
-    nodes: Slab<Node>,
+    nodes: Slab<Values>,
+    dues: Dues,
     last: u64,
+    // The oldest version that can be read.
+    oldest: u64,
+    // How many values were given at all, so that a count of those that are held fits.
+    given: usize,
     // The places of the keys of the changes that were reserved last, in their order.
     reserved: Vec<u32>,
 }
@@ -41,77 +49,115 @@ impl Drop for Store {
             alloc: _,
             tree: _,
             nodes: _,
+            dues: _,
             last: _,
+            oldest: _,
+            given: _,
             reserved: _,
         } = self;
     }
 }
 
 impl Model for Store {
-    ghost use Rattle.std.specs.Prelude.{◌^◌, ◌<◌};
-    ghost use Rattle.slab.specs.Slab.{slab_len};
+    ghost use Rattle.std.specs.Prelude.{◌+◌, ◌^◌, ◌<◌, ◌≤◌, length};
     ghost use Rattle.version_store.specs.Versions.{Versions};
-    ghost use Rattle.version_store.specs.Chains.{chains_of, room_of, Sound};
+    ghost use Rattle.version_store.specs.Chains.{chains_of, rooms_of, total, Sound};
+    ghost use Rattle.version_store.specs.Dues.{room_in, IsComplete};
 
     ghost Value = { Versions };
 
     ghost view = { λ store. record {
       last = store.last;
+      oldest = store.oldest;
       chains = chains_of store.nodes.slots store.tree.entries;
-      room = room_of store.nodes;
+      rooms = rooms_of store.nodes.slots;
       places = store.tree.entries;
+      dues = room_in store.dues;
+      given = store.given;
       reserved = store.reserved.items;
     } };
 
-    ghost invariant = { λ store. Sound store.nodes.slots (slab_len store.nodes) store.last store.tree.entries × (store.last < 2 ^ 63) };
+    ghost invariant = { λ store. Sound store.nodes.slots (store.last + 1) store.tree.entries
+        × (store.last < 2 ^ 63)
+        × (store.oldest ≤ store.last)
+        × (total length store.nodes.slots store.tree.entries ≤ store.given)
+        × (store.given < 2 ^ 64)
+        × IsComplete (store.oldest + 1) store.last store.dues store.nodes.slots store.tree.entries };
 }
 
 impl Store {
     /// Makes the empty map at version 0.
-    #[tactic(auto, unfolding(crate::specs::Versions::last_of, crate::specs::Versions::oldest_of, crate::specs::Versions::at, crate::specs::Versions::database_at, crate::specs::Versions::present))]
+    #[tactic(auto, unfolding(crate::specs::Versions::last_of, crate::specs::Versions::oldest_of, crate::specs::Versions::at, crate::specs::Versions::database_at, crate::specs::Versions::present, crate::specs::Versions::is_pruned))]
     pub fn new(alloc: Global) -> Store
         ensures last { last_of result ≡ 0 }
         ensures oldest { oldest_of result ≡ 0 }
         ensures empty { at result 0 ≡ finite.empty }
+        ensures pruned { is_pruned result ≡ false }
     {
         Store {
             alloc,
             tree: BTreeMap::new(alloc),
             nodes: Slab::new(alloc),
+            dues: Dues::new(alloc, false),
             last: 0,
+            oldest: 0,
+            given: 0,
             reserved: Vec::new(alloc),
         }
     }
 
     /// Loads a store whose first version has these pairs: of two values of one key the later stays. It moves
-    /// the keys and values, and copies none.
-    #[tactic(auto, unfolding(crate::specs::Versions::last_of, crate::specs::Versions::oldest_of, crate::specs::Versions::at))]
+    /// the keys and values, and copies none. `prune` drops nothing of it.
     pub fn load(alloc: Global, pairs: Pairs) -> Result<Store, AllocError>
         ensures last { IfOk result (λ store. last_of store ≡ 1) }
         ensures oldest { IfOk result (λ store. oldest_of store ≡ 0) }
         ensures empty { IfOk result (λ store. at store 0 ≡ finite.empty) }
         ensures first { IfOk result (λ store. at store 1
             ≡ do_all (loaded pairs).mutations finite.empty) }
+        ensures pruned { IfOk result (λ store. is_pruned store ≡ false) }
     {
-        // Half as much room again, so that the first commit finds room and need not move what was loaded. The system
+        Store::load_with_pruning(alloc, pairs, false)
+    }
+
+    /// Loads a store as `load` does. `prunes` tells whether `prune` shall drop the values that no readable version needs: the
+    /// store then notes each change that leaves such a value behind it, which takes memory.
+    #[tactic(auto, unfolding(crate::specs::Versions::last_of, crate::specs::Versions::oldest_of, crate::specs::Versions::at))]
+    pub fn load_with_pruning(alloc: Global, pairs: Pairs, prunes: bool) -> Result<Store, AllocError>
+        ensures last { IfOk result (λ store. last_of store ≡ 1) }
+        ensures oldest { IfOk result (λ store. oldest_of store ≡ 0) }
+        ensures empty { IfOk result (λ store. at store 0 ≡ finite.empty) }
+        ensures first { IfOk result (λ store. at store 1
+            ≡ do_all (loaded pairs).mutations finite.empty) }
+        ensures pruned { IfOk result (λ store. is_pruned store ≡ prunes) }
+        ensures loaded { IfOk result (λ store. later_of store 0 ≡ length (finite.entries (at store 1))) }
+        ensures latest { IfOk result (λ store. (version : ℕ) → 1 ≤ version → later_of store version ≡ 0) }
+    {
+        let mut pairs = pairs.into_vec();
+        merge_runs(&mut pairs);
+        // Half as much room again, so that the first new keys find room and need not move what was loaded. The system
         // gives memory for a page of it when the page is first written.
         let room = pairs.len().saturating_add(pairs.len() / 2);
         let mut nodes = Slab::with_capacity(alloc, room)?;
         let tree = load_places(alloc, &mut nodes, pairs)?;
+        let given = tree.len();
         Ok(Store {
             alloc,
             tree,
             nodes,
+            dues: Dues::new(alloc, prunes),
             last: 1,
+            oldest: 0,
+            given,
             reserved: Vec::new(alloc),
         })
     }
 
     /// Returns the last version, which is below 2^63, as a version is an `i64` for a client (API reference,
     /// "fdb_transaction_get_read_version").
-    #[tactic(auto, unfolding(crate::specs::Versions::last_of))]
+    #[tactic(auto, unfolding(crate::specs::Versions::last_of, crate::specs::Versions::oldest_of))]
     pub fn last(&self) -> u64
         ensures value { result ≡ last_of self.now }
+        ensures readable { oldest_of self.now ≤ result }
         ensures low { result < 2 ^ 63 }
     {
         self.last
@@ -122,7 +168,7 @@ impl Store {
     pub fn oldest(&self) -> u64
         ensures { result ≡ oldest_of self.now }
     {
-        0
+        self.oldest
     }
 
     // Whether a version can be read.
@@ -214,29 +260,35 @@ impl Store {
     }
 
     /// Takes the memory that installing these changes needs, and searches for each key, so that installing doesn't. Reads
-    /// are as before, also after a refusal. More nodes than 32 bits count are refused like want of memory.
+    /// are as before, also after a refusal. More keys than 32 bits count, and more values than a `usize` counts, are refused
+    /// like want of memory.
     pub fn reserve(&mut self, changes: &Changes) -> Result<(), AllocError>
         ensures last { last_of self.new ≡ last_of self.old }
         ensures oldest { oldest_of self.new ≡ oldest_of self.old }
         ensures reads { (version : ℕ) → at self.new version ≡ at self.old version }
         ensures ready { OnOk result (IsReadyFor self.new changes.now) }
+        ensures pruned { is_pruned self.new ≡ is_pruned self.old }
+        ensures later { (version : ℕ) → later_of self.new version ≡ later_of self.old version }
     {
         self.reserved.clear();
+        if usize::MAX - self.given < changes.len() {
+            return Err(AllocError);
+        }
         // For the keys that are new.
         add_room(&mut self.nodes, changes.len())?;
+        self.dues.reserve(changes.len())?;
         add_keys(
+            self.alloc,
             &mut self.tree,
             &mut self.nodes,
-            self.last,
+            self.last + 1,
             changes.as_slice(),
             &mut self.reserved,
-        )?;
-        // For what is installed.
-        add_room(&mut self.nodes, changes.len())
+        )
     }
 
     /// Adds one version, which is below 2^63: the database before, after these changes. They were reserved, and
-    /// nothing was installed since. It takes no search.
+    /// nothing was installed or pruned since. It takes no search.
     pub fn install(&mut self, changes: Changes)
         requires ready { IsReadyFor self.old changes }
         requires next { last_of self.old + 1 < 2 ^ 63 }
@@ -246,16 +298,47 @@ impl Store {
             → at self.new version ≡ at self.old version }
         ensures after { at self.new (last_of self.old + 1)
             ≡ changed changes (at self.old (last_of self.old)) }
+        ensures pruned { is_pruned self.new ≡ is_pruned self.old }
+        ensures later { (version : ℕ) → version ≤ last_of self.old
+            → later_of self.new version ≡ later_of self.old version + length changes }
+        ensures latest { (version : ℕ) → last_of self.old < version → later_of self.new version ≡ 0 }
+        ensures few { is_pruned self.new ≡ true → HasFew self.new }
     {
         let version = self.last + 1;
+        self.given += changes.len();
         put_changes(
             &self.tree,
             &mut self.nodes,
+            &mut self.dues,
             version,
             self.reserved.as_slice(),
             changes.into_vec(),
         );
         self.last = version;
+    }
+
+    /// Makes the versions below `oldest` unreadable, and leaves the others as they are. Of a store that was loaded to be pruned
+    /// it drops the values that no readable version needs: one step for each change up to `oldest`, and one for each value
+    /// that goes. What was reserved must be reserved again.
+    pub fn prune(&mut self, oldest: u64)
+        requires { oldest ≤ last_of self.old }
+        ensures oldest { oldest_of self.new ≡ max (oldest_of self.old) oldest }
+        ensures last { last_of self.new ≡ last_of self.old }
+        ensures reads { (version : ℕ) → oldest_of self.new ≤ version → at self.new version ≡ at self.old version }
+        ensures pruned { is_pruned self.new ≡ is_pruned self.old }
+        ensures later { (version : ℕ) → later_of self.new version ≤ later_of self.old version }
+        ensures few { is_pruned self.new ≡ true → HasFew self.new }
+    {
+        self.oldest = self.oldest.max(oldest);
+        prune_dues(&mut self.tree, &mut self.nodes, &mut self.dues, self.oldest);
+    }
+
+    /// Returns how many values the store holds, all versions together, and removals among them. It goes over all keys.
+    pub fn nodes(&self) -> usize
+        ensures counts { result ≡ nodes_of self.now }
+        ensures few { is_pruned self.now ≡ true → HasFew self.now }
+    {
+        count_values(&self.nodes, self.tree.range(..))
     }
 
     /// Returns the pairs at the last version, in the order of their keys, for a loop over them. It copies none.

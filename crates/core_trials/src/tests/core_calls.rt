@@ -31,6 +31,7 @@ fn arguments(alloc: Global) -> Result<RunArgs, AllocError> {
         api: Api::V630,
         seed: 0,
         polls: 10,
+        window: None,
     })
 }
 

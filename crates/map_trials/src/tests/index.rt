@@ -69,6 +69,16 @@ fn newest_of_declared(alloc: Global) -> Result<[u64; 2], AllocError> {
     Ok([first, index.newest_in(&range)])
 }
 
+// The newest versions from `a` to `b` and from `b` to `c` once the versions up to 2 are forgotten, and the greatest of these.
+fn newest_once_forgotten(alloc: Global) -> Result<[u64; 3], AllocError> {
+    let mut index = WriteIndex::new(alloc);
+    write_two(alloc, &mut index)?;
+    index.forget(2);
+    let first = index.newest_in(&range_of(alloc, b"a", b"b")?);
+    let second = index.newest_in(&range_of(alloc, b"b", b"c")?);
+    Ok([first, second, index.forgotten()])
+}
+
 #[test]
 fn finds_the_newest(rt: HostRuntime) -> Result<(), Fail> {
     let alloc = rt.alloc();
@@ -76,6 +86,7 @@ fn finds_the_newest(rt: HostRuntime) -> Result<(), Fail> {
     assert_eq!(rt; newest(alloc, b"b", b"c")?, [5, 5, 5]);
     assert_eq!(rt; newest(alloc, b"x", b"y")?, [0, 0, 5]);
     assert_eq!(rt; newest_of_declared(alloc)?, [4, 7]);
+    assert_eq!(rt; newest_once_forgotten(alloc)?, [0, 5, 2]);
     Ok(())
 }
 

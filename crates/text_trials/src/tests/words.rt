@@ -12,6 +12,7 @@ struct WantedRun {
     api: Api,
     seed: u64,
     polls: u32,
+    window: Option<u32>,
 }
 
 const PLAIN: WantedRun = WantedRun {
@@ -19,6 +20,7 @@ const PLAIN: WantedRun = WantedRun {
     api: Api::V630,
     seed: 0,
     polls: 10_000,
+    window: None,
 };
 
 // What a command line asks for.
@@ -89,6 +91,21 @@ const LINES: &[(&[&str], Wanted)] = &[
             ..PLAIN
         }),
     ),
+    (
+        &["run", "t", "--window=1", "630"],
+        Wanted::Run(WantedRun {
+            window: Some(1),
+            ..PLAIN
+        }),
+    ),
+    (
+        &["replay", "--window", "1000000", "t", "500"],
+        Wanted::Replay(WantedRun {
+            api: Api::V500,
+            window: Some(1_000_000),
+            ..PLAIN
+        }),
+    ),
     (&["gen", "1"], Wanted::Gen(1)),
     (&["gen", "30"], Wanted::Gen(30)),
     (&["watch"], Wanted::Watch),
@@ -122,6 +139,15 @@ const LINES: &[(&[&str], Wanted)] = &[
     (&["run", "t", "630", "--polls", "0"], Wanted::Usage),
     (&["run", "t", "630", "--polls=100001"], Wanted::Usage),
     (&["run", "t", "630", "--polls=01"], Wanted::Usage),
+    (&["run", "t", "630", "--window=0"], Wanted::Usage),
+    (&["run", "t", "630", "--window=1000001"], Wanted::Usage),
+    (&["run", "t", "630", "--window"], Wanted::Usage),
+    (&["run", "t", "630", "--window", "-"], Wanted::Usage),
+    (
+        &["run", "t", "630", "--window=1", "--window=1"],
+        Wanted::Usage,
+    ),
+    (&["gen", "1", "--window=1"], Wanted::Usage),
 ];
 
 fn words_of(alloc: Global, line: &[&str]) -> Result<ArgWords, AllocError> {
@@ -137,6 +163,7 @@ fn is_run(run: &RunArgs, wanted: WantedRun) -> bool {
         && run.api == wanted.api
         && run.seed == wanted.seed
         && run.polls == wanted.polls
+        && run.window == wanted.window
 }
 
 fn is_told(told: Result<Args, ArgFault>, wanted: Wanted) -> bool {

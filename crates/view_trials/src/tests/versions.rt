@@ -149,11 +149,66 @@ fn versions_of(alloc: Global) -> Result<(u64, u64, Option<VersionFault>), AllocE
     Ok((store.last(), store.oldest(), store.get_at(&key, 3).err()))
 }
 
+// The oldest version once all before the last one are pruned, why version 1 is not read then, and whether the last one is.
+fn pruned(alloc: Global) -> Result<(u64, Option<VersionFault>, bool), AllocError> {
+    let key = key_of(alloc, b"a")?;
+    let mut store = committed(alloc)?;
+    let last = store.last();
+    store.prune(last);
+    let is_read = store.get_at(&key, last).is_ok();
+    Ok((store.oldest(), store.get_at(&key, 1).err(), is_read))
+}
+
 #[test]
 fn answers_at_each_version(rt: HostRuntime) -> Result<(), Fail> {
     assert_eq!(rt; first_other_read(rt.alloc())?, None);
     let future = VersionFault::Future { last: 2 };
     assert_eq!(rt; versions_of(rt.alloc())?, (2, 0, Some(future)));
+    let past = VersionFault::TooOld { oldest: 2 };
+    assert_eq!(rt; pruned(rt.alloc())?, (2, Some(past), true));
+    Ok(())
+}
+
+// ---- a store that is pruned
+
+// One key, which has each of the versions 1 to 100 as its value.
+fn set_hundred_times(alloc: Global) -> Result<Store, AllocError> {
+    let mut pairs = Pairs::new(alloc);
+    push_pair(alloc, &mut pairs, b"k", &[1])?;
+    let mut store = Store::load_with_pruning(alloc, pairs, true)?;
+    for version in 2..=100u8 {
+        let mut changes = Changes::new(alloc);
+        add_change(alloc, &mut changes, b"k", Some(&[version]))?;
+        commit(&mut store, changes)?;
+    }
+    Ok(store)
+}
+
+// How many values a store holds before it is pruned at a version and after, and its oldest version then.
+fn pruned(store: &mut Store, oldest: u64) -> (usize, usize, u64) {
+    let before = store.nodes();
+    if oldest <= store.last() {
+        store.prune(oldest);
+    }
+    (before, store.nodes(), store.oldest())
+}
+
+fn is_pruned(alloc: Global) -> Result<bool, AllocError> {
+    let key = key_of(alloc, b"k")?;
+    let mut store = set_hundred_times(alloc)?;
+    let is_few = pruned(&mut store, 99) == (100, 2, 99);
+    let too_old = store.get_at(&key, 98).err() == Some(VersionFault::TooOld { oldest: 99 });
+    Ok(
+        is_few
+            && too_old
+            && is_value(store.get_at(&key, 99), Some(&[99]))
+            && is_value(store.get_at(&key, 100), Some(&[100])),
+    )
+}
+
+#[test]
+fn keeps_what_can_be_read(rt: HostRuntime) -> Result<(), Fail> {
+    assert!(rt; is_pruned(rt.alloc())?);
     Ok(())
 }
 

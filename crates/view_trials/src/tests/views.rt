@@ -94,7 +94,6 @@ fn stored_pairs(alloc: Global) -> Result<Pairs, AllocError> {
 }
 
 // The view of these mutations at version 1, or at the last one where there is no such version.
-#[tactic(auto, unfolding(version_store::specs::Versions::oldest_of))]
 fn view_of<'a>(edits: &'a WriteMap, store: &'a Store) -> View<'a> {
     let version = store.last().min(1);
     View {

@@ -2,7 +2,7 @@ use Rattle.std.proofs.Common.{◌≡◌, ◌≤◌, ◌⊎◌, true, ℕ, List, 
 use Rattle.std.specs.FinMap.{entries, get, get-entries}
 use Rattle.std.specs.List.{filter}
 use Rattle.key_bytes.specs.Keys.{within}
-use Rattle.conflict_ranges.specs.Writes.{version_in}
+use Rattle.conflict_ranges.specs.Generations.{version_in}
 use Rattle.conflict_ranges.proofs.Alone.{found_below, found_reached}
 use Rattle.conflict_ranges.proofs.Greatest.{greatest}
 use Rattle.conflict_ranges.proofs.newest.newest_of_keys.Goals as goal

@@ -1,8 +1,10 @@
-use Rattle.std.proofs.Common.{refl, sym}
+use Rattle.std.proofs.Common.{refl, sym, subst, ap, ◌∙◌}
+use Rattle.std.specs.Option.{is_some}
 use Rattle.std.proofs.lemmas.Result.{on_err_weaker}
-use Rattle.machine_rules.specs.Worlds.{with_new}
+use Rattle.machine_rules.specs.Worlds.{World, with_new, call_named}
 use Rattle.client_core.specs.Contents.{model_of}
-use Rattle.client_core.proofs.Named.{made_took}
+use Rattle.client_core.specs.Sound.{Took}
+use Rattle.client_core.proofs.Named.{made_took, named_none}
 use Rattle.client_core.proofs.Kept.{named_still}
 use Rattle.client_core.proofs.Results.{ok_so}
 use Rattle.client_core.proofs.contents.Contents.call_made.Goals as goal
@@ -25,3 +27,12 @@ returns-clause-kept c =
     on_err_weaker c.call_named.result (λ still world stands.
     still (with_new world c.args.name.now) (c.in_ok-make_new.ensures.stands world stands).stands)
     c.call_named.ensures.kept
+
+-- the name has no transaction, so one is made for it
+pub returns-clause-step : goal.returns-clause-step
+returns-clause-step c =
+    ok_so _ _ c.call_named.result (λ reply takes world stands.
+    subst (λ (named : World). Took reply (model_of c.call_named.new.self) (call_named named c.args.name.now c.args.call.now))
+    (sym (named_none (model_of c.args.self.now) world c.args.name.now stands (ap is_some (sym c.in_default.ensures.value))))
+    (takes (with_new world c.args.name.now) (c.in_ok-make_new.ensures.stands world stands).stands))
+    c.call_named.ensures.step

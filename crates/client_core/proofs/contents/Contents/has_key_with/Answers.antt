@@ -9,7 +9,7 @@ use Rattle.client_core.proofs.Prefixes.{first_key_tells, last_readable}
 use Rattle.client_core.proofs.contents.Contents.has_key_with.Goals as goal
 
 pub unreachable-requires : goal.unreachable-requires
-unreachable-requires c = last_readable c.args.self.now.store c.last.result c.in-Err.field-0 c.last.ensures.value c.in-Err.ensures.err
+unreachable-requires c = last_readable c.args.self.now.store c.last.result c.in-Err.field-0 c.last.ensures.value c.last.ensures.readable c.in-Err.ensures.err
 
 pub returns : goal.returns
 returns c =

@@ -189,7 +189,7 @@ pub returns-in-Commit-clause-ok : goal.returns-in-Commit-clause-ok
 unfolding called
 returns-in-Commit-clause-ok c = IfOk-weaker c.commit.result _ _ (λ answer does t setting stands keeps within.
     subst (λ (made : Called). Answers answer c.commit.new.self c.commit.new.store c.commit.new.index setting made)
-    (sym (ap (called setting c.args.life t) c.in-Commit.is)) (does t setting stands keeps)) c.commit.ensures.ok
+    (sym (ap (called setting c.args.life t) c.in-Commit.is)) (does t setting stands keeps within)) c.commit.ensures.ok
 
 pub returns-in-OnError-clause-ok : goal.returns-in-OnError-clause-ok
 unfolding called

@@ -23,7 +23,7 @@ returns-in_err-rest_on c index setting keeps t stands =
     let admitted : IsAdmitted old c.admit.new.self store _ (lacks_limit c.args.options.mode c.args.options.limit) (c.in_ok-interval.interval ∷ []) (read.GetKeyRange c.args.range.now.begin c.args.range.now.end c.args.options.limit c.args.options.reverse) = record {
       outside_is = (search rules);
       early = admits.0;
-      ahead = admits.1;
+      readable = admits.1;
       same = admits.2;
       interval_is = ap (λ range. range ∷ []) ((c.in_ok-interval.ensures {u = tt}) ∙ ap (intervals.slice_interval c.args.range.now.begin c.args.range.now.end c.args.options.limit c.args.options.reverse)
           ((c.in_ok-pairs.ensures {u = tt}) ∙ ap (λ kept. slice (seen_by kept store) c.args.range.now.begin c.args.range.now.end c.args.options.limit c.args.options.reverse) admits.2));
@@ -40,7 +40,7 @@ returns c index setting keeps t stands =
     let admitted : IsAdmitted old c.admit.new.self store _ (lacks_limit c.args.options.mode c.args.options.limit) (c.in_ok-interval.interval ∷ []) (read.GetKeyRange c.args.range.now.begin c.args.range.now.end c.args.options.limit c.args.options.reverse) = record {
       outside_is = (search rules);
       early = admits.0;
-      ahead = admits.1;
+      readable = admits.1;
       same = admits.2;
       interval_is = ap (λ range. range ∷ []) ((c.in_ok-interval.ensures {u = tt}) ∙ ap (intervals.slice_interval c.args.range.now.begin c.args.range.now.end c.args.options.limit c.args.options.reverse)
           ((c.in_ok-pairs.ensures {u = tt}) ∙ ap (λ kept. slice (seen_by kept store) c.args.range.now.begin c.args.range.now.end c.args.options.limit c.args.options.reverse) admits.2));

@@ -1,0 +1,12 @@
+use Rattle.std.proofs.Common.{◌≡◌, ℕ, List, drop}
+use Rattle.conflict_ranges.specs.Generations.{version_at}
+use Rattle.conflict_ranges.proofs.Rooms.{GivesRoom}
+use Rattle.conflict_ranges.proofs.generation.Generation.reserve_list.Given as goal
+
+-- no version is another, and where the ranges that are left have room all have
+abbrev pub invariant-loop-range : goal.invariant-loop-range
+invariant-loop-range l = record {
+  same : (key : List ℕ) → version_at l.self key ≡ version_at l.fn.self key;
+  newest : l.self.newest ≡ l.fn.self.newest;
+  room : GivesRoom l.self l.version (drop l.range-index l.ranges) l.ranges;
+}
