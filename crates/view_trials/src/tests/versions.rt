@@ -150,7 +150,7 @@ fn versions_of(alloc: Global) -> Result<(u64, u64, Option<VersionFault>), AllocE
 }
 
 // The oldest version once all before the last one are pruned, why version 1 is not read then, and whether the last one is.
-fn pruned(alloc: Global) -> Result<(u64, Option<VersionFault>, bool), AllocError> {
+fn pruned_to_the_last(alloc: Global) -> Result<(u64, Option<VersionFault>, bool), AllocError> {
     let key = key_of(alloc, b"a")?;
     let mut store = committed(alloc)?;
     let last = store.last();
@@ -165,7 +165,7 @@ fn answers_at_each_version(rt: HostRuntime) -> Result<(), Fail> {
     let future = VersionFault::Future { last: 2 };
     assert_eq!(rt; versions_of(rt.alloc())?, (2, 0, Some(future)));
     let past = VersionFault::TooOld { oldest: 2 };
-    assert_eq!(rt; pruned(rt.alloc())?, (2, Some(past), true));
+    assert_eq!(rt; pruned_to_the_last(rt.alloc())?, (2, Some(past), true));
     Ok(())
 }
 

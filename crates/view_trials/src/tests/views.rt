@@ -93,9 +93,9 @@ fn stored_pairs(alloc: Global) -> Result<Pairs, AllocError> {
     Ok(pairs)
 }
 
-// The view of these mutations at version 1, or at the last one where there is no such version.
+// The view of these mutations at version 1, or at the nearest one that can be read.
 fn view_of<'a>(edits: &'a WriteMap, store: &'a Store) -> View<'a> {
-    let version = store.last().min(1);
+    let version = store.last().min(1).max(store.oldest());
     View {
         edits,
         store,
