@@ -97,9 +97,9 @@ fn value_of(digits: &[u8]) -> Option<u64>
     Some(value)
 }
 
-// A number of at most `most`.
+/// Reads a number of at most `most` in decimal digits without a leading zero; returns it and the bytes behind it.
 #[tactic(auto, unfolding(crate::specs::Fields::number_at))]
-fn number_of(most: u64, bytes: &[u8]) -> Result<(u64, &[u8]), FieldFault>
+pub fn number_of(most: u64, bytes: &[u8]) -> Result<(u64, &[u8]), FieldFault>
     ensures value { Gives (λ x. (x.0, x.1.now)) result (number_at most bytes.now) }
     ensures within { IfOk result (λ x. x.0 ≤ most) }
 {

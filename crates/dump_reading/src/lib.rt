@@ -14,6 +14,6 @@ mod printable;
 pub use dump::{Lines, first_line, read_dump};
 pub use dump_text::{EndWord, Line, LineFault};
 pub use fault::PrintableFault;
-pub use field::{FieldFault, behind, digits_len};
+pub use field::{FieldFault, behind, digits_len, number_of};
 pub use line::DumpLine;
 pub use printable::{Spelling, digit_of, read_printable, spelling_of};

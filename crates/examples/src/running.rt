@@ -1,12 +1,12 @@
 //! A run of a case.
 
 use crate::case::{Case, CaseFault, read_case};
+use fdb_program::program;
 use outside::{MemSink, MemSource, OpenGate};
 use std::alloc::{AllocError, Global};
 use std::rt::Files;
 use std::sync::Wait;
 use std::thread::Threads;
-use tester_run::tester;
 use thiserror::Error;
 
 /// The most bytes that a run may write beside those that are wanted.
@@ -48,7 +48,7 @@ fn try_case<R: Threads + Wait + Sync + Clone + Drop + Send + 'static>(
     let mut source = MemSource::new(alloc, case.input.as_slice(), PIECE, &[])?;
     let mut out = MemSink::new(alloc, case.out.len().saturating_add(ROOM), PIECE, &[])?;
     let mut err = MemSink::new(alloc, ROOM, PIECE, &[])?;
-    let outcome = tester(
+    let outcome = program(
         rt,
         alloc,
         &case.words,

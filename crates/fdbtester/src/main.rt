@@ -1,13 +1,13 @@
-//! The program: the words of the command line, standard input and standard output go to `tester`, and its status
+//! The program: the words of the command line, standard input and standard output go to `program`, and its status
 //! is the program's.
 #![tactic(auto)]
 
+use fdb_program::{ArgWords, program};
 use outside::{ReadSource, RestingGate, WriteSink, write_all};
 use std::alloc::AllocError;
 use std::env::Env;
 use std::process::ExitCode;
 use std::{env, io};
-use tester_run::{ArgWords, tester};
 
 /// The status for want of memory.
 const OUT_OF_MEMORY: u8 = 6;
@@ -22,7 +22,7 @@ fn main(rt: HostRuntime) -> ExitCode {
         Ok(args) => {
             let mut source = ReadSource::new(rt.stdin());
             let mut out = WriteSink::new(rt.stdout());
-            tester(
+            program(
                 &rt,
                 rt.alloc(),
                 &args,

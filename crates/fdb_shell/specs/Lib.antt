@@ -1,0 +1,4 @@
+pub mod Limits
+pub mod Doing
+pub mod Outcomes
+pub mod Endings

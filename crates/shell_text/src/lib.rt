@@ -1,0 +1,13 @@
+//! Lines of the shell, both ways: the command that a line is, and what is printed.
+//!
+//! `shell_rules` has the tokens, the commands and the printed lines. `command_of` reads a line, and is Bad exactly where the line is no
+//! command. Each `add_` call adds a printed line, or the lines of a reply, to a text; after a refusal a part of it may stand there.
+#![tactic(auto)]
+
+mod command;
+mod text;
+mod words;
+
+pub use command::command_of;
+pub use text::{add_code, add_error, add_line, add_range, add_value, add_version};
+pub use words::Unread;
