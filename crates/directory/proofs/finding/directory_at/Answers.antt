@@ -1,13 +1,11 @@
-use Rattle.std.proofs.Common.{◌≡◌, ℕ, [], List, Option, Some, Ok, Err, sym, ap, subst, ◌∙◌}
+use Rattle.std.proofs.Common.{◌≡◌, ℕ, [], List, Option, Some, Ok, sym, ap, ◌∙◌}
 use Rattle.std.specs.Prelude.{unwrap_or}
-use Rattle.std.proofs.lemmas.Result.{err_from_is_err_and}
 use Rattle.directory_rules.specs.declared.Directory.{Directory}
-use Rattle.directory_rules.specs.Courses.{Course, Gives, value_of}
+use Rattle.directory_rules.specs.Courses.{Course, Gives}
 use Rattle.directory_rules.specs.Nodes.{node_of, layer_key}
 use Rattle.directory_rules.specs.Steps.{directory, directory_at}
-use Rattle.directory.specs.Runs.{Draws}
-use Rattle.directory.proofs.Following.{then_drew}
-use Rattle.directory.proofs.Passing.{ended_so, ran_out, gave_so}
+use Rattle.directory.proofs.Passing.{ran_out, gave_so}
+use Rattle.directory.proofs.Values.{read_failed, read_then}
 use Rattle.directory.proofs.finding.directory_at.Goals as goal
 
 -- what is found out by its layer name
@@ -16,43 +14,31 @@ named_so prefix layer_name = Gives (Some (directory prefix (unwrap_or layer_name
 
 pub returns-in_err-of-clause-follows : goal.returns-in_err-of-clause-follows
 returns-in_err-of-clause-follows g c words =
-    let p = err_from_is_err_and c.from_residual.result c.from_residual.ensures.1 in
     ran_out c.from_residual.result (g.T.Tr.stands c.args.tr.now) words words (directory_at c.args.snapshot c.args.layer.now c.args.prefix)
-    (p.1 ∙ ap Err p.2)
+    c.from_residual.ensures.1
 
 pub returns-in_err-key-clause-follows : goal.returns-in_err-key-clause-follows
 returns-in_err-key-clause-follows g c words =
-    let p = err_from_is_err_and c.from_residual-in_err-key.result c.from_residual-in_err-key.ensures.1 in
     ran_out c.from_residual-in_err-key.result (g.T.Tr.stands c.args.tr.now) words words
     (directory_at c.args.snapshot c.args.layer.now c.args.prefix)
-    (p.1 ∙ ap Err p.2)
+    c.from_residual-in_err-key.ensures.1
 
 pub returns-in_err-value_of-clause-follows : goal.returns-in_err-value_of-clause-follows
 unfolding directory_at
 returns-in_err-value_of-clause-follows g c words =
-    let p = err_from_is_err_and c.from_residual-in_err-value_of.result c.from_residual-in_err-value_of.ensures.1 in
-    let before = g.T.Tr.stands c.args.tr.now in
-    let after = g.T.Tr.stands c.value_of.new.tr in
-    let key : c.in_ok-key.key ≡ layer_key (node_of c.args.layer.now c.args.prefix) = c.in_ok-key.ensures
-    ∙ ap layer_key c.in_ok-of.ensures in
-    let fault = c.in_err-value_of.field-0.0 in
-    ended_so fault c.from_residual-in_err-value_of.result before after words words
-    (value_of c.args.snapshot (layer_key (node_of c.args.layer.now c.args.prefix))) (named_so c.args.prefix) (p.1 ∙ ap Err p.2)
-    (subst (λ key. Draws {X = Option (List ℕ)} (Err fault) before after words words (value_of c.args.snapshot key)) key
-    (c.in_err-value_of.ensures.follows words))
+    read_failed c.in_err-value_of.field-0.0 c.from_residual-in_err-value_of.result (g.T.Tr.stands c.args.tr.now) (g.T.Tr.stands c.value_of.new.tr)
+    words c.args.snapshot c.in_ok-key.key (layer_key (node_of c.args.layer.now c.args.prefix)) (named_so c.args.prefix)
+    c.from_residual-in_err-value_of.ensures.1 (c.in_ok-key.ensures ∙ ap layer_key c.in_ok-of.ensures) (c.in_err-value_of.ensures.follows words)
 
 pub returns-clause-follows : goal.returns-clause-follows
 unfolding directory_at
 returns-clause-follows g c words =
-    let before = g.T.Tr.stands c.args.tr.now in
     let after = g.T.Tr.stands c.value_of.new.tr in
-    let key : c.in_ok-key.key ≡ layer_key (node_of c.args.layer.now c.args.prefix) = c.in_ok-key.ensures
-    ∙ ap layer_key c.in_ok-of.ensures in
     let value = c.in_ok-value_of.field-0 in
     let name : c.unwrap_or-name.result ≡ unwrap_or value [] = c.unwrap_or-name.ensures ∙ ap (unwrap_or value) c.new.ensures in
     let found = Some (directory c.args.prefix c.unwrap_or-name.result) in
-    then_drew value (Ok found) before after after words words words
-    (value_of c.args.snapshot (layer_key (node_of c.args.layer.now c.args.prefix))) (named_so c.args.prefix)
-    (subst (λ key. Draws (Ok value) before after words words (value_of c.args.snapshot key)) key (c.in_ok-value_of.ensures.follows words))
+    read_then value (Ok found) (g.T.Tr.stands c.args.tr.now) after after words c.args.snapshot c.in_ok-key.key
+    (layer_key (node_of c.args.layer.now c.args.prefix)) (named_so c.args.prefix) (c.in_ok-key.ensures ∙ ap layer_key c.in_ok-of.ensures)
+    (c.in_ok-value_of.ensures.follows words)
     (gave_so (Some (directory c.args.prefix (unwrap_or value []))) found after words
     (ap (λ name. Some (directory c.args.prefix name)) (sym name)))

@@ -1,6 +1,5 @@
-use Rattle.std.proofs.Common.{◌≡◌, ℕ, Bool, List, [], ◌∷◌, Option, Some, None, Ok, Err, sym, ap, subst, ◌∙◌, inl, inr, length, rules, arith}
+use Rattle.std.proofs.Common.{◌≡◌, ℕ, Bool, List, [], ◌∷◌, Option, Some, None, Ok, Err, sym, ap, subst, ◌∙◌, inl, inr, length, rules, arith, refl}
 use Rattle.std.proofs.lemmas.List.{nil_from_length}
-use Rattle.std.proofs.lemmas.Result.{err_from_is_err_and}
 use Rattle.directory_types.specs.declared.Layer.{Layer}
 use Rattle.directory_rules.specs.declared.Directory.{Directory}
 use Rattle.directory_rules.specs.Courses.{Course}
@@ -8,16 +7,15 @@ use Rattle.directory_rules.specs.Steps.{Found, found_at, below, child_of, find_f
 use Rattle.directory.specs.Places.{found_so}
 use Rattle.directory.specs.Runs.{Draws}
 use Rattle.directory.proofs.Following.{then_drew, gave}
-use Rattle.directory.proofs.Passing.{ended_so, ran_out}
+use Rattle.directory.proofs.Passing.{ended_so, ran_out, handed}
 use Rattle.directory.proofs.Leading.{leads_on}
 use Rattle.directory.proofs.NameByName.{goes_on, stops_here}
 use Rattle.directory.proofs.finding.find.Goals as goal
 
 pub returns-in_err-found-clause-follows : goal.returns-in_err-found-clause-follows
 returns-in_err-found-clause-follows g c words =
-    let p = err_from_is_err_and c.from_residual.result c.from_residual.ensures.1 in
     ran_out (found_so c.from_residual.result) (g.T.Tr.stands c.args.tr.now) words words (find c.args.snapshot c.args.layer.now c.args.path.now)
-    (ap found_so (p.1 ∙ ap Err p.2))
+    (handed found_so c.from_residual.result _ refl c.from_residual.ensures.1)
 
 -- by the child that the next name has
 abbrev by_child : (snapshot : Bool) → Layer → (names : List (List ℕ)) → Option Directory → Course (Option Found)
@@ -47,7 +45,6 @@ returns-then-is_partition-clause-follows g c =
 
 pub returns-in_err-child-clause-follows : goal.returns-in_err-child-clause-follows
 returns-in_err-child-clause-follows g c =
-    let p = err_from_is_err_and c.from_residual-in_err-child.result c.from_residual-in_err-child.ensures.1 in
     let result = found_so c.from_residual-in_err-child.result in
     let now = g.T.Tr.stands c.loop-name.tr in
     let after = g.T.Tr.stands c.child_of.new.tr in
@@ -58,7 +55,7 @@ returns-in_err-child-clause-follows g c =
     (sym c.is_partition.ensures ∙ c.if-is_partition.false) in
     c.loop-name.invariant.leads result c.child_of.new.tr (λ words. subst (Draws result now after words words) (sym first)
     (ended_so c.in_err-child.field-0.0 result now after words words (child_of snapshot layer c.loop-name.found c.in-Some.name.now)
-    (by_child snapshot layer c.in-Some.others.now) (ap found_so (p.1 ∙ ap Err p.2)) (c.in_err-child.ensures.follows words)))
+    (by_child snapshot layer c.in-Some.others.now) (handed found_so c.from_residual-in_err-child.result _ refl c.from_residual-in_err-child.ensures.1) (c.in_err-child.ensures.follows words)))
 
 pub returns-in_default-2-clause-follows : goal.returns-in_default-2-clause-follows
 returns-in_default-2-clause-follows g c =

@@ -1,5 +1,4 @@
 use Rattle.std.proofs.Common.{ℕ, Bool, false, List, Ok, Err, sym, ap, subst, ◌∙◌}
-use Rattle.std.proofs.lemmas.Result.{err_from_is_err_and}
 use Rattle.directory_rules.specs.declared.Child.{Child}
 use Rattle.directory_rules.specs.Courses.{Course, Done, done, ◌>>=◌}
 use Rattle.directory_rules.specs.Nodes.{is_partition}
@@ -20,9 +19,8 @@ in_partition snapshot prefix = check false snapshot (inside prefix) >>= of_root 
 
 pub returns-in_err-inner-clause-follows : goal.returns-in_err-inner-clause-follows
 returns-in_err-inner-clause-follows g c words =
-    let p = err_from_is_err_and c.from_residual.result c.from_residual.ensures.1 in
     ran_out c.from_residual.result (g.T.Tr.stands c.args.tr.now) words words (lists c.args.snapshot c.args.layer.now c.args.found.now)
-    (p.1 ∙ ap Err p.2)
+    c.from_residual.ensures.1
 
 pub returns-then-not-is_partition-clause-follows : goal.returns-then-not-is_partition-clause-follows
 unfolding lists
@@ -37,7 +35,6 @@ returns-then-not-is_partition-clause-follows g c words =
 pub returns-in_err-check-clause-follows : goal.returns-in_err-check-clause-follows
 unfolding lists
 returns-in_err-check-clause-follows g c words =
-    let p = err_from_is_err_and c.from_residual-in_err-check.result c.from_residual-in_err-check.ensures.1 in
     let result = c.from_residual-in_err-check.result in
     let found = c.args.found.now in
     let snapshot = c.args.snapshot in
@@ -47,7 +44,7 @@ returns-in_err-check-clause-follows g c words =
     where_true (is_partition found.layer) result before after words words (in_partition snapshot found.prefix)
     (children snapshot c.args.layer.now found.prefix)
     (sym c.is_partition.ensures ∙ c.if-not-is_partition.false)
-    (ended_so fault result before after words words (check false snapshot (inside found.prefix)) (of_root snapshot found.prefix) (p.1 ∙ ap Err p.2)
+    (ended_so fault result before after words words (check false snapshot (inside found.prefix)) (of_root snapshot found.prefix) c.from_residual-in_err-check.ensures.1
     (subst (λ layer. Draws {X = Done} (Err fault) before after words words (check false snapshot layer)) c.in_ok-inner.ensures
     (c.in_err-check.ensures.follows words)))
 

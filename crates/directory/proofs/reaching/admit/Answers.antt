@@ -1,6 +1,5 @@
 use Rattle.std.proofs.Common.{ℕ, List, Ok, Err, refl, sym, ap, ◌∙◌, length}
 use Rattle.std.specs.Prelude.{not, ◌&&◌, ◌==◌}
-use Rattle.std.proofs.lemmas.Result.{err_from_is_err_and}
 use Rattle.directory_types.specs.declared.Layer.{Layer}
 use Rattle.directory_types.specs.declared.fault.DirFault.TheVariants as fault
 use Rattle.directory_rules.specs.declared.Lookup.{Lookup}
@@ -21,9 +20,8 @@ prefix_admitted lookup layer path checked = refuse_where (lookup.has_prefix && n
 pub returns-in_err-check-clause-follows : goal.returns-in_err-check-clause-follows
 unfolding admits
 returns-in_err-check-clause-follows g c words =
-    let p = err_from_is_err_and c.from_residual.result c.from_residual.ensures.1 in
     ended_so c.in_err-check.field-0.0 c.from_residual.result (g.T.Tr.stands c.args.tr.now) (g.T.Tr.stands c.check.new.tr) words words
-    (check c.args.lookup.writes c.args.lookup.snapshot c.args.layer.now) (prefix_admitted c.args.lookup c.args.layer.now c.args.path.now) (p.1 ∙ ap Err p.2)
+    (check c.args.lookup.writes c.args.lookup.snapshot c.args.layer.now) (prefix_admitted c.args.lookup c.args.layer.now c.args.path.now) c.from_residual.ensures.1
     (c.in_err-check.ensures.follows words)
 
 pub returns-then-is_barred-clause-follows : goal.returns-then-is_barred-clause-follows

@@ -1,24 +1,21 @@
-use Rattle.std.proofs.Common.{◌≡◌, ◌+◌, ◌<◌, Some, None, Ok, Err, sym, ap, subst, ◌∙◌, length, rules, arith}
+use Rattle.std.proofs.Common.{◌≡◌, ◌+◌, ◌<◌, Some, None, Ok, Err, sym, ap, subst, ◌∙◌, length, rules, arith, refl}
 use Rattle.std.specs.Prelude.{option_map}
-use Rattle.std.proofs.lemmas.Result.{err_from_is_err_and}
 use Rattle.directory_rules.specs.Courses.{done}
 use Rattle.directory_rules.specs.Steps.{place, admits, find, arrives}
 use Rattle.directory.specs.Places.{place_so, found_as, IsLess}
 use Rattle.directory.specs.Runs.{Draws}
 use Rattle.directory.proofs.Following.{then_drew, gave}
-use Rattle.directory.proofs.Passing.{ended_so, ran_out}
+use Rattle.directory.proofs.Passing.{ended_so, ran_out, handed}
 use Rattle.directory.proofs.Arriving.{less_one, less_one_is, by_found, behind_admits, one_layer, ends_here, begins_again, shorter}
 use Rattle.directory.proofs.reaching.reach.Goals as goal
 
 pub returns-in_err-inner-clause-follows : goal.returns-in_err-inner-clause-follows
 returns-in_err-inner-clause-follows g c words =
-    let p = err_from_is_err_and c.from_residual.result c.from_residual.ensures.1 in
     ran_out (place_so c.from_residual.result) (g.T.Tr.stands c.args.tr.now) words words
-    (arrives (length c.args.path.now + 1) c.args.lookup c.args.layer.now c.args.path.now) (ap place_so (p.1 ∙ ap Err p.2))
+    (arrives (length c.args.path.now + 1) c.args.lookup c.args.layer.now c.args.path.now) (handed place_so c.from_residual.result _ refl c.from_residual.ensures.1)
 
 pub returns-in_err-admit-clause-follows : goal.returns-in_err-admit-clause-follows
 returns-in_err-admit-clause-follows g c =
-    let p = err_from_is_err_and c.from_residual-in_err-admit.result c.from_residual-in_err-admit.ensures.1 in
     let result = place_so c.from_residual-in_err-admit.result in
     let now = g.T.Tr.stands c.loop-inner.tr in
     let after = g.T.Tr.stands c.admit.new.tr in
@@ -26,11 +23,10 @@ returns-in_err-admit-clause-follows g c =
     let one = one_layer bound c.args.lookup c.loop-inner.inner c.loop-inner.rest.now c.loop-inner.invariant.enough in
     c.loop-inner.invariant.leads result c.admit.new.tr (λ words. subst (Draws result now after words words) (sym one)
     (ended_so c.in_err-admit.field-0.0 result now after words words (admits c.args.lookup c.loop-inner.inner c.loop-inner.rest.now)
-    (behind_admits bound c.args.lookup c.loop-inner.inner c.loop-inner.rest.now) (ap place_so (p.1 ∙ ap Err p.2)) (c.in_err-admit.ensures.follows words)))
+    (behind_admits bound c.args.lookup c.loop-inner.inner c.loop-inner.rest.now) (handed place_so c.from_residual-in_err-admit.result _ refl c.from_residual-in_err-admit.ensures.1) (c.in_err-admit.ensures.follows words)))
 
 pub returns-in_err-found-clause-follows : goal.returns-in_err-found-clause-follows
 returns-in_err-found-clause-follows g c =
-    let p = err_from_is_err_and c.from_residual-in_err-found.result c.from_residual-in_err-found.ensures.1 in
     let result = place_so c.from_residual-in_err-found.result in
     let now = g.T.Tr.stands c.loop-inner.tr in
     let mid = g.T.Tr.stands c.admit.new.tr in
@@ -43,7 +39,7 @@ returns-in_err-found-clause-follows g c =
     (then_drew done result now mid after words words words (admits c.args.lookup layer names) (behind_admits bound c.args.lookup layer names)
     (c.in_ok-admit.ensures.follows words)
     (ended_so c.in_err-found.field-0.0 result mid after words words (find c.args.lookup.snapshot layer names)
-    (by_found bound c.args.lookup layer names) (ap place_so (p.1 ∙ ap Err p.2)) (c.in_err-found.ensures.follows words))))
+    (by_found bound c.args.lookup layer names) (handed place_so c.from_residual-in_err-found.result _ refl c.from_residual-in_err-found.ensures.1) (c.in_err-found.ensures.follows words))))
 
 pub returns-in_default-clause-follows : goal.returns-in_default-clause-follows
 returns-in_default-clause-follows g c =
@@ -86,7 +82,6 @@ returns-then-is_empty-clause-follows g c =
 
 pub returns-in_err-inner-2-clause-follows : goal.returns-in_err-inner-2-clause-follows
 returns-in_err-inner-2-clause-follows g c =
-    let p = err_from_is_err_and c.from_residual-in_err-inner-2.result c.from_residual-in_err-inner-2.ensures.1 in
     let result = place_so c.from_residual-in_err-inner-2.result in
     let now = g.T.Tr.stands c.loop-inner.tr in
     let mid = g.T.Tr.stands c.admit.new.tr in
@@ -100,7 +95,7 @@ returns-in_err-inner-2-clause-follows g c =
     (c.in_ok-admit.ensures.follows words)
     (then_drew (option_map found_as c.in_ok-found.field-0) result mid after after words words words (find c.args.lookup.snapshot layer names)
     (by_found bound c.args.lookup layer names) (c.in_ok-found.ensures.follows words)
-    (ran_out result after words words (by_found bound c.args.lookup layer names (option_map found_as c.in_ok-found.field-0)) (ap place_so (p.1 ∙ ap Err p.2))))))
+    (ran_out result after words words (by_found bound c.args.lookup layer names (option_map found_as c.in_ok-found.field-0)) (handed place_so c.from_residual-in_err-inner-2.result _ refl c.from_residual-in_err-inner-2.ensures.1)))))
 
 pub loop-inner-preserved : goal.loop-inner-preserved
 loop-inner-preserved g c =
