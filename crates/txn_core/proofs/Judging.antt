@@ -1,11 +1,10 @@
 -- The checks of a commit come to the same for what is kept and for each transaction that it stands for.
-use Rattle.std.proofs.Common.{◌≡◌, ◌⊎◌, inl, inr, ◌≤◌, ◌||◌, ℕ, Bool, true, false, List, [], ◌∷◌, Option, Some, None, nat_lt, ◌<◌, lt-ltb, le-ltb, refl, sym, ap, subst, ◌∙◌, arith}
+use Rattle.std.proofs.Common.{◌≡◌, ◌⊎◌, inl, inr, ◌≤◌, ◌||◌, ℕ, Bool, true, false, List, [], ◌∷◌, Option, Some, None, nat_lt, ◌<◌, lt-ltb, le-ltb, refl, sym, ap, ◌∙◌, arith}
 use Rattle.std.proofs.lemmas.Bool.{both_ways, ltb-true, cases_lt}
 use Rattle.std.proofs.lemmas.Bool.Decides.{same_from_decides}
 use Rattle.std.specs.Prelude.{if◌then◌else◌}
 use Rattle.key_bytes.specs.declared.range.KeyRange.{KeyRange}
 use Rattle.key_bytes.specs.Keys.{within}
-use Rattle.key_bytes.specs.Ranges.{has}
 use Rattle.database_rules.specs.States.{range_from}
 use Rattle.database_rules.specs.Histories.{History, conflicts}
 use Rattle.database_rules.specs.Newest.{newest_of}

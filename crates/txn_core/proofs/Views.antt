@@ -186,6 +186,18 @@ pub record IsAdmitted (old mid : Kept) (store : Versions) (outside lacks : Bool)
   pub same : mid ≡ old
   pub interval_is : ranges ≡ interval read (seen_by old store)
 
+-- it was let through, and the ranges are those of what is seen
+pub admitted_so : (old mid : Kept) (store : Versions) (outside lacks : Bool) (ranges : List KeyRange) (read : Read) → outside ≡ is_read_outside read
+    → (early_code old outside lacks ≡ None) × (version_code old store ≡ None) × (mid ≡ old)
+    → (mid ≡ old → ranges ≡ interval read (seen_by old store)) → IsAdmitted old mid store outside lacks ranges read
+admitted_so old mid store outside lacks ranges read is admits are = record {
+  outside_is = is;
+  early = admits.0;
+  readable = admits.1;
+  same = admits.2;
+  interval_is = are admits.2;
+}
+
 module _ {A : Type 0} (shown : A → Reply) (old mid new : Kept) (store : Versions) (index : Index) (setting : Setting) (t : Transaction)
     (lacks snapshot : Bool) (read : Read) (outside : Bool) (ranges : List KeyRange) (stands : StandsFor old t) (keeps : Keeps store index setting)
     (admitted : IsAdmitted old mid store outside lacks ranges read) where
