@@ -1,4 +1,4 @@
-use Rattle.std.proofs.Common.{◌≡◌, ℕ, Bool, List, [], ◌∷◌, Option, Some, None, Ok, Err, sym, ap, subst, ◌∙◌, inl, inr, length, rules, arith, refl}
+use Rattle.std.proofs.Common.{◌≡◌, ℕ, Bool, List, [], ◌∷◌, Option, Some, None, Ok, sym, ap, subst, ◌∙◌, inl, inr, length, rules, arith, refl}
 use Rattle.std.proofs.lemmas.List.{nil_from_length}
 use Rattle.directory_types.specs.declared.Layer.{Layer}
 use Rattle.directory_rules.specs.declared.Directory.{Directory}

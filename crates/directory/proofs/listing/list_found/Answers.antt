@@ -1,4 +1,4 @@
-use Rattle.std.proofs.Common.{ℕ, Bool, false, List, Ok, Err, sym, ap, subst, ◌∙◌}
+use Rattle.std.proofs.Common.{ℕ, Bool, false, List, Ok, Err, sym, subst, ◌∙◌}
 use Rattle.directory_rules.specs.declared.Child.{Child}
 use Rattle.directory_rules.specs.Courses.{Course, Done, done, ◌>>=◌}
 use Rattle.directory_rules.specs.Nodes.{is_partition}

@@ -1,4 +1,4 @@
-use Rattle.std.proofs.Common.{◌≡◌, ◌+◌, ◌<◌, Some, None, Ok, Err, sym, ap, subst, ◌∙◌, length, rules, arith, refl}
+use Rattle.std.proofs.Common.{◌≡◌, ◌+◌, ◌<◌, Some, None, Ok, sym, ap, subst, ◌∙◌, length, rules, arith, refl}
 use Rattle.std.specs.Prelude.{option_map}
 use Rattle.directory_rules.specs.Courses.{done}
 use Rattle.directory_rules.specs.Steps.{place, admits, find, arrives}
