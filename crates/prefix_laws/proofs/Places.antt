@@ -43,6 +43,18 @@ from_of (HasRead read answer) = 0
 
 -- ---- what stands before entries
 
+-- a place is of the same grant in another script that has its note at the same place
+with_note : (space : List ℕ) (script other : Script) (place : ℕ) (of_grant : IsOfGrant space script place)
+    → slice_get other of_grant.end ≡ Some (Granted space of_grant.number of_grant.from) → IsOfGrant space other place
+with_note space script other place of_grant granted = record {
+  number = of_grant.number;
+  from = of_grant.from;
+  end = of_grant.end;
+  granted = granted;
+  not_before = of_grant.not_before;
+  before_end = of_grant.before_end;
+}
+
 -- a place of a script is of a grant of the script itself, where it is of one among entries behind the script that have no note
 of_front : (space : List ℕ) (script entries : Script) (place : ℕ) → grants_in space entries ≡ []
     → IsOfGrant space (script ++ entries) place → IsOfGrant space script place
@@ -51,14 +63,7 @@ of_front space script entries place none of_grant =
   where
     by : (slice_get script of_grant.end ≡ Some (Granted space of_grant.number of_grant.from))
         ⊎ IsBehind script entries of_grant.end (Granted space of_grant.number of_grant.from) → IsOfGrant space script place
-    by (inl front) = record {
-      number = of_grant.number;
-      from = of_grant.from;
-      end = of_grant.end;
-      granted = front;
-      not_before = of_grant.not_before;
-      before_end = of_grant.before_end;
-    }
+    by (inl front) = with_note space (script ++ entries) script place of_grant front
     by (inr behind) = absurd (none_granted space entries behind.within of_grant.number of_grant.from none behind.found)
 
 -- a note that stands alone, at the place of a note, begins where that one does
@@ -78,14 +83,8 @@ of_before_note space script entries number place early none of_grant =
     by : (slice_get (script ++ entries) of_grant.end ≡ Some (Granted space of_grant.number of_grant.from))
         ⊎ IsBehind (script ++ entries) (Granted space number (length script) ∷ []) of_grant.end
         (Granted space of_grant.number of_grant.from) → IsOfGrant space script place
-    by (inl front) = of_front space script entries place none (record {
-      number = of_grant.number;
-      from = of_grant.from;
-      end = of_grant.end;
-      granted = front;
-      not_before = of_grant.not_before;
-      before_end = of_grant.before_end;
-    })
+    by (inl front) = of_front space script entries place none
+        (with_note space ((script ++ entries) ++ Granted space number (length script) ∷ []) (script ++ entries) place of_grant front)
     by (inr behind) =
         let same = note_from space (length script) behind.within of_grant.number number of_grant.from behind.found in
         absurd (omega (arith, early, same, of_grant.not_before))

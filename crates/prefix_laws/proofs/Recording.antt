@@ -46,16 +46,31 @@ none_noted_twice first second none none_behind space =
 
 -- ---- transactions
 
+-- its script has these entries more
+grown_by : (before after : Transaction) (entries : Script) → after.script ≡ before.script ++ entries → ((space : List ℕ) → grants_in space entries ≡ [])
+    → ((version : ℕ) → before.version ≡ Some version → after.version ≡ Some version)
+    → ((key : List ℕ) → covers before.read_ranges key ≡ true → covers after.read_ranges key ≡ true)
+    → ((key : List ℕ) → covers before.write_ranges key ≡ true → covers after.write_ranges key ≡ true) → HasGrown before after
+grown_by before after entries more none taken reads writes = record {
+  entries = entries;
+  more = more;
+  none_noted = none;
+  taken = taken;
+  read_conflict_still = reads;
+  adds_conflict_still = writes;
+}
+
+-- it has the script that it had
+grown_in_place : (before after : Transaction) → after.script ≡ before.script
+    → ((version : ℕ) → before.version ≡ Some version → after.version ≡ Some version)
+    → ((key : List ℕ) → covers before.read_ranges key ≡ true → covers after.read_ranges key ≡ true)
+    → ((key : List ℕ) → covers before.write_ranges key ≡ true → covers after.write_ranges key ≡ true) → HasGrown before after
+grown_in_place before after same taken reads writes =
+    grown_by before after [] (same ∙ sym (append-nil before.script)) (λ space. refl) taken reads writes
+
 -- nothing was done
 pub same_grown : (transaction : Transaction) → HasGrown transaction transaction
-same_grown transaction = record {
-  entries = [];
-  more = sym (append-nil transaction.script);
-  none_noted = λ space. refl;
-  taken = λ version is. is;
-  read_conflict_still = λ key read_conflict. read_conflict;
-  adds_conflict_still = λ key adds_conflict. adds_conflict;
-}
+same_grown transaction = grown_in_place transaction transaction refl (λ version is. is) (λ key is_in. is_in) (λ key is_in. is_in)
 
 -- one was done after the other
 pub grown_twice : (before between after : Transaction) → HasGrown before between → HasGrown between after → HasGrown before after
@@ -70,92 +85,49 @@ grown_twice before between after first second = record {
 
 -- a version is taken
 pub version_grown : (setting : Setting) (transaction : Transaction) → HasGrown transaction (with_version setting transaction)
-version_grown setting transaction = record {
-  entries = [];
-  more = sym (append-nil transaction.script);
-  none_noted = λ space. refl;
-  taken = λ version is. ap (λ taken. Some (unwrap_or taken (last setting.history))) is;
-  read_conflict_still = λ key read_conflict. read_conflict;
-  adds_conflict_still = λ key adds_conflict. adds_conflict;
-}
+version_grown setting transaction =
+    grown_in_place transaction (with_version setting transaction) refl
+    (λ version is. ap (λ taken. Some (unwrap_or taken (last setting.history))) is) (λ key is_in. is_in) (λ key is_in. is_in)
 
 -- a read is answered
 pub answered_grown : (snapshot : Bool) (read : Read) (answer : Answer) (ranges : List KeyRange) (transaction : Transaction)
     → HasGrown transaction (with_read snapshot read answer ranges transaction)
 answered_grown true read answer ranges transaction = same_grown transaction
-answered_grown false read answer ranges transaction = record {
-  entries = HasRead read answer ∷ [];
-  more = refl;
-  none_noted = λ space. refl;
-  taken = λ version is. is;
-  read_conflict_still = covers_more transaction.read_ranges ranges;
-  adds_conflict_still = λ key adds_conflict. adds_conflict;
-}
+answered_grown false read answer ranges transaction =
+    grown_by transaction (with_read false read answer ranges transaction) (HasRead read answer ∷ []) refl (λ space. refl) (λ version is. is)
+    (covers_more transaction.read_ranges ranges) (λ key is_in. is_in)
 
 -- a mutation is written
 pub mutation_grown : (transaction : Transaction) (mutation : Mutation) → HasGrown transaction (with_mutation transaction mutation)
-mutation_grown transaction mutation = record {
-  entries = Wrote mutation (not transaction.skips_write_conflict) ∷ [];
-  more = refl;
-  none_noted = λ space. refl;
-  taken = λ version is. is;
-  read_conflict_still = λ key read_conflict. read_conflict;
-  adds_conflict_still = λ key adds_conflict. adds_conflict;
-}
+mutation_grown transaction mutation =
+    grown_by transaction (with_mutation transaction mutation) (Wrote mutation (not transaction.skips_write_conflict) ∷ []) refl (λ space. refl)
+    (λ version is. is) (λ key is_in. is_in) (λ key is_in. is_in)
 
 -- a read or write conflict range is added to it, or its next write is to add none
 pub read_range_grown : (transaction : Transaction) (range : KeyRange) → HasGrown transaction (with_read_range transaction range)
-read_range_grown transaction range = record {
-  entries = [];
-  more = sym (append-nil transaction.script);
-  none_noted = λ space. refl;
-  taken = λ version is. is;
-  read_conflict_still = covers_one_more transaction.read_ranges range;
-  adds_conflict_still = λ key adds_conflict. adds_conflict;
-}
+read_range_grown transaction range =
+    grown_in_place transaction (with_read_range transaction range) refl (λ version is. is) (covers_one_more transaction.read_ranges range)
+    (λ key is_in. is_in)
 
 pub write_range_grown : (transaction : Transaction) (range : KeyRange) → HasGrown transaction (with_write_range transaction range)
-write_range_grown transaction range = record {
-  entries = [];
-  more = sym (append-nil transaction.script);
-  none_noted = λ space. refl;
-  taken = λ version is. is;
-  read_conflict_still = λ key read_conflict. read_conflict;
-  adds_conflict_still = covers_one_more transaction.write_ranges range;
-}
+write_range_grown transaction range =
+    grown_in_place transaction (with_write_range transaction range) refl (λ version is. is) (λ key is_in. is_in)
+    (covers_one_more transaction.write_ranges range)
 
 pub write_conflict_disabled_grown : (transaction : Transaction) → HasGrown transaction (with_write_conflict_disabled transaction)
-write_conflict_disabled_grown transaction = record {
-  entries = [];
-  more = sym (append-nil transaction.script);
-  none_noted = λ space. refl;
-  taken = λ version is. is;
-  read_conflict_still = λ key read_conflict. read_conflict;
-  adds_conflict_still = λ key adds_conflict. adds_conflict;
-}
+write_conflict_disabled_grown transaction =
+    grown_in_place transaction (with_write_conflict_disabled transaction) refl (λ version is. is) (λ key is_in. is_in) (λ key is_in. is_in)
 
 -- a version is set where none was taken
 pub set_version_grown : (transaction : Transaction) (version : ℕ) → transaction.version ≡ None
     → HasGrown transaction (record transaction { version = Some version })
-set_version_grown transaction version none = record {
-  entries = [];
-  more = sym (append-nil transaction.script);
-  none_noted = λ space. refl;
-  taken = λ other is. absurd cc;
-  read_conflict_still = λ key read_conflict. read_conflict;
-  adds_conflict_still = λ key adds_conflict. adds_conflict;
-}
+set_version_grown transaction version none =
+    grown_in_place transaction (record transaction { version = Some version }) refl (λ other is. absurd cc) (λ key is_in. is_in) (λ key is_in. is_in)
 
 -- it has another phase
 pub phase_grown : (transaction : Transaction) (phase : Phase) → HasGrown transaction (with_phase transaction phase)
-phase_grown transaction phase = record {
-  entries = [];
-  more = sym (append-nil transaction.script);
-  none_noted = λ space. refl;
-  taken = λ version is. is;
-  read_conflict_still = λ key read_conflict. read_conflict;
-  adds_conflict_still = λ key adds_conflict. adds_conflict;
-}
+phase_grown transaction phase =
+    grown_in_place transaction (with_phase transaction phase) refl (λ version is. is) (λ key is_in. is_in) (λ key is_in. is_in)
 
 -- ---- acts
 
