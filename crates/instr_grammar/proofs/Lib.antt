@@ -4,6 +4,7 @@ pub mod ElementsAgain
 pub mod Hexadecimal
 pub mod Instructions
 pub mod NameLists
+pub mod NameTable
 pub mod Operands
 pub mod Parts
 pub mod Rows
