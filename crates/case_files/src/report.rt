@@ -14,10 +14,11 @@ pub struct Report {
 }
 
 impl Report {
+    /// Makes the report on no case.
     pub fn new(alloc: Global) -> Report
-        ensures none { result.all ≡ 0 }
+        ensures all { result.all ≡ 0 }
         ensures passed { result.passed ≡ 0 }
-        ensures same { string_bytes result.differences ≡ [] }
+        ensures differences { string_bytes result.differences ≡ [] }
     {
         Report {
             all: 0,
