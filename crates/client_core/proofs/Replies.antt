@@ -1,4 +1,4 @@
--- No step replies that memory ran out.
+-- The reply of each step fits its request, and none says that memory ran out.
 use Rattle.std.proofs.Common.{◌≡◌, ℕ, Bool, true, false, cond, List, [], ◌∷◌, ◌++◌, length, Option, Some, None, Result, Ok, Err, refl, slice_index_or}
 use Rattle.std.specs.Prelude.{nat_lt}
 use Rattle.database_rules.specs.declared.Code.{Code}
@@ -6,7 +6,7 @@ use Rattle.database_rules.specs.declared.AtomicOp.{AtomicOp}
 use Rattle.database_rules.specs.declared.Phase.{Phase}
 use Rattle.database_rules.specs.declared.Phase.TheVariants as phase
 use Rattle.database_rules.specs.Atomics.{atomic_named}
-use Rattle.database_rules.specs.Databases.{Mutation, Set, Clear, ClearRange}
+use Rattle.database_rules.specs.Databases.{Database, Mutation, Set, Clear, ClearRange}
 use Rattle.database_rules.specs.Histories.{Setting}
 use Rattle.database_rules.specs.Modes.{lacks_limit}
 use Rattle.database_rules.specs.Reads.{Read, Answer, answer}
@@ -26,11 +26,77 @@ use Rattle.fdb_calls.specs.declared.Request.{Request}
 use Rattle.fdb_calls.specs.declared.Request.TheVariants as request
 use Rattle.fdb_calls.specs.declared.TxnCall.{TxnCall}
 use Rattle.fdb_calls.specs.declared.TxnCall.TheVariants as call
-use Rattle.fdb_calls.specs.Calling.{Called, called, is_fault, in_turn, logs, set_called, reply_of, read_by, read_at_version, read_called, write_by, atomic_by, does_by, commit_by, commit_allowed, commit_at_version, commit_refused, on_error_by, error_handled}
+use Rattle.fdb_calls.specs.Calling.{Called, called, code_of, is_fault, in_turn, logs, set_called, reply_of, read_by, read_at_version, read_called, write_by, atomic_by, does_by, commit_by, commit_allowed, commit_at_version, commit_refused, on_error_by, error_handled}
 use Rattle.machine_rules.specs.declared.TheConstants.{MACHINES}
 use Rattle.machine_rules.specs.Worlds.{World, next_life, newest, has_key_with, transaction_of, with_named, fresh_at_last, called_apart, database_by, and_commit, directory_reply, directory_called, directory_step, refusing, with_drawn, promised, start_by, step}
 use Rattle.client_core.specs.Lives.{drawn_in}
+use Rattle.client_core.specs.Kinds.{tells_value, tells_pairs, fits_call, fits}
 use Rattle.client_core.specs.Stands.{is_no_memory}
+
+-- ---- a read: what holds of each answer that it may have, and of each code, holds of its reply
+
+at_version_so : (P : Reply → Type 0) (code : Option ℕ) (setting : Setting) (transaction : Transaction) (snapshot : Bool) (its_read : Read)
+    → ((database : Database) → P (reply_of (answer its_read database))) → ((refused : Code) → P (reply.Fault refused))
+    → P (read_at_version code setting transaction snapshot its_read).reply
+at_version_so P (Some code) setting transaction snapshot its_read answers refuses = refuses (code_of code)
+at_version_so P None setting transaction snapshot its_read answers refuses = answers (view setting transaction)
+
+read_so : (P : Reply → Type 0) (setting : Setting) (transaction : Transaction) (lacks snapshot : Bool) (its_read : Read)
+    → ((database : Database) → P (reply_of (answer its_read database))) → ((refused : Code) → P (reply.Fault refused))
+    → P (read_called setting transaction lacks snapshot its_read).reply
+read_so P setting transaction lacks snapshot its_read answers refuses = by_code (read_code transaction.phase lacks its_read)
+  where
+    by_code : (code : Option ℕ) → P (read_by code setting transaction snapshot its_read).reply
+    by_code (Some code) = refuses (code_of code)
+    by_code None = at_version_so P (first_failing (late_checks setting (with_version setting transaction) its_read)) setting
+        (with_version setting transaction) snapshot its_read answers refuses
+
+-- ---- a reply fits its request
+
+-- a call's reply fits it
+called_fits : (setting : Setting) (life : ℕ) (transaction : Transaction) (its_call : TxnCall)
+    → fits_call its_call (called setting life transaction its_call).reply ≡ true
+unfolding called answer
+called_fits setting life transaction (call.Get key snapshot) =
+    read_so (λ given. tells_value given ≡ true) setting transaction false snapshot (read.Get key) (λ database. refl) (λ refused. refl)
+called_fits setting life transaction (call.GetKey selector snapshot) = refl
+called_fits setting life transaction (call.GetRange begin end options snapshot) =
+    read_so (λ given. tells_pairs given ≡ true) setting transaction (lacks_limit options.mode options.limit) snapshot
+    (read.GetRange begin end options.limit options.reverse) (λ database. refl) (λ refused. refl)
+called_fits setting life transaction (call.GetKeyRange range options snapshot) =
+    read_so (λ given. tells_pairs given ≡ true) setting transaction (lacks_limit options.mode options.limit) snapshot
+    (read.GetKeyRange range.begin range.end options.limit options.reverse) (λ database. refl) (λ refused. refl)
+called_fits setting life transaction (call.Set key value) = refl
+called_fits setting life transaction (call.Clear key) = refl
+called_fits setting life transaction (call.ClearRange range) = refl
+called_fits setting life transaction (call.Atomic name key operand) = refl
+called_fits setting life transaction (call.ReadConflict range) = refl
+called_fits setting life transaction (call.WriteConflict range) = refl
+called_fits setting life transaction call.NoWriteConflict = refl
+called_fits setting life transaction call.ReadVersion = refl
+called_fits setting life transaction (call.SetReadVersion version) = refl
+called_fits setting life transaction call.CommittedVersion = refl
+called_fits setting life transaction call.Versionstamp = refl
+called_fits setting life transaction call.Commit = refl
+called_fits setting life transaction (call.OnError code) = refl
+called_fits setting life transaction call.Reset = refl
+called_fits setting life transaction call.Cancel = refl
+
+-- the reply of each step fits its request
+pub step_fits : (world : World) (given : Request) → fits given (step world given).reply ≡ true
+unfolding step
+step_fits world (request.New name) = refl
+step_fits world (request.On name its_call) =
+    let named = with_named world name in
+    called_fits named.setting (next_life named) (transaction_of named name) its_call
+step_fits world (request.Database its_call) = refl
+step_fits world (request.Directory name layer kind args) = refl
+step_fits world (request.Log prefix entries) = refl
+step_fits world (request.PollStamp life) = refl
+step_fits world (request.PollEmpty prefix) = refl
+step_fits world (request.Start prefix) = refl
+
+-- ---- no reply is NoMemory
 
 -- it isn't replied to with NoMemory
 abbrev Speaks : Called → Type 0
@@ -41,19 +107,11 @@ answer_speaks (read.ValueIs value) = refl
 answer_speaks (read.KeyIs key) = refl
 answer_speaks (read.PairsAre pairs) = refl
 
-at_version_speaks : (code : Option ℕ) (setting : Setting) (transaction : Transaction) (snapshot : Bool) (its_read : Read)
-    → Speaks (read_at_version code setting transaction snapshot its_read)
-at_version_speaks (Some code) setting transaction snapshot its_read = refl
-at_version_speaks None setting transaction snapshot its_read = answer_speaks (answer its_read (view setting transaction))
-
 read_speaks : (setting : Setting) (transaction : Transaction) (lacks snapshot : Bool) (its_read : Read)
     → Speaks (read_called setting transaction lacks snapshot its_read)
-read_speaks setting transaction lacks snapshot its_read = by_code (read_code transaction.phase lacks its_read)
-  where
-    by_code : (code : Option ℕ) → Speaks (read_by code setting transaction snapshot its_read)
-    by_code (Some code) = refl
-    by_code None = at_version_speaks (first_failing (late_checks setting (with_version setting transaction) its_read)) setting
-        (with_version setting transaction) snapshot its_read
+read_speaks setting transaction lacks snapshot its_read =
+    read_so (λ given. is_no_memory given ≡ false) setting transaction lacks snapshot its_read
+    (λ database. answer_speaks (answer its_read database)) (λ refused. refl)
 
 write_speaks : (code : Option ℕ) (transaction : Transaction) (mutation : Mutation) → Speaks (write_by code transaction mutation)
 write_speaks (Some code) transaction mutation = refl

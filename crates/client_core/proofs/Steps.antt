@@ -27,7 +27,8 @@ use Rattle.client_core.specs.Contents.{IsOnDatabase, TookStart}
 use Rattle.machine_rules.specs.Runs.{start_prefix}
 use Rattle.machine_rules.specs.declared.TheConstants.{MACHINES}
 use Rattle.client_core.proofs.Calls.{few_commits, first_commits, commit_commits, logs_in_place}
-use Rattle.client_core.proofs.Replies.{step_speaks}
+use Rattle.client_core.specs.Kinds.{fits}
+use Rattle.client_core.proofs.Replies.{step_fits, step_speaks}
 
 appended_counts : (first second : List Commit) → length second ≤ 1 → length (first ++ second) ≤ length first + 1
 appended_counts first second few = subst (λ n. n ≤ length first + 1) (sym (length-append first second)) (omega arith)
@@ -279,6 +280,16 @@ taken_speaks core after started left_started words left given its_reply commits 
     let stands : KeepsWorld core world =
     record { options = sound.stands.options; keeps = sound.stands.keeps; transactions = sound.stands.transactions; lives = sound.stands.lives } in
     ap is_no_memory (takes world stands refl (λ place. refl)).took.reply_is ∙ step_speaks world given
+
+-- the reply fits the request
+pub taken_fits : (core after : ContentsModel) (started left_started : List (List ℕ)) (words left : ℕ → ℕ) (given : Request)
+    (its_reply : Reply) (commits : ℕ) → TakesWhole core after started left_started words left given its_reply
+    → IsSound core commits → fits given its_reply ≡ true
+taken_fits core after started left_started words left given its_reply commits takes sound =
+    let world : World = record sound.world { started = started; words = words } in
+    let stands : KeepsWorld core world =
+    record { options = sound.stands.options; keeps = sound.stands.keeps; transactions = sound.stands.transactions; lives = sound.stands.lives } in
+    ap (fits given) (takes world stands refl (λ place. refl)).took.reply_is ∙ step_fits world given
 
 -- a core that is sound has versions to spare
 pub sound_enough : (core : ContentsModel) (applied counted : ℕ) → applied < 2 ^ 62 → IsSound core (applied + 1)

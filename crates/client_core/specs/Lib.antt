@@ -3,3 +3,4 @@ pub mod Sound
 pub mod Contents
 pub mod Lives
 pub mod Directories
+pub mod Kinds

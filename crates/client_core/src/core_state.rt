@@ -67,6 +67,7 @@ impl Model for Core {
 }
 
 impl Core {
+    ghost use Rattle.client_core.specs.Kinds.{fits};
     ghost use Rattle.client_core.specs.Stands.{StandsFor, Answers, KeepsHistory, is_no_memory};
 
     /// Loads a core: these pairs are its first commit, and machine 0 is started by these arguments. Of two
@@ -156,6 +157,8 @@ impl Core {
         ensures spent { self.new.is_spent ≡ is_no_memory result }
         ensures stays_spent { self.old.is_spent ≡ true → result ≡ Reply.NoMemory }
         ensures applied { self.new.applied ≡ self.old.applied + 1 }
+        // A read of a named transaction is replied to with what it reads or with a code, and its committed version always is told.
+        ensures fits { fits request.now result ≡ true }
         // A machine more was started exactly where the reply to a start says so, and never more than may be.
         ensures started { HasStarted (start_prefix request.now) result self.old.started self.new.started }
     {

@@ -4,7 +4,7 @@ use Rattle.client_core.specs.Sound.{IsSound}
 use Rattle.client_core.specs.Stands.{CoreModel, StandsFor, is_no_memory}
 use Rattle.client_core.specs.Contents.{core_of, model_of}
 use Rattle.client_core.proofs.Kept.{history_kept}
-use Rattle.client_core.proofs.Steps.{sound_enough, sound_later, sound_taken, stands_counted, taken_speaks, whole_answers}
+use Rattle.client_core.proofs.Steps.{sound_enough, sound_later, sound_taken, stands_counted, taken_fits, taken_speaks, whole_answers}
 use Rattle.client_core.proofs.core_state.Core.apply.Goals as goal
 
 pub take-requires : goal.take-requires
@@ -33,6 +33,15 @@ returns-in-Ok-clause-spent g c =
     c.take.new.machines (g.W.Words.words c.args.words.now) (g.W.Words.words c.take.new.words) c.args.request.now c.in-Ok.reply (applied + 1)
     (λ world stands started has. c.in-Ok.ensures.step world stands started has)
     (sound_later its (applied + 1) (applied + 1) (applied + 1) (omega arith) (c.self.invariant c.if-self.false)))
+
+pub returns-in-Ok-clause-fits : goal.returns-in-Ok-clause-fits
+returns-in-Ok-clause-fits g c =
+    let its = model_of c.self.inside.contents in
+    let applied = c.self.inside.contents.applied in
+    taken_fits (record its { applied = applied + 1 }) (model_of c.take.new.contents) c.self.inside.machines
+    c.take.new.machines (g.W.Words.words c.args.words.now) (g.W.Words.words c.take.new.words) c.args.request.now c.in-Ok.reply (applied + 1)
+    (λ world stands started has. c.in-Ok.ensures.step world stands started has)
+    (sound_later its (applied + 1) (applied + 1) (applied + 1) (omega arith) (c.self.invariant c.if-self.false))
 
 pub returns-in-Ok-clause-history : goal.returns-in-Ok-clause-history
 returns-in-Ok-clause-history g c = λ none setting keeps.
