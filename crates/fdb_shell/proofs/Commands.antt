@@ -1,5 +1,5 @@
 -- What the requests of a command left is what its row of the table says.
-use Rattle.std.proofs.Common.{◌≡◌, ℕ, Bool, true, false, List, [], ◌∷◌, ◌++◌, Some, None, Result, Ok, Err, refl, sym, ap, subst, ◌∙◌, append_assoc, true≢false}
+use Rattle.std.proofs.Common.{◌≡◌, ℕ, Bool, true, false, List, [], ◌++◌, Some, None, Result, Ok, Err, refl, sym, ap, subst, ◌∙◌, append_assoc, true≢false}
 use Rattle.std.specs.Prelude.{codes, Option}
 use Rattle.fdb_calls.specs.declared.TxnCall.{TxnCall}
 use Rattle.fdb_calls.specs.declared.TxnCall.TheVariants as call
@@ -16,7 +16,7 @@ use Rattle.fdb_shell.specs.declared.session.Session.{Session}
 use Rattle.fdb_shell.specs.declared.session.Stop.{Stop}
 use Rattle.fdb_shell.specs.declared.session.Stop.TheVariants as stop
 use Rattle.fdb_shell.specs.Doing.{Stands, IsSession, IsAnswered, LetThrough, Asks, HasDone, Does, HasLeft, Leaves}
-use Rattle.fdb_shell.proofs.Doing.{done_through, done_silently, done_on, does_on, does_stopped, followed_on, leaves_by}
+use Rattle.fdb_shell.proofs.Doing.{done_through, done_silently, does_on, does_stopped, followed_on, leaves_by}
 
 -- ---- requests under the one name
 

@@ -5,3 +5,4 @@ pub mod Lines
 pub mod Steps
 pub mod Within
 pub mod Tops
+mod Layers

@@ -1,11 +1,11 @@
 -- The lines of what was read: those that were answered, and the front of the next one.
-use Rattle.std.proofs.Common.{◌≡◌, ℕ, zero, suc, ◌+◌, ◌-◌, ◌<◌, ◌≤◌, Bool, true, false, ◌==◌, cond, List, [], ◌∷◌, ◌++◌, length, map, take, Option, Some, None, refl, sym, ap, subst, ◌∙◌, append_assoc, arith}
-use Rattle.std.specs.Prelude.{flat_map, slice_get}
+use Rattle.std.proofs.Common.{◌≡◌, ℕ, suc, ◌+◌, ◌-◌, ◌≤◌, true, false, ◌==◌, List, [], ◌∷◌, ◌++◌, length, map, take, Some, refl, sym, ap, subst, ◌∙◌, append_assoc, arith}
+use Rattle.std.specs.Prelude.{slice_get}
 use Rattle.std.specs.List.{AllByRecursion, filter}
 use Rattle.std.proofs.lemmas.Bool.{eqb-true}
 use Rattle.std.proofs.lemmas.List.{append-nil, take_at}
 use Rattle.std.proofs.lemmas.Grind.{flat_map-append}
-use Rattle.line_rules.specs.Reading.{Line, with_first, lines_of}
+use Rattle.line_rules.specs.Reading.{Line, lines_of}
 use Rattle.line_rules.proofs.Lines.{IsFeedless, IsFeedless-append, whole_first}
 use Rattle.fdb_shell.specs.Limits.{line_limit, input_limit}
 use Rattle.fdb_shell.specs.Outcomes.{lines_in, whole_lines_in, lines_before, IsWithin}

@@ -1,14 +1,13 @@
 -- What a byte of the input, and its end, make of where reading stands.
-use Rattle.std.proofs.Common.{◌≡◌, ℕ, ◌+◌, ◌-◌, ◌<◌, ◌≤◌, true, false, ◌==◌, List, [], ◌∷◌, ◌++◌, length, map, Option, Some, None, Result, Ok, Err, refl, sym, ap, subst, ◌∙◌, arith}
+use Rattle.std.proofs.Common.{◌≡◌, ℕ, ◌+◌, ◌-◌, ◌≤◌, false, ◌==◌, List, [], ◌∷◌, ◌++◌, length, map, Option, Some, None, Result, Ok, Err, refl, sym, ap, subst, ◌∙◌, arith}
 use Rattle.std.specs.Prelude.{slice_get, OnOk}
-use Rattle.std.specs.List.{AllByRecursion}
 use Rattle.std.specs.Io.KnownBytes.{Keeps, Appends, Consumes, IsAtEnd}
-use Rattle.std.proofs.KnownBytes.{Appends-nil, Consumes-nil, Consumes-trans, Consumes-kept}
-use Rattle.std.proofs.lemmas.List.{append-nil, length-append, nil_from_length}
+use Rattle.std.proofs.KnownBytes.{Appends-nil, Consumes-nil}
+use Rattle.std.proofs.lemmas.List.{append-nil, length-append}
 use Rattle.outside.specs.Streams.{AppendsFront}
 use Rattle.line_rules.specs.Reading.{Line, TooLong, TooMany, lines_of}
 use Rattle.line_rules.proofs.Lines.{IsFeedless}
-use Rattle.shell_rules.specs.Sessions.{Session, printed_for, after_lines, answered, first_session}
+use Rattle.shell_rules.specs.Sessions.{printed_for, after_lines, answered, first_session}
 use Rattle.fdb_shell.specs.declared.position.Reading.{Reading}
 use Rattle.fdb_shell.specs.declared.reading.Halt.{Halt}
 use Rattle.fdb_shell.specs.declared.reading.Halt.TheVariants as halt

@@ -1,7 +1,6 @@
 -- What the shell's statuses say, by how its reading ended.
-use Rattle.std.proofs.Common.{◌≡◌, ℕ, ◌<◌, ◌-◌, ◌≤◌, ◌⊎◌, inl, inr, List, [], ◌∷◌, ◌++◌, length, take, drop, Option, Some, None, Result, Ok, Err, refl, sym, ap, subst, ◌∙◌, arith}
-use Rattle.std.specs.Prelude.{codes}
-use Rattle.std.specs.Io.KnownBytes.{Appends, Consumes}
+use Rattle.std.proofs.Common.{◌≡◌, ℕ, ◌-◌, ◌⊎◌, inl, inr, List, take, drop, Option, Some, None, Err, refl, subst, arith}
+use Rattle.std.specs.Io.KnownBytes.{Consumes}
 use Rattle.std.proofs.lemmas.List.{take-append-drop}
 use Rattle.outside.specs.Counts.{Rose}
 use Rattle.line_rules.specs.Reading.{Fault, TooLong, TooMany}
@@ -9,7 +8,7 @@ use Rattle.err_lines.specs.Told.{IsTold}
 use Rattle.shell_rules.specs.Sessions.{shell, first_session}
 use Rattle.fdb_shell.specs.declared.reading.Halt.{Halt}
 use Rattle.fdb_shell.specs.declared.reading.Halt.TheVariants as halt
-use Rattle.fdb_shell.specs.Outcomes.{all_answered, past_limit, read_fault, write_fault, out_of_memory, limit_text, number_in, lines_in, lines_before, IsStatus, AnswersAll, StopsAtLimit, AnswersWhole, BreaksOff, RunsShort, AppendsSome, IsFaultless, Tells}
+use Rattle.fdb_shell.specs.Outcomes.{all_answered, past_limit, read_fault, write_fault, out_of_memory, limit_text, number_in, lines_in, IsStatus, AnswersAll, StopsAtLimit, AnswersWhole, BreaksOff, RunsShort, AppendsSome, IsFaultless, Tells}
 use Rattle.fdb_shell.specs.Endings.{Finishes, IsRefused, IsShort, IsToldAt}
 use Rattle.fdb_shell.proofs.Printed.{some_of_more}
 use Rattle.fdb_shell.proofs.Within.{past_is_not_within}

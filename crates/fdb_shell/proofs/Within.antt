@@ -1,10 +1,10 @@
 -- What passes a limit is the front of no input that is within the limits.
-use Rattle.std.proofs.Common.{◌≡◌, ℕ, zero, suc, ◌+◌, ◌-◌, ◌<◌, ◌≤◌, true, false, ◌==◌, List, [], ◌∷◌, ◌++◌, length, Option, Some, None, refl, sym, ap, subst, ◌∙◌, arith}
+use Rattle.std.proofs.Common.{◌≡◌, ℕ, zero, suc, ◌-◌, ◌≤◌, true, false, ◌==◌, List, [], ◌∷◌, ◌++◌, length, Some, refl, ap, arith}
 use Rattle.std.specs.Prelude.{slice_get}
 use Rattle.std.specs.List.{AllByRecursion}
 use Rattle.std.proofs.lemmas.List.{length-append}
 use Rattle.line_rules.specs.Reading.{Line, Fault, BadLine, TooLong, TooMany, with_first, lines_of}
-use Rattle.fdb_shell.specs.Limits.{line_limit, input_limit}
+use Rattle.fdb_shell.specs.Limits.{line_limit}
 use Rattle.fdb_shell.specs.Outcomes.{IsWithin, IsPast}
 
 -- among these lines one that is no shorter stands at the place

@@ -1,5 +1,5 @@
 -- What a session of the code stands for, and what its calls leave.
-use Rattle.std.specs.Prelude.{◌≡◌, ⊤, ℕ, Bool, true, false, List, ◌++◌, Result, Ok, Err, decimal}
+use Rattle.std.specs.Prelude.{◌≡◌, ⊤, Bool, true, false, ◌++◌, Result, Ok, Err, decimal}
 use Rattle.outside.specs.Seeds.{words_from}
 use Rattle.fdb_calls.specs.declared.Reply.{Reply}
 use Rattle.fdb_calls.specs.declared.Reply.TheVariants as reply

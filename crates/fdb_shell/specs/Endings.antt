@@ -15,7 +15,7 @@ use Rattle.fdb_shell.specs.declared.reading.Halt.TheVariants as halt
 use Rattle.fdb_shell.specs.declared.session.Session.{Session}
 use Rattle.fdb_shell.specs.Limits.{line_limit}
 use Rattle.fdb_shell.specs.Doing.{IsSession}
-use Rattle.fdb_shell.specs.Outcomes.{past_limit, read_fault, write_fault, out_of_memory, limit_text, lines_in, whole_lines_in, lines_before, IsWithin, Passes, AppendsSome, AnswersAll, StopsAtLimit, AnswersWhole, BreaksOff, RunsShort}
+use Rattle.fdb_shell.specs.Outcomes.{past_limit, read_fault, write_fault, out_of_memory, limit_text, lines_in, lines_before, IsWithin, Passes, AppendsSome, AnswersAll, StopsAtLimit, AnswersWhole, BreaksOff, RunsShort}
 
 -- no byte is a line feed
 abbrev pub HasNoFeed : List ℕ → Type 0

@@ -2,8 +2,9 @@
 //! before the next line is read.
 //!
 //! `shell` is the call; its clauses say what `out` holds at each status, and err. `shell_rules` says what is printed for lines.
-//! From below: `session.rt` does a command on the core (`shell_text` reads and prints its line), `reading.rt` takes the source's bytes one
-//! by one, and `top.rt` has the call.
+//! From below: `session.rt` does a command on the core (`shell_text` reads and prints its line, `shell_recipes` makes the calls of layers,
+//! over `CoreTr`), `limits.rt` holds a line within its limit, `position.rt` says where reading stands, `reading.rt` takes the source's
+//! bytes one by one, `telling.rt` writes the line on err, and `top.rt` has the call.
 //!
 //! # Choices
 //!
@@ -23,4 +24,5 @@ mod session;
 mod telling;
 mod top;
 
+pub use core_tr::CoreTr;
 pub use top::shell;

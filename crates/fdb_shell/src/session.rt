@@ -5,6 +5,7 @@ ghost use Rattle.fdb_calls.specs.declared.TxnCall.TheVariants as call;
 ghost use Rattle.fdb_calls.specs.declared.Request.TheVariants as request;
 ghost use Rattle.machine_rules.specs.Worlds.{World, step};
 ghost use Rattle.shell_rules.specs.Requests.{value_said, pairs_said, version_said, silent, name, made, called, committed, says, read_by, written_by, printed_line, error_line};
+ghost use Rattle.shell_rules.specs.Recipes.{recipe_done};
 ghost use Rattle.shell_rules.specs.Sessions.{Session as State, range_call, shell_arguments, first_session, done, answered};
 ghost use Rattle.fdb_shell.specs.Doing.{IsSession, IsAnswered, Stands, Asks, Does, Leaves};
 ghost use Rattle.fdb_shell.specs.declared.session.Stop.TheVariants.{NoMemory};
@@ -15,7 +16,8 @@ use database_rules::{Api, Mode, RangeOptions};
 use fdb_calls::{Reply, Request, TxnCall};
 use key_bytes::{Bytes, Key, KeyRange, Pairs};
 use outside::PcgWords;
-use shell_rules::Command;
+use shell_recipes::End;
+use shell_rules::{Command, Recipe};
 use shell_text::{
     Unread, add_code, add_error, add_line, add_range, add_value, add_version, command_of,
 };
@@ -241,6 +243,55 @@ impl Session {
         self.read_range(range, limit)
     }
 
+    // Makes a call of a layer.
+    fn call_layer(&mut self, recipe: &Recipe) -> Result<(), Stop>
+        ensures { (world : World) → Stands self.old world → Does result self.old self.new (recipe_done recipe.now world) }
+    {
+        let end = shell_recipes::run(&mut self.core, recipe, &mut self.text)?;
+        match end {
+            End::Done => Ok(()),
+            End::Refused => Err(Stop::Refused),
+        }
+    }
+
+    // Makes a call of a layer that only reads.
+    fn read_layer(&mut self, recipe: &Recipe) -> Result<(), Stop>
+        ensures { (world : World) → Stands self.old world
+            → Does result self.old self.new (read_by self.old.is_open (recipe_done recipe.now) world) }
+    {
+        if self.is_open {
+            return self.call_layer(recipe);
+        }
+        self.make()?;
+        self.call_layer(recipe)
+    }
+
+    // Makes a call of a layer that writes: in the transaction that is open, or in one of its own, which is then committed.
+    fn write_layer(&mut self, recipe: &Recipe) -> Result<(), Stop>
+        ensures { (world : World) → Stands self.old world
+            → Does result self.old self.new (written_by self.old.is_open (recipe_done recipe.now) world) }
+    {
+        if !self.is_open {
+            self.make()?;
+            self.call_layer(recipe)?;
+            return self.commit();
+        }
+        self.call_layer(recipe)?;
+        self.say(b"Done")
+    }
+
+    // Makes a call of a layer, in the transaction that is open or in one of its own.
+    #[tactic(auto, using(crate::proofs::Layers::leaves_writing, crate::proofs::Layers::leaves_reading))]
+    fn recipe(&mut self, recipe: &Recipe) -> Result<(), Stop>
+        ensures { (state : State) → IsSession self.old state → Leaves result self.old self.new (done state (Command.Recipe recipe.now)) }
+    {
+        if recipe.is_writing() {
+            self.write_layer(recipe)
+        } else {
+            self.read_layer(recipe)
+        }
+    }
+
     fn begin(&mut self) -> Result<(), Stop>
         ensures { (state : State) → IsSession self.old state → Leaves result self.old self.new (done state Command.Begin) }
     {
@@ -287,6 +338,7 @@ impl Session {
             Command::Set { key, value } => self.write(TxnCall::Set { key, value }),
             Command::Clear { key } => self.write(TxnCall::Clear { key }),
             Command::ClearRange { range } => self.write(TxnCall::ClearRange { range }),
+            Command::Recipe { recipe } => self.recipe(&recipe),
         }
     }
 

@@ -5,7 +5,7 @@ use Rattle.line_rules.specs.Printing.{printable_but}
 use Rattle.dump_reading.specs.Spellings.{byte_at}
 use Rattle.dump_reading.specs.Fields.{number_at, value_after}
 use Rattle.shell_rules.specs.declared.command.Command.TheVariants as command
-use Rattle.shell_rules.specs.Commands.{command_of, command_named, get_of, get_range_of, set_of, clear_of}
+use Rattle.shell_rules.specs.Commands.{command_of, command_named, recipe_named, get_of, get_range_of, set_of, clear_of}
 use Rattle.shell_rules.specs.Tokens.{token, spelled_up_to, bytes_in, number_in}
 use Rattle.shell_rules.specs.Sessions.{shell, printed_for, answered, done}
 
@@ -34,11 +34,11 @@ reads_7 = refl
 -- ---- no commands: an empty line, another name, two spaces, a space at the end, a token too many, a spelling that is none
 
 empty : command_of [] ≡ None
-unfolding command_of command_named
+unfolding command_of command_named recipe_named
 empty = refl
 
 frob : command_of (codes "frob") ≡ None
-unfolding command_of command_named
+unfolding command_of command_named recipe_named
 frob = refl
 
 two_spaces : command_of (codes "get  a") ≡ None
@@ -76,7 +76,7 @@ line text = text ++ 10 ∷ []
 
 asks_nothing : shell (codes "commit" ∷ codes "frob" ∷ codes "reset" ∷ [])
     ≡ line (codes "ERROR: No active transaction") ++ line (codes "ERROR: bad command") ++ line (codes "ERROR: No active transaction")
-unfolding printed_for answered done command_of command_named
+unfolding printed_for answered done command_of command_named recipe_named
 asks_nothing = refl
 
 -- ---- tokens

@@ -1,4 +1,5 @@
 pub mod Tokens
 pub mod Commands
 pub mod Requests
+pub mod Recipes
 pub mod Sessions

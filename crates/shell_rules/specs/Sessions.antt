@@ -10,6 +10,8 @@ use Rattle.machine_rules.specs.Worlds.{World, begun}
 use Rattle.shell_rules.specs.declared.command.Command.{Command}
 use Rattle.shell_rules.specs.declared.command.Command.TheVariants as command
 use Rattle.shell_rules.specs.Commands.{command_of}
+use Rattle.shell_rules.specs.declared.recipe.Recipe.{Recipe}
+use Rattle.shell_rules.specs.Recipes.{is_writing, recipe_done}
 use Rattle.shell_rules.specs.Requests.{Did, says, printed_line, error_line, value_said, pairs_said, silent, made, called, committed, followed, read_by, written_by}
 
 -- a session: its world, and whether a transaction is open
@@ -62,6 +64,11 @@ reads session act = and_is_open session.is_open (read_by session.is_open act ses
 abbrev pub writes : Session → (World → Did) → Answered
 writes session act = and_is_open session.is_open (written_by session.is_open act session.world)
 
+-- a call of a layer writes or only reads
+abbrev pub layer_by : (is_writing : Bool) → Session → (World → Did) → Answered
+layer_by true session act = writes session act
+layer_by false session act = reads session act
+
 unfoldable pub done : Session → Command → Answered
 done session command.Begin = begun_by session.is_open session
 done session command.Commit = committed_by session.is_open session
@@ -71,6 +78,7 @@ done session (command.GetRange range limit) = reads session (called pairs_said (
 done session (command.Set key value) = writes session (called silent (call.Set key value))
 done session (command.Clear key) = writes session (called silent (call.Clear key))
 done session (command.ClearRange range) = writes session (called silent (call.ClearRange range))
+done session (command.Recipe recipe) = layer_by (is_writing recipe) session (recipe_done recipe)
 
 -- ---- lines
 

@@ -1,5 +1,6 @@
 //! What a line asks.
 
+use crate::recipe::Recipe;
 use key_bytes::{Bytes, Key, KeyRange};
 
 /// A command of the shell.
@@ -21,4 +22,6 @@ pub enum Command {
     Clear { key: Key },
     /// Clears the keys of a range.
     ClearRange { range: KeyRange },
+    /// Makes a call of a layer.
+    Recipe { recipe: Recipe },
 }

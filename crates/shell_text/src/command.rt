@@ -4,6 +4,7 @@ ghost use Rattle.std.specs.Prelude.{◌∷◌};
 ghost use Rattle.shell_rules.specs.Commands.{command_of, command_named, get_of, get_range_of, set_of, clear_of, clear_range_of, limit_of, lone};
 ghost use Rattle.shell_text.specs.Reading.{words_left, Gives};
 
+use crate::recipe::recipe_named;
 use crate::words::{Unread, Words, first_word, next_token, number_in};
 use key_bytes::KeyRange;
 use shell_rules::Command;
@@ -15,8 +16,8 @@ const USUAL_LIMIT: u32 = 25;
 // The greatest number that may say it.
 const GREATEST_LIMIT: u64 = 2_147_483_647;
 
-// Returns a command behind which no word is left.
-fn lone(words: Words<'_>, command: Command) -> Result<Command, Unread>
+/// Returns a command behind which no word is left.
+pub(crate) fn lone(words: Words<'_>, command: Command) -> Result<Command, Unread>
     ensures { Gives (λ command. command) result (lone (words_left words.entry) command) }
 {
     match words {
@@ -126,7 +127,7 @@ fn command_named(alloc: Global, name: &[u8], words: Words<'_>) -> Result<Command
     } else if name == b"clearrange".as_slice() {
         clear_range_of(alloc, words)
     } else {
-        Err(Unread::Bad)
+        recipe_named(alloc, name, words)
     }
 }
 

@@ -5,9 +5,12 @@
 #![tactic(auto)]
 
 mod command;
+mod recipe;
+mod recipe_text;
 mod text;
 mod words;
 
 pub use command::command_of;
+pub use recipe_text::{add_bytes, add_counts, add_item, add_size};
 pub use text::{add_code, add_error, add_line, add_range, add_value, add_version};
 pub use words::Unread;

@@ -12,9 +12,9 @@ use itoa::Buffer;
 use key_bytes::{Bytes, Pair, Pairs};
 use std::alloc::AllocError;
 
-// Adds the token of bytes.
+/// Adds the token of bytes.
 #[tactic(auto, unfolding(shell_rules::specs::Tokens::token))]
-fn add_token(to: &mut Bytes, bytes: &[u8]) -> Result<(), AllocError>
+pub(crate) fn add_token(to: &mut Bytes, bytes: &[u8]) -> Result<(), AllocError>
     ensures { OnOk result (to.new ≡ to.old ++ token bytes.now) }
 {
     match bytes {

@@ -1,5 +1,5 @@
 use Rattle.std.proofs.Common.{Err, ap, inl, refl}
-use Rattle.fdb_shell.proofs.Tops.{Ended, complete, ended}
+use Rattle.fdb_shell.proofs.Tops.{complete, ended}
 use Rattle.fdb_shell.proofs.top.shell.Goals as goal
 
 pub returns-in-Ok-clause-all : goal.returns-in-Ok-clause-all

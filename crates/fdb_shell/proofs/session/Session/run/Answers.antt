@@ -43,3 +43,6 @@ unfolding done
 returns-in-ClearRange c = rw c.in-ClearRange.is (λ state is.
     leaves_written _ c.args.self.now _ state (called silent (call.ClearRange c.in-ClearRange.range)) is
     (c.write-in-ClearRange.ensures state.world is.stands))
+
+pub returns-in-Recipe : goal.returns-in-Recipe
+returns-in-Recipe c = rw c.in-Recipe.is c.recipe.ensures

@@ -1,0 +1,4 @@
+pub mod Calls
+pub mod Steps
+mod Answering
+mod Replied

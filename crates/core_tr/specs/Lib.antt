@@ -1,0 +1,3 @@
+pub mod OpNames
+pub mod Standing
+pub mod StandLaws

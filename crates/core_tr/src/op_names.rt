@@ -1,0 +1,27 @@
+//! The names of atomic operations.
+
+ghost use Rattle.std.specs.Prelude.{◌≡◌, true, Some};
+ghost use Rattle.database_rules.specs.Atomics.{atomic_named};
+ghost use Rattle.database_rules.specs.declared.Api.{Api};
+ghost use Rattle.core_tr.specs.OpNames.{is_named};
+
+use database_rules::AtomicOp;
+
+/// Returns the name of an operation that has one name under every API version (bindingApiTester.md, "ATOMIC_OP").
+#[tactic(auto, unfolding(database_rules::specs::Atomics::atomic_named, database_rules::specs::Atomics::named))]
+pub(crate) fn name_of(op: AtomicOp) -> &'static [u8]
+    requires { is_named op ≡ true }
+    ensures { (api : Api) → atomic_named api result.now ≡ Some op }
+{
+    match op {
+        AtomicOp::Add => b"ADD",
+        AtomicOp::BitOr => b"BIT_OR",
+        AtomicOp::BitXor => b"BIT_XOR",
+        AtomicOp::AppendIfFits => b"APPEND_IF_FITS",
+        AtomicOp::Max => b"MAX",
+        AtomicOp::ByteMin => b"BYTE_MIN",
+        AtomicOp::ByteMax => b"BYTE_MAX",
+        AtomicOp::CompareAndClear => b"COMPARE_AND_CLEAR",
+        _ => unreachable!(),
+    }
+}

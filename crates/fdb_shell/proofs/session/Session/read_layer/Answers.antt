@@ -1,0 +1,21 @@
+use Rattle.std.proofs.lemmas.Result.{err_from_is_err_and}
+use Rattle.shell_rules.specs.Requests.{made}
+use Rattle.shell_rules.specs.Recipes.{recipe_done}
+use Rattle.fdb_shell.proofs.Commands.{read_open, read_outside, read_unmade}
+use Rattle.fdb_shell.proofs.session.Session.read_layer.Goals as goal
+
+pub returns-then-self : goal.returns-then-self
+returns-then-self c = λ world stands.
+    read_open c.args.self.now.is_open _ c.args.self.now c.call_layer.new.self (recipe_done c.args.recipe.now) world c.if-self.true (c.call_layer.ensures world stands)
+
+pub returns-in_err-make : goal.returns-in_err-make
+returns-in_err-make c =
+    let p = err_from_is_err_and c.from_residual.result c.from_residual.ensures.1 in
+    rw (p.1, p.2) (λ world stands.
+    read_unmade c.args.self.now.is_open _ c.args.self.now c.make.new.self (recipe_done c.args.recipe.now) world c.if-self.false (c.in_err-make.ensures world stands))
+
+pub returns : goal.returns
+returns c = λ world stands.
+    let made_it = c.in_ok-make.ensures world stands in
+    read_outside c.args.self.now.is_open _ c.args.self.now c.make.new.self c.call_layer-2.new.self (recipe_done c.args.recipe.now) world c.if-self.false made_it
+    (c.call_layer-2.ensures (made world).world made_it.stands)

@@ -1,0 +1,5 @@
+mod Ending
+mod Folding
+mod Assembling
+mod Plain
+mod Runs

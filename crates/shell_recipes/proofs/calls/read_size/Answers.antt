@@ -1,0 +1,16 @@
+use Rattle.std.proofs.Common.{ℕ, List, subst}
+use Rattle.database_rules.specs.Transactions.{view}
+use Rattle.recipe_rules.specs.Turns.{IsAnswered}
+use Rattle.recipe_rules.specs.Blobs.{size_call}
+use Rattle.shell_rules.specs.Recipes.{blob_space, size_said}
+use Rattle.shell_recipes.proofs.Ending.{ends}
+use Rattle.shell_recipes.proofs.calls.read_size.Goals as goal
+
+pub returns-clause-ended : goal.returns-clause-ended
+returns-clause-ended g c setting t stands =
+    ends size_said setting (g.T.Tr.stands c.size-answer.new.tr setting) (size_call (blob_space c.args.blob.now) (view setting t)) t
+    c.args.text.now c.finish_size.new.text c.size-answer.result c.finish_size.result
+    (subst (λ (space : List ℕ). IsAnswered c.size-answer.result setting (g.T.Tr.stands c.size-answer.new.tr setting)
+    (size_call space (view setting t)) t) (c.in_ok-space.ensures {u = tt})
+    (c.size-answer.ensures.sized setting t stands).answered)
+    c.finish_size.ensures

@@ -1,0 +1,20 @@
+use Rattle.std.proofs.Common.{ℕ, List, subst}
+use Rattle.database_rules.specs.Transactions.{view}
+use Rattle.recipe_rules.specs.Turns.{IsAnswered}
+use Rattle.recipe_rules.specs.Multimaps.{subtract_call}
+use Rattle.shell_rules.specs.Recipes.{multi_space, nothing_said}
+use Rattle.shell_recipes.proofs.Ending.{ends}
+use Rattle.shell_recipes.proofs.calls.subtract_pair.Goals as goal
+
+pub returns-clause-ended : goal.returns-clause-ended
+returns-clause-ended g c setting t stands =
+    ends nothing_said setting (g.T.Tr.stands c.subtract-answer.new.tr setting) (subtract_call (multi_space c.args.multi.now) c.args.key.now c.args.value.now (view setting t)) t
+    c.args.text.now c.finish.new.text c.subtract-answer.result c.finish.result
+    (subst (λ (space : List ℕ). IsAnswered c.subtract-answer.result setting (g.T.Tr.stands c.subtract-answer.new.tr setting)
+    (subtract_call space c.args.key.now c.args.value.now (view setting t)) t) (c.in_ok-space.ensures {u = tt})
+    (subst (λ (bytes : List ℕ). IsAnswered c.subtract-answer.result setting (g.T.Tr.stands c.subtract-answer.new.tr setting)
+    (subtract_call c.in_ok-space.space.prefix c.args.key.now bytes (view setting t)) t) c.as_slice-2.ensures
+    (subst (λ (bytes : List ℕ). IsAnswered c.subtract-answer.result setting (g.T.Tr.stands c.subtract-answer.new.tr setting)
+    (subtract_call c.in_ok-space.space.prefix bytes c.as_slice-2.result.now (view setting t)) t) c.as_slice.ensures
+    (c.subtract-answer.ensures.subtracted setting t stands).answered)))
+    c.finish.ensures
