@@ -1,6 +1,6 @@
 -- What the counts are after an add and after a subtract.
 use Rattle.std.proofs.Common.{◌≡◌, ℕ, zero, suc, ◌+◌, ◌-◌, ◌<◌, ◌≤◌, ◌^◌, Bool, true, false, cond, not, ◌&&◌, List, [], ◌∷◌, ◌++◌, length, Option, Some, None, Result, Ok, Err, refl, sym, ap, ◌∙◌, subst, arith}
-use Rattle.std.specs.Prelude.{◌==◌, nat_lt, bytes_eq, OnOk}
+use Rattle.std.specs.Prelude.{◌==◌, nat_lt, bytes_eq, OnOk, IfOk}
 use Rattle.std.specs.Int.{w64, to_le_bytes, from_le_bytes}
 use Rattle.std.specs.Option.{option_map}
 use Rattle.std.specs.FinMap as finite
@@ -20,7 +20,7 @@ use Rattle.fdb_tuple.specs.Tuples.{Elements, Empty, Single, Bytes, IsTuple}
 use Rattle.fdb_tuple.specs.Reading.{read_tuple}
 use Rattle.fdb_tuple.specs.Spelling.{spelling, string_spelled}
 use Rattle.fdb_tuple.proofs.ReadLaws.{read_tuple_again}
-use Rattle.database_rules.specs.Databases.{Database, Mutation, Set, Clear}
+use Rattle.database_rules.specs.Databases.{Database, Set, Clear}
 use Rattle.database_rules.specs.Histories.{Setting}
 use Rattle.database_rules.specs.Reads.{Get, GetKeyRange}
 use Rattle.database_rules.specs.Transactions.{Transaction, view}
@@ -31,10 +31,11 @@ use Rattle.recipe_rules.specs.declared.Count.{Count}
 use Rattle.recipe_rules.specs.declared.fault.RecipeFault.{RecipeFault}
 use Rattle.recipe_rules.specs.declared.fault.RecipeFault.TheVariants as fault
 use Rattle.recipe_rules.specs.declared.TheConstants.{GREATEST_COUNT}
-use Rattle.recipe_rules.specs.Turns.{Turn, Call, turned_by, acts, acts_behind, ending, view_after, is_inside, space_begin, space_end, IsAnswered, KeepsAll}
-use Rattle.recipe_rules.specs.Multimaps.{pair_key, count_said, count_at, count_of, IsRecounted, one_more, sets_count, add_call, IsAdded, there, lowers, subtract_call, IsSubtracted, key_space, counts_in, values_call, AreValues}
+use Rattle.recipe_rules.specs.Turns.{Call, replying, turned_by, acts, acts_behind, ending, view_after, is_inside, space_begin, space_end, IsAnswered, KeepsAll}
+use Rattle.recipe_rules.specs.Multimaps.{pair_key, count_said, count_at, count_of, IsRecounted, one_more, sets_count, add_call, IsAdded, there, lowers, subtract_call, IsSubtracted, key_space, counts_in, values_call, AreCountsOf, AreValues}
 use Rattle.recipe_rules.proofs.Seeing.{readable_after, set_value, clear_value}
 use Rattle.recipe_rules.proofs.Pairs.{SameBut}
+use Rattle.recipe_rules.proofs.Listing.{counts_listed}
 use Rattle.recipe_rules.proofs.Calling.{each_through, none_acted, SpareOutside, others_kept, apart, all_kept}
 
 -- ---- keys of pairs
@@ -305,7 +306,23 @@ values_kept space key setting t = by (counts_in (key_space space key) _)
     by (Ok counts) = all_kept setting _ t
     by (Err fault) = all_kept setting _ t
 
+counts_told : (result : Result (List Count) RecipeFault) (setting : Setting) (stands : Transaction → Type 0) (space key : List ℕ) (t : Transaction)
+    → IsAnswered result setting stands (values_call space key (view setting t)) t
+    → IfOk result (λ counts. AreCountsOf counts space key (view setting t))
+unfolding values_call
+counts_told (Ok counts) setting stands space key t answered =
+    counts_listed space key (view setting t) counts (by (counts_in (key_space space key) _) answered.1)
+  where
+    by : (found : Result (List Count) RecipeFault) → ending (turned_by (λ counts. replying counts) found) ≡ Ok counts → found ≡ Ok counts
+    by (Ok others) is = is
+    by (Err f) is = absurd cc
+counts_told (Err fault) setting stands space key t answered = tt
+
 -- the values by what the call answers
 pub values_told : (result : Result (List Count) RecipeFault) (setting : Setting) (stands : Transaction → Type 0) (space key : List ℕ) (t : Transaction)
     → IsAnswered result setting stands (values_call space key (view setting t)) t → AreValues result setting stands space key t
-values_told result setting stands space key t answered = record { answered = answered; same = values_kept space key setting t }
+values_told result setting stands space key t answered = record {
+  answered = answered;
+  counts = counts_told result setting stands space key t answered;
+  same = values_kept space key setting t;
+}

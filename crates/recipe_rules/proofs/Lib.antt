@@ -3,6 +3,8 @@ pub mod Pairs
 pub mod Calling
 pub mod Indexes
 pub mod Queueing
+pub mod Alone
+pub mod Listing
 pub mod Counting
 pub mod Pieces
 pub mod Writing

@@ -1,10 +1,12 @@
 -- A map from pairs of a key and a value to counts, in a subspace: the count of a pair stands at the packed tuple of the two, as 8
 -- bytes, the lowest first. A pair that stands nowhere has the count 0.
-use Rattle.std.specs.Prelude.{◌≡◌, ℕ, suc, zero, ◌+◌, ◌-◌, Bool, true, false, ◌&&◌, ◌==◌, if◌then◌else◌, List, [], ◌∷◌, ◌++◌, length, nat_lt, Option, Some, None, Result, Ok, Err, OnOk, IfOk, bytes_eq}
+use Rattle.std.specs.Prelude.{◌≡◌, ℕ, suc, zero, ◌+◌, ◌-◌, ◌<◌, false, ◌&&◌, ◌==◌, if◌then◌else◌, List, [], ◌∷◌, ◌++◌, length, map, nat_lt, Option, Some, None, Result, Ok, Err, OnOk, IfOk, bytes_eq}
 use Rattle.std.specs.Int.{w64, to_le_bytes, from_le_bytes}
 use Rattle.std.specs.Option.{option_map}
+use Rattle.std.specs.List.{AllByRecursion}
+use Rattle.std.specs.List.Sorted.{IsStrictlySortedBy}
 use Rattle.std.specs.FinMap as finite
-use Rattle.key_bytes.specs.Keys.{IsByteString}
+use Rattle.key_bytes.specs.Keys.{IsByteString, key_cmp}
 use Rattle.fdb_subspace.specs.declared.fault.SubFault.{SubFault}
 use Rattle.fdb_subspace.specs.Inside.{key_read}
 use Rattle.fdb_tuple.specs.Tuples.{Elements, Empty, Single, Bytes}
@@ -147,8 +149,20 @@ values_call space key database =
       turn = turned_by (λ counts. replying counts) (counts_in front (slice database (space_begin front) (space_end front) 0 false));
     }
 
--- it answers so, and every key is seen as before
+-- the count of a value in a list of values with their counts, 0 where it isn't there
+abbrev pub listed : List Count → (value : List ℕ) → ℕ
+listed [] value = 0
+listed (count ∷ counts) value = if bytes_eq value count.value then count.count else listed counts value
+
+-- these are the values of a key in the map with their counts, each once, in order
+pub record AreCountsOf (counts : List Count) (space key : List ℕ) (database : Database) : Type 0 where
+  pub each : (value : List ℕ) → count_of space database key value ≡ Some (listed counts value)
+  pub there : AllByRecursion (λ (count : Count). 0 < count.count) counts
+  pub order : IsStrictlySortedBy key_cmp (map (λ (count : Count). count.value) counts)
+
+-- it answers so, which are the values of the key where it lists some, and every key is seen as before
 pub record AreValues (result : Result (List Count) RecipeFault) (setting : Setting) (stands : Transaction → Type 0) (space key : List ℕ)
     (before : Transaction) : Type 0 where
   pub answered : IsAnswered result setting stands (values_call space key (view setting before)) before
+  pub counts : IfOk result (λ counts. AreCountsOf counts space key (view setting before))
   pub same : KeepsAll setting (acts (values_call space key (view setting before))) before
