@@ -183,7 +183,9 @@ module _ (whole place : ℕ) (inside onward : List ℕ → TupleRead) where
   bytes_first (Some kind.Null) rest value others after is = absurd (no_other elem.Null (onward rest) value others after tt is)
   bytes_first (Some kind.Bytes) rest value others after is = (refl, string_first (string_at whole rest) refl is)
     where
-      string_first : (read : Result (List ℕ × List ℕ) UnpackFault) → string_at whole rest ≡ read → BeginsWith (held (read >>= (λ string. Ok (elem.Bytes string.0, string.1))) >>= going_on inside onward) value others after → IsBehind rest value others after
+      string_first : (read : Result (List ℕ × List ℕ) UnpackFault) → string_at whole rest ≡ read
+          → BeginsWith (held (read >>= (λ string. Ok (elem.Bytes string.0, string.1))) >>= going_on inside onward) value others after
+          → IsBehind rest value others after
       string_first (Ok string) is read =
           let same = same_first string.0 (onward string.1) value others after read in
           record {

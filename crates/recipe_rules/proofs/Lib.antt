@@ -6,5 +6,6 @@ pub mod Queueing
 pub mod Alone
 pub mod Listing
 pub mod Counting
+mod CountRows
 pub mod Pieces
 pub mod Writing

@@ -160,7 +160,7 @@ pub record AreCountsOf (counts : List Count) (space key : List ℕ) (database : 
   pub there : AllByRecursion (λ (count : Count). 0 < count.count) counts
   pub order : IsStrictlySortedBy key_cmp (map (λ (count : Count). count.value) counts)
 
--- it answers so, which are the values of the key where it lists some, and every key is seen as before
+-- it answers so; where it answers values, they are those of the key in the map; and every key is seen as before
 pub record AreValues (result : Result (List Count) RecipeFault) (setting : Setting) (stands : Transaction → Type 0) (space key : List ℕ)
     (before : Transaction) : Type 0 where
   pub answered : IsAnswered result setting stands (values_call space key (view setting before)) before
