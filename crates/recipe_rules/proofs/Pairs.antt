@@ -94,6 +94,22 @@ found_inside space database key inside =
     ∙ ap (λ b. cond b (find key_cmp key (finite.entries database)) None) inside
     ∙ sym (finite.get-entries database key)
 
+-- where each key of the subspace is as before, so are its pairs
+pub pairs_same : (space : List ℕ) (before after : Database)
+    → ((q : List ℕ) → is_inside space q ≡ true → finite.get after q ≡ finite.get before q) → pairs_of space after ≡ pairs_of space before
+pairs_same space before after as_before =
+    pairs_are space after
+    ∙ ap finite.entries (finite.same_map nat_list_cmp_total exact_bytes (kept space after) (kept space before) same)
+    ∙ sym (pairs_are space before)
+  where
+    by : (q : List ℕ) (inside : Bool) → is_inside space q ≡ inside
+        → cond inside (finite.get after q) None ≡ cond inside (finite.get before q) None
+    by q true is = as_before q is
+    by q false is = refl
+
+    same : (q : List ℕ) → finite.get (kept space after) q ≡ finite.get (kept space before) q
+    same q = get_kept space after q ∙ by q (is_inside space q) refl ∙ sym (get_kept space before q)
+
 -- each other key is as before
 abbrev pub SameBut : (key : List ℕ) → (before after : Database) → Type 0
 SameBut key before after = (q : List ℕ) → bytes_eq q key ≡ false → finite.get after q ≡ finite.get before q

@@ -2,7 +2,7 @@
 use Rattle.std.proofs.Common.{◌≡◌, ℕ, ◌+◌, ◌<◌, ◌^◌, T, Bool, true, false, cond, not, List, [], ◌∷◌, ◌++◌, map, take, reverse, length, Option, Some, None, Result, Ok, Err, refl, sym, ap, ◌∙◌, subst, arith}
 use Rattle.std.specs.Prelude.{◌==◌, bytes_eq, OnOk, IfOk}
 use Rattle.std.specs.FinMap as finite
-use Rattle.std.specs.FinMap.Entries.{put, is_sorted}
+use Rattle.std.specs.FinMap.Entries.{is_sorted}
 use Rattle.std.specs.List.{list_all, filter}
 use Rattle.std.proofs.lemmas.Bool.{and_parts, and_from, eqb-false}
 use Rattle.std.proofs.lemmas.List.{length-reverse, reverse-append, take-append-le, map-append}
@@ -24,7 +24,7 @@ use Rattle.recipe_rules.specs.declared.TheConstants.{GREATEST_INDEX}
 use Rattle.recipe_rules.specs.Turns.{Turn, Call, writing, replying, turned_by, acts, acts_behind, ending, IsAnswered, view_after, is_inside, space_begin, space_end, pairs_of, first_pair, KeepsOthers}
 use Rattle.recipe_rules.specs.Queues.{queue_of, index_key, index_in, key_behind, next_key, push_call, popping, pop_call, IsFirst, IsPushed, IsPopped}
 use Rattle.recipe_rules.proofs.Seeing.{readable_after, set_value, clear_value}
-use Rattle.recipe_rules.proofs.Pairs.{AllBelow, below_last, put_last, pairs_sorted, pairs_set, pairs_cleared}
+use Rattle.recipe_rules.proofs.Pairs.{AllBelow, below_last, put_last, SameBut, pairs_sorted, pairs_set, pairs_cleared}
 use Rattle.recipe_rules.proofs.Calling.{each_through, none_acted, SpareOutside, others_kept, apart}
 use Rattle.recipe_rules.proofs.Indexes.{index_lt, index_inside, index_in_is}
 
@@ -51,10 +51,10 @@ has_last pair (next ∷ pairs) =
 -- ---- the key of the next item
 
 -- it lies in the subspace, above each key of it, and the read of the last pair rests on it
-record IsNext (space : List ℕ) (database : Database) (key : List ℕ) : Type 0 where
-  inside : is_inside space key ≡ true
-  above : AllBelow (pairs_of space database) key
-  rested : covers (interval (GetKeyRange (space_begin space) (space_end space) 1 true) database) key ≡ true
+pub record IsNext (space : List ℕ) (database : Database) (key : List ℕ) : Type 0 where
+  pub inside : is_inside space key ≡ true
+  pub above : AllBelow (pairs_of space database) key
+  pub rested : covers (interval (GetKeyRange (space_begin space) (space_end space) 1 true) database) key ≡ true
 
 same_found : (found : Result (List ℕ) RecipeFault) (x y : List ℕ) → found ≡ Ok x → found ≡ Ok y → x ≡ y
 same_found found x y one other = cc
@@ -79,7 +79,7 @@ next_by space last key (Some index) found is = by (index == GREATEST_INDEX) refl
               ∙ index_lt space index (index + 1) (omega arith) small,
         )
 
-next_is : (space : List ℕ) (database : Database) (key : List ℕ) (pairs : Entries) → pairs_of space database ≡ pairs
+pub next_is : (space : List ℕ) (database : Database) (key : List ℕ) (pairs : Entries) → pairs_of space database ≡ pairs
     → next_key space (first_pair (take 1 (reverse pairs))) ≡ Ok key → IsNext space database key
 next_is space database key [] none is =
     let key_is = same_found (Ok (index_key space 0)) (index_key space 0) key refl is in
@@ -109,6 +109,14 @@ next_is space database key (pair ∷ pairs) some is =
 
 -- ---- push
 
+-- a set of it, where each other key stays as it is, puts the value at the end
+pub queue_set : (space : List ℕ) (before after : Database) (key value : List ℕ) → IsNext space before key
+    → finite.get after key ≡ Some value → SameBut key before after → queue_of space after ≡ queue_of space before ++ value ∷ []
+queue_set space before after key value next has others =
+    ap (map (λ (pair : List ℕ × List ℕ). pair.1))
+    (pairs_set space before after key value next.inside has others ∙ put_last (pairs_of space before) key value next.above)
+    ∙ map-append (λ (pair : List ℕ × List ℕ). pair.1) (pairs_of space before) ((key, value) ∷ [])
+
 abbrev read_last : (space : List ℕ) → Act
 read_last space = Reads (GetKeyRange (space_begin space) (space_end space) 1 true) false
 
@@ -125,13 +133,10 @@ set_next space key value setting t next none =
     let t2 = (act_called setting t1 (Writes (Set key value))).transaction in
     let same = after_read setting t read false in
     let readable = readable_after setting t false read key first.passed next.rested in
-    let pairs = pairs_set space (view setting t1) (view setting t2) key value next.inside
-    (set_value setting t1 key value readable second.passed) (λ q other. spared setting (Writes (Set key value)) t1 q (ap not other)) in
     ap (λ u. queue_of space (view setting u)) (first.left ∙ second.left ∙ (none_acted setting t2).1)
-    ∙ ap (map (λ (pair : List ℕ × List ℕ). pair.1))
-    (pairs ∙ ap (λ m. put key_cmp key value (pairs_of space m)) same
-    ∙ put_last (pairs_of space (view setting t)) key value next.above)
-    ∙ map-append (λ (pair : List ℕ × List ℕ). pair.1) (pairs_of space (view setting t)) ((key, value) ∷ [])
+    ∙ queue_set space (view setting t1) (view setting t2) key value (subst (λ m. IsNext space m key) (sym same) next)
+    (set_value setting t1 key value readable second.passed) (λ q other. spared setting (Writes (Set key value)) t1 q (ap not other))
+    ∙ ap (λ m. queue_of space m ++ value ∷ []) same
 
 -- a push by the key that was found
 abbrev pushing : (space value : List ℕ) → Result (List ℕ) RecipeFault → Call (Unit {0})
@@ -199,7 +204,7 @@ chosen_first p (e ∷ es) pair pairs is = by (p e.0) refl is (λ is. chosen_firs
     by false takes is others = others is
 
 -- the first key lies in the subspace
-first_inside : (space : List ℕ) (database : Database) (pair : List ℕ × List ℕ) (pairs : Entries) → pairs_of space database ≡ pair ∷ pairs
+pub first_inside : (space : List ℕ) (database : Database) (pair : List ℕ × List ℕ) (pairs : Entries) → pairs_of space database ≡ pair ∷ pairs
     → is_inside space pair.0 ≡ true
 first_inside space database pair pairs is = chosen_first (is_inside space) (finite.entries database) pair pairs is
 

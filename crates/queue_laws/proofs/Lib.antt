@@ -1,0 +1,4 @@
+pub mod Stamps
+pub mod Scripts
+pub mod Commits
+pub mod Runs
