@@ -2,3 +2,4 @@ pub mod Stamps
 pub mod Scripts
 pub mod Commits
 pub mod Runs
+pub mod Rows
