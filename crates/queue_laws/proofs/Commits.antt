@@ -9,7 +9,7 @@ use Rattle.database_rules.specs.Databases.{Database, do_all}
 use Rattle.database_rules.specs.Histories.{Commit, History, after_commits, at}
 use Rattle.history_laws.specs.Whole.{AreLegal, RunsWhole, fell_between}
 use Rattle.recipe_rules.specs.Queues.{queue_of}
-use Rattle.queue_laws.specs.Queues.{AreOfQueue, ComeOnce, DidItsScript, ItemsComeOnce, LegalItemsComeOnce, NoneFell, RunWhole, commits_from}
+use Rattle.queue_laws.specs.Laws.{AreOfQueue, ComeOnce, DidItsScript, ItemsComeOnce, LegalItemsComeOnce, NoneFell, RunWhole, commits_from}
 use Rattle.queue_laws.proofs.Scripts.{once_then, commit_once}
 
 -- ---- commits that ran whole
@@ -66,7 +66,7 @@ at_later history version count =
     ∙ after_append (take version history) (commits_from version count history) finite.empty
 
 pub legal_once : LegalItemsComeOnce
-legal_once history space version count pushed popped legal did of_queue none =
+legal_once history space version count pushed popped legal of_queue did none =
     subst (λ database. ComeOnce space (at history version) database pushed popped) (sym (at_later history version count))
     (items_once space (at history version) (commits_from version count history) pushed popped of_queue did
     (ran_whole count (take version history) (drop version history) (at history version) (legal_behind version [] history finite.empty legal.legal) none))

@@ -3,3 +3,4 @@ pub mod Scripts
 pub mod Commits
 pub mod Runs
 pub mod Rows
+pub mod Calls

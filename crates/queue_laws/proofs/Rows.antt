@@ -19,7 +19,8 @@ use Rattle.history_laws.specs.Whole.{fell_between}
 use Rattle.recipe_rules.specs.Turns.{is_inside, pairs_of, space_begin, space_end}
 use Rattle.recipe_rules.specs.Queues.{index_in, queue_of}
 use Rattle.recipe_rules.proofs.Pairs.{pairs_cleared, pairs_same, pairs_set}
-use Rattle.queue_laws.specs.Queues.{AreOfQueue, IsOfQueue, RunWhole, first_read, last_read}
+use Rattle.queue_laws.specs.Laws.{AreOfQueue, RunWhole}
+use Rattle.queue_laws.specs.Scripts.{IsOfQueue, first_read, last_read}
 
 -- ---- the pairs of a subspace
 

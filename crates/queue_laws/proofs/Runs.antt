@@ -1,19 +1,18 @@
--- In every run each commit past the loaded pairs did what its script wrote, so that the law holds there by the scripts alone.
-use Rattle.std.proofs.Common.{◌≡◌, ◌≤◌, ℕ, zero, suc, List, [], ◌∷◌, ◌++◌, take, drop, refl, sym, ap, subst, arith}
+-- Each request keeps that commits did what their scripts wrote, so that in every run the law holds by the scripts alone.
+use Rattle.std.proofs.Common.{◌≤◌, ℕ, zero, suc, List, [], ◌∷◌, ◌++◌, take, drop, refl, arith}
 use Rattle.std.specs.Prelude.{⊤}
 use Rattle.std.specs.List.{AllByRecursion}
-use Rattle.command_rules.specs.declared.args.RunArgs.{RunArgs}
-use Rattle.database_rules.specs.Histories.{Commit, History, loaded, stamp_of}
+use Rattle.database_rules.specs.Histories.{Commit, History, stamp_of}
 use Rattle.database_rules.specs.Transactions.{Transaction, with_version}
 use Rattle.fdb_calls.specs.Calling.{commit_of, next_version}
 use Rattle.machine_rules.specs.Held.{HoldsIn}
 use Rattle.machine_rules.specs.Runs.{start}
-use Rattle.machine_rules.specs.Worlds.{begun}
+use Rattle.machine_rules.specs.Worlds.{World, begun}
 use Rattle.machine_rules.proofs.Keeping.{IsKept}
-use Rattle.machine_rules.proofs.Requests.{begun_holds}
+use Rattle.machine_rules.proofs.Requests.{request_keeps}
 use Rattle.machine_rules.proofs.Runs.{run_keeps}
 use Rattle.history_laws.proofs.Legal.{runs_legal}
-use Rattle.queue_laws.specs.Queues.{DidItsScript, RunsItemsComeOnce, commits_from}
+use Rattle.queue_laws.specs.Laws.{AreBegunWithScripts, AreScriptsKept, DidItsScript, HasScripts, RunsItemsComeOnce, commits_from}
 use Rattle.queue_laws.proofs.Commits.{legal_once}
 
 -- ---- lists
@@ -35,28 +34,17 @@ all_dropped (suc count) (commit ∷ commits) did = all_dropped count commits did
 
 -- ---- what each step keeps
 
--- a first commit, and others that did what their scripts wrote
-record IsGrown (history : History) : Type 0 where
-  first : Commit
-  later : List Commit
-  is : history ≡ first ∷ later
-  did : AllByRecursion DidItsScript later
-
 -- nothing is asked of an open transaction
 abbrev IsHeld : History → Transaction → Type 0
 IsHeld history transaction = ⊤
 
-grown_more : (history : History) (commit : Commit) → IsGrown history → DidItsScript commit → IsGrown (history ++ commit ∷ [])
-grown_more history commit grown did = record {
-  first = grown.first;
-  later = grown.later ++ commit ∷ [];
-  is = ap (λ earlier. earlier ++ commit ∷ []) grown.is;
-  did = all_more grown.later commit grown.did did;
-}
+has_more : (history : History) (commit : Commit) → HasScripts history → DidItsScript commit → HasScripts (history ++ commit ∷ [])
+has_more [] commit has did = absurd (let some = has.some in omega (arith, some))
+has_more (first ∷ later) commit has did = record { some = omega arith; did = all_more later commit has.did did }
 
-law_kept : IsKept IsGrown IsHeld
+law_kept : IsKept HasScripts IsHeld
 law_kept = record {
-  calls = λ setting grown. record {
+  calls = λ setting has. record {
     acts = record {
       taken = λ t held. tt;
       read = λ t snapshot read reached held. tt;
@@ -69,29 +57,34 @@ law_kept = record {
     read_conflict = λ t range held. tt;
     phase = λ t phase held. tt;
   };
-  allocators = λ setting grown t space words held. tt;
+  allocators = λ setting has t space words held. tt;
   later = λ history more t held. tt;
-  commit = λ setting t grown none held.
-      grown_more setting.history (commit_of (stamp_of (next_version setting)) setting (with_version setting t)) grown
+  commit = λ setting t has none held.
+      has_more setting.history (commit_of (stamp_of (next_version setting)) setting (with_version setting t)) has
       (record { version = next_version setting; is = refl });
 }
 
-begun_held : (pairs : List (List ℕ × List ℕ)) (arguments : RunArgs) → HoldsIn IsGrown IsHeld (begun pairs arguments)
-begun_held pairs arguments =
-    begun_holds IsGrown IsHeld pairs arguments (begun pairs arguments).words (record { first = loaded pairs; later = []; is = refl; did = tt })
+pub scripts_begin : AreBegunWithScripts
+scripts_begin pairs arguments = record { some = omega arith; did = tt }
+
+holds : (world : World) → HasScripts world.setting.history → HoldsIn HasScripts IsHeld world
+holds world has = record { grown = has; held = λ name t found. tt }
+
+pub scripts_kept : AreScriptsKept
+scripts_kept world given has = (request_keeps HasScripts IsHeld law_kept world given (holds world has)).there.grown
 
 -- ---- the law
 
--- each commit behind a version past the first did what its script wrote
-all_did : (history : History) (version count : ℕ) → IsGrown history → 1 ≤ version → AllByRecursion DidItsScript (commits_from version count history)
-all_did history zero count grown past = absurd (omega (arith, past))
-all_did history (suc version) count grown past =
-    subst (λ history. AllByRecursion DidItsScript (commits_from (suc version) count history)) (sym grown.is)
-    (all_taken count (drop version grown.later) (all_dropped version grown.later grown.did))
+-- each commit behind a version past the first did its script
+all_did : (history : History) (version count : ℕ) → HasScripts history → 1 ≤ version → AllByRecursion DidItsScript (commits_from version count history)
+all_did history zero count has past = absurd (omega (arith, past))
+all_did [] (suc version) count has past = absurd (let some = has.some in omega (arith, some))
+all_did (first ∷ later) (suc version) count has past = all_taken count (drop version later) (all_dropped version later has.did)
 
 pub runs_once : RunsItemsComeOnce
 runs_once pairs arguments order run space version count pushed popped small few is past of_queue none =
     let history = run.world.setting.history in
-    let after = run_keeps IsGrown IsHeld law_kept order (start pairs arguments) run (begun_held pairs arguments) is in
-    legal_once history space version count pushed popped (runs_legal pairs arguments order run small few is)
-    (all_did history version count after.there.grown past) of_queue none
+    let begins = holds (begun pairs arguments) (scripts_begin pairs arguments) in
+    let after = run_keeps HasScripts IsHeld law_kept order (start pairs arguments) run begins is in
+    legal_once history space version count pushed popped (runs_legal pairs arguments order run small few is) of_queue
+    (all_did history version count after.there.grown past) none

@@ -19,7 +19,8 @@ use Rattle.recipe_rules.specs.Turns.{is_inside, pairs_of, first_pair}
 use Rattle.recipe_rules.specs.Queues.{next_key, queue_of}
 use Rattle.recipe_rules.proofs.Pairs.{pairs_same, pairs_cleared}
 use Rattle.recipe_rules.proofs.Queueing.{next_is, queue_set, first_inside}
-use Rattle.queue_laws.specs.Queues.{ComeOnce, DidItsScript, IsOfQueue, LeavesAlone, first_read, last_read}
+use Rattle.queue_laws.specs.Laws.{ComeOnce, DidItsScript}
+use Rattle.queue_laws.specs.Scripts.{IsOfQueue, LeavesAlone, first_read, last_read}
 use Rattle.queue_laws.proofs.Stamps.{unmodified, filled_unmodified}
 
 -- ---- one write more
