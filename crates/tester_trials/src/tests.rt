@@ -3,6 +3,7 @@ use history_laws::{runs_are_legal, steps_are_legal};
 use line_laws::bad_places_are_longest_fronts;
 use outside::{MemSink, MemSource, OpenGate};
 use prefix_laws::prefixes_are_apart;
+use queue_laws::{queue_items_come_once, scripts_tell_of_queues};
 use std::alloc::{AllocError, Global};
 use std::sync::Wait;
 use std::test::Fail;
@@ -115,7 +116,9 @@ fn laws_do_nothing(rt: HostRuntime) -> Result<(), Fail> {
     directories_are_found();
     machines_weave_to_a_run();
     prefixes_are_apart();
+    queue_items_come_once();
     runs_are_legal();
+    scripts_tell_of_queues();
     steps_are_legal();
     threads_gather_to_a_run();
     turns_are_one();
