@@ -1,5 +1,7 @@
 //! Each call of each layer, over a transaction on an empty store.
 
+mod lines;
+
 use conflict_ranges::WriteIndex;
 use fdb_subspace::Subspace;
 use key_bytes::{Bytes, Pairs};

@@ -10,7 +10,7 @@ use key_bytes::{Bytes, Key, KeyRange, Pair, Pairs};
 use key_map::KeyMap;
 use range_read::{
     Mode, OrderedView, RangeFault, RangeOptions, Selector, Taken, all, is_full, lacks_limit, page,
-    resolve,
+    resolve, start_key,
 };
 use std::alloc::{AllocError, Global};
 use std::test::Fail;
@@ -113,6 +113,12 @@ fn first_unselected(alloc: Global) -> Result<Option<usize>, AllocError> {
 #[test]
 fn selects_by_place(rt: HostRuntime) -> Result<(), Fail> {
     assert_eq!(rt; first_unselected(rt.alloc())?, None);
+    let selector = Selector {
+        key: key_of(rt.alloc(), b"d")?,
+        or_equal: true,
+        offset: 1,
+    };
+    assert_eq!(rt; start_key(&selector)?.as_slice(), b"d\x00".as_slice());
     Ok(())
 }
 
