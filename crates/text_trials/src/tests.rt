@@ -1,4 +1,5 @@
 mod atomics;
+mod cases;
 mod dumps;
 mod keys;
 mod lines;

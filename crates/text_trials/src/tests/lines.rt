@@ -1,8 +1,9 @@
 //! Lines that are read as an input and written as a dump.
 
 use dump_text::{
-    EndWord, Form, Input, Line, LineFault, Order, read_lines, write_error_line, write_item_line,
-    write_line, write_machine_line, write_order_line, write_pair_line, write_printable,
+    EndWord, Form, Input, InputLine, Line, LineFault, Order, Stop, first_line, is_below_top,
+    read_fields, read_lines, read_text, write_error_line, write_item_line, write_line,
+    write_machine_line, write_order_line, write_pair_line, write_printable,
 };
 use key_bytes::Bytes;
 use std::alloc::{AllocError, Global};
@@ -196,5 +197,35 @@ fn written_lines(rt: HostRuntime) -> Result<(), Fail> {
     assert!(rt; is_written(rt.alloc())?);
     assert_eq!(rt; first_other_word(), None);
     assert_eq!(rt; order_of_two(rt.alloc())?, (2, 5));
+    Ok(())
+}
+
+// ---- parts of a line
+
+// Whether the fields of a line of a pair are `a` and a zero byte.
+fn are_its_fields(alloc: Global, line: &InputLine<'_>) -> Result<bool, LineFault> {
+    if line.is_too_long() || line.bytes.len() < 2 {
+        return Ok(false);
+    }
+    let mut scratch = Vec::new(alloc);
+    let pair = read_fields(alloc, &mut scratch, line, &line.bytes[2..])?;
+    Ok(pair.key.as_slice() == b"a".as_slice() && pair.value.as_slice() == b"\x00".as_slice())
+}
+
+#[test]
+fn parts_of_a_line(rt: HostRuntime) -> Result<(), Fail> {
+    let (line, rest) = first_line(3, b"K a\\=\\x00\nK");
+    assert_eq!(rt; rest, b"K".as_slice());
+    assert_eq!(rt; line.bad_at(2), LineFault::BadLine { line: 3, place: 2 });
+    assert_eq!(rt; are_its_fields(rt.alloc(), &line), Ok(true));
+    assert_eq!(rt;
+        (is_below_top(b"\xfe\xff"), is_below_top(b"\xff")),
+        (true, false)
+    );
+    let mut scratch = Vec::new(rt.alloc());
+    let text = read_text(rt.alloc(), &mut scratch, b"a\\x00\\=b")?;
+    assert_eq!(rt; text.bytes.as_slice(), b"a\x00".as_slice());
+    assert!(rt; matches!(text.stop, Stop::AtSeparator));
+    assert_eq!(rt; text.left, b"b".as_slice());
     Ok(())
 }
