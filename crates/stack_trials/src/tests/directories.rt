@@ -3,6 +3,7 @@
 use super::*;
 use DirectoryOperation as operation;
 use Lying::{Int, Name, Null, Str};
+use directory_rules::is_partition;
 use directory_types::{DirFault, DirKind, Layer, Path};
 use fdb_calls::{Code, Request};
 use machine_rules::{DirectoryOperation, Object, Scope};
@@ -375,4 +376,11 @@ fn are_named(alloc: Global) -> Result<[bool; 4], AllocError> {
 #[test]
 fn faults_have_names(rt: HostRuntime) {
     assert_eq!(rt; are_named(rt.alloc()), Ok([true; 4]));
+}
+
+#[test]
+fn a_partition_has_its_layer_name(rt: HostRuntime) -> Result<(), AllocError> {
+    let layer_name = Bytes::from_slice(rt.alloc(), b"partition")?;
+    assert!(rt; is_partition(&layer_name) && !is_partition(&Bytes::new(rt.alloc())));
+    Ok(())
 }

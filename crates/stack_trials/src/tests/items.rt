@@ -57,11 +57,37 @@ const OPERATIONS: [Row; 16] = [
     (UnitTests, &[Int(1)], &[Int(1)]),
 ];
 
+// Does an operation by its own call.
+fn call(stack: &mut Stack, operation: StackOperation) -> Result<(), StackFault> {
+    match operation {
+        Dup => stack.dup(90),
+        EmptyStack => stack.empty_stack(90),
+        Swap => stack.swap(90),
+        Pop => stack.pop(90),
+        Sub => stack.sub(90),
+        Concat => stack.concat(90),
+        WaitFuture => stack.wait_future(90),
+        TuplePack => stack.tuple_pack(90),
+        TuplePackWithVersionstamp => stack.tuple_pack_with_versionstamp(90),
+        TupleUnpack => stack.tuple_unpack(90),
+        TupleRange => stack.tuple_range(90),
+        TupleSort => stack.tuple_sort(90),
+        GetApproximateSize => stack.get_approximate_size(90),
+        GetEstimatedRangeSize => stack.get_estimated_range_size(90),
+        UnitTests => stack.unit_tests(90),
+    }
+}
+
+// Whether an operation leaves these items, by `operate` and by its own call.
 fn leaves_on(alloc: Global, stack: &mut Stack, row: Row) -> Result<bool, StackFault> {
     let (operation, items, left) = row;
     lay_all(alloc, stack, items)?;
     stack.operate(operation, 90)?;
-    Ok(are_items(stack, left))
+    let are_left = are_items(stack, left);
+    stack.empty_stack(90)?;
+    lay_all(alloc, stack, items)?;
+    call(stack, operation)?;
+    Ok(are_left && are_items(stack, left))
 }
 
 fn leaves(alloc: Global, row: Row) -> Result<bool, StackFault> {

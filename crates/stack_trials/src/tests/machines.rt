@@ -1,7 +1,10 @@
 //! The machine: its steps, an error that it notes, and the polls of its waits.
 
 use super::*;
+use command_rules::RunArgs;
+use database_rules::DatabaseOptions;
 use fdb_calls::{Code, Reply, Request, TxnCall};
+use machine_rules::{database_options, machine_options};
 use stack_machine::{End, Machine, State, Step};
 
 // What a step answers, as a test writes it.
@@ -164,4 +167,21 @@ fn show(alloc: Global) -> Result<(u16, usize, MachineOptions, bool), AllocError>
 #[test]
 fn a_machine_shows_what_it_was_made_of(rt: HostRuntime) {
     assert_eq!(rt; show(rt.alloc()), Ok((7, 2, options(3), true)));
+}
+
+#[test]
+fn a_run_gives_its_options(rt: HostRuntime) {
+    let arguments = RunArgs {
+        prefix: Bytes::new(rt.alloc()),
+        api: Api::V630,
+        seed: 1,
+        polls: 2,
+        window: Some(3),
+    };
+    let database = DatabaseOptions {
+        api: Api::V630,
+        window: Some(3),
+    };
+    assert_eq!(rt; machine_options(&arguments), options(2));
+    assert_eq!(rt; database_options(&arguments), database);
 }
