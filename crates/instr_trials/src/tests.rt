@@ -4,10 +4,12 @@ use fdb_tuple::Elem;
 use instr_grammar::{
     FieldFault, instruction_of, is_name, prefix_of, write_name, write_prefix, write_push,
 };
+use instr_laws::{calls_undo_each_other, texts_are_instructions};
 use instr_text::{DisFault, LineFault, assemble, disassemble};
 use key_bytes::{Bytes, Pair, Pairs};
 use std::alloc::{AllocError, Global};
 use std::test::Fail;
+use text_commands::{asm, disasm};
 
 // A text, and its pairs or its first fault.
 type Row = (
@@ -152,4 +154,16 @@ fn lines_are_read_and_written(rt: HostRuntime) -> Result<(), Fail> {
     write_name(&mut text, b"POP")?;
     assert_eq!(rt; text.as_slice(), b"@ p'\\xff\nPUSH true\nPOP\n".as_slice());
     Ok(())
+}
+
+#[test]
+fn lines_of_pairs_stand_for_a_text(rt: HostRuntime) {
+    let lines = asm(rt.alloc(), b"@ p\nPOP\n");
+    let text = disasm(rt.alloc(), b"K \\x01p\\x00\\x14\\=\\x02POP\\x00\n");
+    assert!(rt;
+        matches!(&lines, Ok(lines) if lines.as_slice() == b"K \\x01p\\x00\\x14\\=\\x02POP\\x00\n".as_slice())
+    );
+    assert!(rt; matches!(&text, Ok(text) if text.as_slice() == b"@ p\nPOP\n".as_slice()));
+    texts_are_instructions();
+    calls_undo_each_other();
 }
