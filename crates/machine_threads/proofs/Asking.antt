@@ -19,7 +19,7 @@ use Rattle.network.specs.Serving.{replies_of}
 use Rattle.network.specs.Pairing.{receipts_of, AsksAsOne, AsksBy}
 use Rattle.network.proofs.Pairing.{same_test}
 use Rattle.thread_laws.specs.Weaving.{places_of, places_over, replies_at}
-use Rattle.machine_threads.specs.Threaded.{requests_in}
+use Rattle.threaded_machine.specs.Threaded.{requests_in}
 
 -- an Ask is picked by its machine and by its sender, or by neither
 picked_ask : (own its : Bool) (number asking : ℕ) (request : Request) (setter : Setter Reply Wake) (asked : List (ℕ × Request))

@@ -22,7 +22,7 @@ use Rattle.stack_machine.specs.contracts.machine.Machine as machine
 use Rattle.stack_machine.specs.contracts.registers.Registers as registers
 use Rattle.suspended_machine.specs.contracts.suspended.SuspendedMachine as suspended
 use Rattle.machine_threads.proofs.crew.Crew.TheLaws.TheKnot.{send-Crew}
-use Rattle.machine_threads.specs.contracts.threaded.ThreadedMachine as threaded
+use Rattle.threaded_machine.specs.contracts.threaded.ThreadedMachine as threaded
 use Rattle.machine_threads.specs.contracts.crew.Crew as crew
 use Rattle.machine_threads.specs.contracts.team.Ran as ran
 

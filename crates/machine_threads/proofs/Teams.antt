@@ -16,11 +16,11 @@ use Rattle.thread_laws.specs.Alone.{begun_as}
 use Rattle.thread_laws.proofs.Alone.{at_rest_anew, begun_by}
 use Rattle.suspended_machine.specs.declared.suspended.SuspendedMachine.{SuspendedMachine}
 use Rattle.suspended_machine.specs.SuspendedMachines.{progress_of}
-use Rattle.machine_threads.specs.declared.threaded.ThreadedMachine.{ThreadedMachine}
-use Rattle.machine_threads.specs.Threaded.{history_of, machine_in, replies_to, HasEnded, HasStarted, IsLater, IsStartedBy}
+use Rattle.threaded_machine.specs.declared.threaded.ThreadedMachine.{ThreadedMachine}
+use Rattle.threaded_machine.specs.Threaded.{history_of, machine_in, replies_to, HasEnded, HasStarted, IsLater, IsStartedBy}
 use Rattle.machine_threads.specs.Teams.{HasOptionsOf, IsTeamOf}
-use Rattle.machine_threads.proofs.Lists.{Any_back, Any_first, Any_front, prefix_trans}
-use Rattle.machine_threads.proofs.Running.{later_trans}
+use Rattle.threaded_machine.proofs.Lists.{Any_back, Any_first, Any_front, prefix_trans}
+use Rattle.threaded_machine.proofs.Running.{later_trans}
 
 -- a machine that started none
 pub one_team : (machine own : ThreadedMachine) → IsLater machine own → HasEnded own → (history_of own).room ≡ (history_of machine).room

@@ -9,8 +9,8 @@ use Rattle.network.specs.declared.post.Post.{Post}
 use Rattle.network.specs.Serving.{replies_of}
 use Rattle.network.specs.Pairing.{receipts_of, AsksBy, IsTakenWhole}
 use Rattle.suspended_machine.specs.declared.suspended.SuspendedMachine.{SuspendedMachine}
-use Rattle.machine_threads.specs.declared.threaded.ThreadedMachine.{ThreadedMachine}
-use Rattle.machine_threads.specs.Threaded.{history_of, machine_in, replies_to}
+use Rattle.threaded_machine.specs.declared.threaded.ThreadedMachine.{ThreadedMachine}
+use Rattle.threaded_machine.specs.Threaded.{history_of, machine_in, replies_to}
 
 -- the machine of each number stands at that place
 abbrev pub AreNumbered : List ThreadedMachine → Type 0

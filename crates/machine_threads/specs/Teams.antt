@@ -3,8 +3,8 @@ use Rattle.std.specs.Prelude.{◌≡◌, ℕ, List, ◌∷◌}
 use Rattle.std.specs.List.{All, Any}
 use Rattle.request_line.specs.History.{IsInSpan}
 use Rattle.network.specs.Clients.{client_line}
-use Rattle.machine_threads.specs.declared.threaded.ThreadedMachine.{ThreadedMachine}
-use Rattle.machine_threads.specs.Threaded.{history_of, machine_in, HasEnded, HasStarted, IsLater}
+use Rattle.threaded_machine.specs.declared.threaded.ThreadedMachine.{ThreadedMachine}
+use Rattle.threaded_machine.specs.Threaded.{history_of, machine_in, HasEnded, HasStarted, IsLater}
 
 -- one has the options of the other
 abbrev pub HasOptionsOf : ThreadedMachine → ThreadedMachine → Type 0

@@ -10,11 +10,9 @@ ghost use Rattle.network.specs.Clients.{client_line};
 ghost use Rattle.network.specs.Posts.{posts_of, asking_in, cells_in, overs_in};
 ghost use Rattle.network.specs.Serving.{cells_of, replies_of};
 ghost use Rattle.network.specs.Pairing.{receipts_of};
-ghost use Rattle.machine_threads.specs.Threaded.{history_of, shown_by, HasEnded};
+ghost use Rattle.threaded_machine.specs.Threaded.{history_of, shown_by, HasEnded};
 ghost use Rattle.machine_threads.specs.Closing.{AreNumbered, AreSettled};
 
-use crate::refusal::Cause;
-use crate::threaded::ThreadedMachine;
 use fdb_calls::Reply;
 use future_cell::{Receipt, Waiter, Wake, settle_in_place};
 use input_rules::Order;
@@ -22,6 +20,7 @@ use network::{Post, Receipts};
 use request_line::Receiver;
 use std::alloc::{AllocError, Global};
 use suspended_machine::SuspendedMachine;
+use threaded_machine::{Cause, ThreadedMachine};
 
 /// What is left of a machine once its sender was closed.
 #[derive(Drop)]

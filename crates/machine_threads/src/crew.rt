@@ -3,8 +3,8 @@
 ghost use Rattle.std.specs.Prelude.{◌≡◌, ◌++◌, OnOk};
 ghost use Rattle.machine_threads.specs.Crews.{machines_in};
 
-use crate::threaded::ThreadedMachine;
 use std::alloc::{AllocError, Global};
+use threaded_machine::ThreadedMachine;
 
 /// Machines that ran beside one another. The memory that keeps them together was taken before they ran, so all of them come back also
 /// where memory is wanting.

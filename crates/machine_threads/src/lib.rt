@@ -1,28 +1,21 @@
 //! A thread for each machine, over a line to the service that answers.
 //!
-//! A `ThreadedMachine` is a suspended machine, its client, and the waiters of its requests in the order in which it asked. It asks,
-//! waits for the reply and uses it, until a request was answered that a machine was started, or until it has stopped and posts its
-//! Over. `run_machine` runs a machine to its end, and beside it, by fork and join, each machine that it starts, and those that
-//! these start; all of them come back.
+//! `run_machine` runs a machine in its thread (`threaded_machine`) to its end, and beside it, by fork and join, each machine that it
+//! starts, and those that these start; all of them come back.
 //!
-//! `specs/Threaded.antt` says what a machine in its thread has asked and come to: by itself, over the replies that its waiters
-//! have shown. `specs/Teams.antt` says what comes back: who started whom, that all senders are of one line, and that their
+//! `specs/Teams.antt` says what comes back: who started whom, that all senders are of one line, and that their
 //! spans cover the first one's. `settle_machines` closes the senders of all that have ended and settles their waiters;
 //! `specs/Closing.antt` says what is known of each then.
 //!
-//! A machine that can't go on, mostly for want of memory, posts its Over too, and that of a machine that a reply to it said was
-//! started and that isn't run. So all that ran have posted as many Overs as the service's thread awaits: one for the first machine,
-//! and one for each that a reply said was started (`AreOver` in `specs/Crews.antt`). Nothing is refused between a post and its reply.
+//! A machine that can't go on posts its Over too, and the one that it owes. So all that ran have posted as many Overs as the
+//! service's thread awaits: one for the first machine, and one for each that a reply said was started (`AreOver` in
+//! `specs/Crews.antt`).
 //!
 //! # Choices
 //!
 //! - The bound of the recursion is the newest machine number that a branch has seen, which rises with each machine that is
 //!   started. A reply that names no higher number, which no core gives, has a cause of its own (`Cause::StrayStart`): both
 //!   Overs are posted.
-//! - Each Over that is owed is posted on every way out, so that the thread of the core ends: a machine's own, and that of a
-//!   machine that a reply to it said was started and that can't run. A refusal names the machine whose Over is owed
-//!   (`Refused`). Nothing is refused between the post of a request and the use of its reply: what can be taken before is
-//!   taken before.
 //! - Machines come back at a refusal too, kept by boxes that were taken before the fork (`Crew`): a refusal that dropped them
 //!   could say nothing of what they have posted.
 //! - Machines come back in the order of the joins and are sorted by their numbers before their senders are closed. Where
@@ -35,12 +28,9 @@
 
 mod closing;
 mod crew;
-mod refusal;
 mod team;
-mod threaded;
 
 pub use closing::settle_machines;
 pub use crew::Crew;
-pub use refusal::{Cause, Refused};
 pub use team::{Ran, run_machine};
-pub use threaded::ThreadedMachine;
+pub use threaded_machine::{Cause, Refused, ThreadedMachine};

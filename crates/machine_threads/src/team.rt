@@ -4,19 +4,18 @@ ghost use Rattle.std.specs.Prelude.{◌≡◌, ◌≤◌, ◌<◌, ◌+◌, ◌+
 ghost use Rattle.std.specs.Thread.{IsSync};
 ghost use Rattle.machine_rules.specs.declared.TheConstants.{MACHINES};
 ghost use Rattle.suspended_machine.specs.SuspendedMachines.{progress_of, IsSuspended};
-ghost use Rattle.machine_threads.specs.Threaded.{history_of, machine_in, replies_to, overs_of, owed_of, starts_to, IsRunning, IsStartedBy};
+ghost use Rattle.threaded_machine.specs.Threaded.{history_of, machine_in, replies_to, overs_of, owed_of, starts_to, IsRunning, IsStartedBy};
 ghost use Rattle.machine_threads.specs.Crews.{machines_in, overs_of_all, starts_to_all, AreOver};
 ghost use Rattle.machine_threads.specs.Teams.{IsTeamOf};
 
 use crate::crew::{Crew, Places};
-use crate::refusal::{Cause, Refused};
-use crate::threaded::ThreadedMachine;
 use machine_rules::MACHINES;
 use outside::Gate;
 use std::alloc::Global;
 use std::sync::Wait;
 use std::thread::{Threads, join};
 use suspended_machine::SuspendedMachine;
+use threaded_machine::{Cause, Refused, ThreadedMachine};
 
 /// What a machine and those that were run beside it have come to.
 #[derive(Drop)]

@@ -19,8 +19,8 @@ use Rattle.network.specs.Serving.{Serves, cells_of, posts_since, taken_since}
 use Rattle.client_core.specs.Stands.{StandsFor}
 use Rattle.command_rules.specs.declared.args.RunArgs.{RunArgs}
 use Rattle.suspended_machine.specs.declared.suspended.SuspendedMachine.{SuspendedMachine}
-use Rattle.machine_threads.specs.declared.threaded.ThreadedMachine.{ThreadedMachine}
-use Rattle.machine_threads.specs.Threaded.{history_of}
+use Rattle.threaded_machine.specs.declared.threaded.ThreadedMachine.{ThreadedMachine}
+use Rattle.threaded_machine.specs.Threaded.{history_of}
 use Rattle.machine_threads.specs.Teams.{IsTeamOf}
 use Rattle.machine_threads.specs.Closing.{AreSettled}
 use Rattle.threaded_run_laws.specs.declared.service.CoreService.{CoreService}

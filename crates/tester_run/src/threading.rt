@@ -10,7 +10,7 @@ ghost use Rattle.request_line.specs.Line.{closed, receiver_line, taken};
 ghost use Rattle.network.specs.Clients.{client_line};
 ghost use Rattle.network.specs.Posts.{asking_in, cells_in, overs_in, posts_of};
 ghost use Rattle.network.specs.Serving.{cells_of};
-ghost use Rattle.machine_threads.specs.Threaded.{history_of, HasEnded};
+ghost use Rattle.threaded_machine.specs.Threaded.{history_of, HasEnded};
 ghost use Rattle.machine_threads.specs.Closing.{AreSettled};
 ghost use Rattle.tester_run.specs.Driving.{EndsFrom};
 ghost use Rattle.tester_run.specs.Rendered.{Renders};

@@ -31,8 +31,8 @@ use Rattle.thread_laws.proofs.Alone.{anew_started, at_rest_anew, started_begun}
 use Rattle.thread_laws.proofs.Places.{requests_of_places}
 use Rattle.suspended_machine.specs.declared.suspended.SuspendedMachine.{SuspendedMachine}
 use Rattle.suspended_machine.specs.SuspendedMachines.{progress_of}
-use Rattle.machine_threads.specs.declared.threaded.ThreadedMachine.{ThreadedMachine}
-use Rattle.machine_threads.specs.Threaded.{history_of, machine_in, replies_to, requests_in, HasEnded, HasStarted}
+use Rattle.threaded_machine.specs.declared.threaded.ThreadedMachine.{ThreadedMachine}
+use Rattle.threaded_machine.specs.Threaded.{history_of, machine_in, replies_to, requests_in, HasEnded, HasStarted}
 use Rattle.machine_threads.specs.Teams.{HasOptionsOf, IsTeamOf}
 use Rattle.machine_threads.specs.Closing.{AreSettled, IsSettledOf, IsTakenOf}
 use Rattle.machine_threads.proofs.Asking.{answered_by_receipts, asked_by_sender, requests_with_over}

@@ -33,8 +33,8 @@ use Rattle.thread_laws.proofs.Places.{order_of_places}
 use Rattle.thread_laws.proofs.Weaving.{weave_to_a_whole_run}
 use Rattle.suspended_machine.specs.declared.suspended.SuspendedMachine.{SuspendedMachine}
 use Rattle.suspended_machine.specs.SuspendedMachines.{progress_of, IsSuspended}
-use Rattle.machine_threads.specs.declared.threaded.ThreadedMachine.{ThreadedMachine}
-use Rattle.machine_threads.specs.Threaded.{history_of, machine_in, HasEnded, HasStarted}
+use Rattle.threaded_machine.specs.declared.threaded.ThreadedMachine.{ThreadedMachine}
+use Rattle.threaded_machine.specs.Threaded.{history_of, machine_in, HasEnded, HasStarted}
 use Rattle.machine_threads.specs.Teams.{HasOptionsOf}
 use Rattle.machine_threads.specs.Closing.{IsSettledOf, IsTakenOf}
 use Rattle.threaded_run_laws.specs.declared.service.CoreService.{CoreService}

@@ -13,7 +13,7 @@ use Rattle.machine_rules.specs.Runs.{RunsTo, start}
 use Rattle.client_core.specs.Stands.{StandsFor}
 use Rattle.suspended_machine.specs.declared.suspended.SuspendedMachine.{SuspendedMachine}
 use Rattle.suspended_machine.specs.SuspendedMachines.{progress_of, IsSuspended}
-use Rattle.machine_threads.specs.declared.threaded.ThreadedMachine.{ThreadedMachine}
+use Rattle.threaded_machine.specs.declared.threaded.ThreadedMachine.{ThreadedMachine}
 use Rattle.machine_threads.specs.Teams.{IsTeamOf}
 use Rattle.machine_threads.specs.Closing.{AreSettled}
 use Rattle.threaded_run_laws.specs.declared.service.CoreService.{CoreService}

@@ -3,7 +3,7 @@
 ghost use Rattle.std.specs.Prelude.{◌≡◌, IfOk};
 ghost use Rattle.request_line.specs.History.{first_history};
 ghost use Rattle.request_line.specs.Line.{history};
-ghost use Rattle.machine_threads.specs.Threaded.{history_of, IsRunning};
+ghost use Rattle.threaded_machine.specs.Threaded.{history_of, IsRunning};
 
 use database_rules::Api;
 use fdb_calls::{Reply, Request};

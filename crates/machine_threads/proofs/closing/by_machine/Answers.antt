@@ -2,14 +2,14 @@ use Rattle.std.proofs.Common.{◌≡◌, [], refl, ap, ◌∙◌}
 use Rattle.std.proofs.lemmas.List.{length-set}
 use Rattle.std.proofs.lemmas.Iterator.{YieldsList-from_slice, YieldsList-from_zip}
 use Rattle.std.proofs.lemmas.Iterator.Adapters.{YieldsList-from_vec}
-use Rattle.std.proofs.lemmas.Iterator.Consumers.{YieldsList-at, YieldsList-end, YieldsList-turn}
+use Rattle.std.proofs.lemmas.Iterator.Consumers.{YieldsList-at, YieldsList-end}
 use Rattle.std.proofs.lemmas.Option.{slice_get_read}
 use Rattle.std.specs.Global.{Vec}
 use Rattle.fdb_calls.specs.declared.Reply.{Reply}
 use Rattle.future_cell.specs.declared.setter.Receipt.{Receipt}
 use Rattle.future_cell.specs.declared.wake.Wake.{Wake}
 use Rattle.request_line.specs.Taking.{items_of}
-use Rattle.machine_threads.proofs.Settling.{named_below, numbered_receipt, sorted_more, All-at}
+use Rattle.machine_threads.proofs.Settling.{sorted_more, All-at}
 use Rattle.machine_threads.proofs.closing.by_machine.Goals as goal
 
 pub loop-machine-init : goal.loop-machine-init

@@ -5,8 +5,8 @@ use Rattle.std.proofs.lemmas.Iterator.Consumers.{YieldsList-end, YieldsList-turn
 use Rattle.request_line.specs.Line.{receiver_line, closed}
 use Rattle.network.specs.Clients.{client_line}
 use Rattle.machine_threads.specs.declared.closing.Unsettled.{Unsettled}
-use Rattle.machine_threads.specs.declared.threaded.ThreadedMachine.{ThreadedMachine}
-use Rattle.machine_threads.specs.Threaded.{history_of}
+use Rattle.threaded_machine.specs.declared.threaded.ThreadedMachine.{ThreadedMachine}
+use Rattle.threaded_machine.specs.Threaded.{history_of}
 use Rattle.machine_threads.proofs.closing.close_all.Goals as goal
 
 pub close_with-requires : goal.close_with-requires

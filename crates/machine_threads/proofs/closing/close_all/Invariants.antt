@@ -2,8 +2,8 @@ use Rattle.std.proofs.Common.{◌≡◌, ◌<◌, ◌++◌, length, map}
 use Rattle.request_line.specs.Line.{receiver_line, taken, closed}
 use Rattle.request_line.specs.Taking.{Agrees}
 use Rattle.machine_threads.specs.declared.closing.Unsettled.{Unsettled}
-use Rattle.machine_threads.specs.declared.threaded.ThreadedMachine.{ThreadedMachine}
-use Rattle.machine_threads.specs.Threaded.{history_of}
+use Rattle.threaded_machine.specs.declared.threaded.ThreadedMachine.{ThreadedMachine}
+use Rattle.threaded_machine.specs.Threaded.{history_of}
 use Rattle.machine_threads.proofs.closing.close_all.Given as goal
 
 -- the senders of the machines so far were closed

@@ -6,9 +6,9 @@ use Rattle.request_line.specs.Line.{receiver_line, taken}
 use Rattle.network.specs.Clients.{client_line}
 use Rattle.network.specs.Posts.{posts_of}
 use Rattle.machine_threads.specs.declared.closing.Unsettled.{Unsettled}
-use Rattle.machine_threads.specs.declared.threaded.ThreadedMachine.{ThreadedMachine}
-use Rattle.machine_threads.specs.Threaded.{HasEnded}
-use Rattle.machine_threads.specs.Closing.{AreNumbered, AreSettled}
+use Rattle.threaded_machine.specs.declared.threaded.ThreadedMachine.{ThreadedMachine}
+use Rattle.threaded_machine.specs.Threaded.{HasEnded}
+use Rattle.machine_threads.specs.Closing.{AreNumbered}
 use Rattle.machine_threads.proofs.Settling.{asking_within, all_pair_up, all_settled, as_many_receipts, of_these_when_closed, taken_when_closed}
 use Rattle.machine_threads.proofs.closing.settle_machines.Goals as goal
 

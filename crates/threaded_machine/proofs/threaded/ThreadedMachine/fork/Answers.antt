@@ -2,7 +2,7 @@ use Rattle.std.proofs.Common.{subst, sym}
 use Rattle.network.specs.declared.client.Client.{Client}
 use Rattle.network.specs.Clients.{client_history}
 use Rattle.request_line.specs.History.{AreTogether}
-use Rattle.machine_threads.proofs.threaded.ThreadedMachine.fork.Goals as goal
+use Rattle.threaded_machine.proofs.threaded.ThreadedMachine.fork.Goals as goal
 
 pub returns-clause-together : goal.returns-clause-together
 returns-clause-together c =

@@ -20,8 +20,8 @@ use Rattle.machine_rules.specs.Runs.{start_prefix, started_by}
 use Rattle.thread_laws.specs.Alone.{IsAlone, anew, begun_as}
 use Rattle.suspended_machine.specs.declared.suspended.SuspendedMachine.{SuspendedMachine}
 use Rattle.suspended_machine.specs.SuspendedMachines.{progress_of, IsSuspended}
-use Rattle.machine_threads.specs.declared.threaded.ThreadedMachine.{ThreadedMachine}
-use Rattle.machine_threads.specs.declared.refusal.Refused.{Refused}
+use Rattle.threaded_machine.specs.declared.threaded.ThreadedMachine.{ThreadedMachine}
+use Rattle.threaded_machine.specs.declared.refusal.Refused.{Refused}
 
 -- what posts ask, in order
 abbrev pub requests_in : List Post → List Request

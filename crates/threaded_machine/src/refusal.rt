@@ -32,7 +32,7 @@ impl Refused {
     ghost use Rattle.std.specs.Prelude.{◌≡◌};
 
     /// A refusal for this cause.
-    pub(crate) fn new(cause: Cause, owed: Option<u16>) -> Refused
+    pub fn new(cause: Cause, owed: Option<u16>) -> Refused
         ensures cause { result.cause ≡ cause }
         ensures owed { result.owed ≡ owed }
     {

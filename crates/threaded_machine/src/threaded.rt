@@ -12,7 +12,7 @@ ghost use Rattle.machine_rules.specs.Machines.{resumed};
 ghost use Rattle.machine_rules.specs.Runs.{at_rest, start_prefix, started_by};
 ghost use Rattle.thread_laws.specs.Alone.{begun_as};
 ghost use Rattle.suspended_machine.specs.SuspendedMachines.{progress_of, Awaits, IsSuspended};
-ghost use Rattle.machine_threads.specs.Threaded.{history_of, machine_in, replies_to, overs_of, starts_to, owed_by, owed_of, HasEnded, IsLater, IsRunning, IsStartedBy};
+ghost use Rattle.threaded_machine.specs.Threaded.{history_of, machine_in, replies_to, overs_of, starts_to, owed_by, owed_of, HasEnded, IsLater, IsRunning, IsStartedBy};
 
 use crate::refusal::{Cause, Refused};
 use fdb_calls::Reply;
@@ -69,7 +69,7 @@ impl ThreadedMachine {
 
     /// Asks until a machine was started, which comes back at its suspended machine, or this one has stopped. A refusal names the
     /// machine that a reply said was started and that doesn't come back.
-    pub(crate) fn run_until_started<R: Wait, G: Gate>(
+    pub fn run_until_started<R: Wait, G: Gate>(
         &mut self,
         rt: &R,
         alloc: Global,
@@ -129,7 +129,7 @@ impl ThreadedMachine {
     }
 
     /// Posts that the machine is over, which has stopped.
-    pub(crate) fn end<R: Wait>(&mut self, rt: &R)
+    pub fn end<R: Wait>(&mut self, rt: &R)
         requires running { IsRunning self.old }
         requires stopped { self.old.suspended.asks ≡ None }
         ensures ended { HasEnded self.new }
@@ -143,7 +143,7 @@ impl ThreadedMachine {
     }
 
     /// Posts that the machine is over, which can't go on, and before it the Over that it owes, if it owes one.
-    pub(crate) fn give_up<R: Wait>(&mut self, rt: &R, refused: Refused)
+    pub fn give_up<R: Wait>(&mut self, rt: &R, refused: Refused)
         ensures overs { overs_of self.new ≡ overs_of self.old + 1 + owed_of refused }
         ensures starts { starts_to self.new ≡ starts_to self.old }
     {
@@ -155,7 +155,7 @@ impl ThreadedMachine {
     }
 
     /// Makes the machine that this one started, to run beside it. Where memory is wanting, this machine stays as it was.
-    pub(crate) fn fork(
+    pub fn fork(
         &mut self,
         alloc: Global,
         suspended: SuspendedMachine,

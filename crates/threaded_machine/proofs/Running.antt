@@ -27,9 +27,9 @@ use Rattle.thread_laws.specs.Alone.{IsAlone, after_reply, anew, asked_over, begu
 use Rattle.thread_laws.proofs.Alone.{after_reply-anew, one_more}
 use Rattle.suspended_machine.specs.declared.suspended.SuspendedMachine.{SuspendedMachine}
 use Rattle.suspended_machine.specs.SuspendedMachines.{progress_of, IsSuspended}
-use Rattle.machine_threads.specs.declared.threaded.ThreadedMachine.{ThreadedMachine}
-use Rattle.machine_threads.specs.Threaded.{history_of, machine_in, replies_to, requests_in, shown_by, HasAsked, IsLater, IsRunning, IsStartedBy}
-use Rattle.machine_threads.proofs.Lists.{prefix_refl, prefix_trans}
+use Rattle.threaded_machine.specs.declared.threaded.ThreadedMachine.{ThreadedMachine}
+use Rattle.threaded_machine.specs.Threaded.{history_of, machine_in, replies_to, requests_in, shown_by, HasAsked, IsLater, IsRunning, IsStartedBy}
+use Rattle.threaded_machine.proofs.Lists.{prefix_refl, prefix_trans}
 
 -- ---- one Ask more
 
