@@ -7,7 +7,7 @@ ghost use Rattle.std.specs.Map.{values_of};
 ghost use Rattle.key_bytes.specs.Keys.{within};
 ghost use Rattle.machine_rules.specs.Runs.{start_prefix};
 ghost use Rattle.machine_rules.specs.Worlds.{World, HasWords, begun, instruction_pairs, step};
-ghost use Rattle.version_store.specs.Versions.{at, last_of};
+ghost use Rattle.version_store.specs.Versions.{at, last_of, HasFew};
 ghost use Rattle.client_core.specs.Contents.{model_of};
 ghost use Rattle.client_core.specs.Sound.{IsSound, StillKeeps, TookWhole};
 ghost use Rattle.client_core.specs.Stands.{HasStarted, KeepsWorld};
@@ -76,10 +76,13 @@ impl Core {
         ensures begun { IfOk result (λ core. StandsFor core (begun pairs arguments.now)) }
         ensures applied { IfOk result (λ core. core.applied ≡ 0) }
         ensures spent { IfOk result (λ core. core.is_spent ≡ false) }
+        // It holds no more values than pairs at the oldest version that can be read and changes behind it.
+        ensures few { IfOk result (λ core. HasFew core.store) }
     {
         let options = database_options(arguments);
         let mut store = Store::load_with_pruning(alloc, pairs, options.window.is_some())?;
         store.prune(options.lowest(1));
+        store.shows_few();
         let machines = Machines::new(alloc, arguments.prefix.copy()?)?;
         Ok(Core {
             contents: Contents {
@@ -160,6 +163,26 @@ impl Core {
         // A read of a named transaction is replied to with what it reads or with a code, and its committed version always is told.
         ensures fits { fits request.now result ≡ true }
         // A machine more was started exactly where the reply to a start says so, and never more than may be.
+        ensures started { HasStarted (start_prefix request.now) result self.old.started self.new.started }
+        // It holds no more values than pairs at the oldest version that can be read and changes behind it: what a window makes
+        // too old is dropped.
+        ensures few { HasFew self.new.store }
+    {
+        let reply = self.take_request(request, words);
+        self.contents.store.shows_few();
+        reply
+    }
+
+    // Takes a request, as `apply` does.
+    fn take_request<W: Words>(&mut self, request: &Request, words: &mut W) -> Reply
+        requires { self.old.applied < 2 ^ 62 }
+        ensures step { (world : World) → StandsFor self.old world → HasWords world (W.words words.old)
+            → Answers result self.new (W.words words.new) (step world request.now) }
+        ensures history { is_no_memory result ≡ true → KeepsHistory self.old self.new }
+        ensures spent { self.new.is_spent ≡ is_no_memory result }
+        ensures stays_spent { self.old.is_spent ≡ true → result ≡ Reply.NoMemory }
+        ensures applied { self.new.applied ≡ self.old.applied + 1 }
+        ensures fits { fits request.now result ≡ true }
         ensures started { HasStarted (start_prefix request.now) result self.old.started self.new.started }
     {
         self.contents.applied += 1;

@@ -1,5 +1,5 @@
 -- What contracts see of a store: the database at each version.
-use Rattle.std.specs.Prelude.{◌≡◌, ℕ, ◌+◌, ◌^◌, ◌<◌, ◌≤◌, Bool, true, false, List, [], ◌∷◌, length, Option, Some, None, slice_index_or, if◌then◌else◌, is_some, nat_lt}
+use Rattle.std.specs.Prelude.{◌≡◌, ℕ, ◌+◌, ◌^◌, ◌<◌, ◌≤◌, Bool, true, false, List, [], ◌∷◌, length, Option, Some, None, slice_index_or, if◌then◌else◌, nat_lt}
 use Rattle.std.specs.BTreeMap.{is_at}
 use Rattle.std.specs.FinMap as finite
 use Rattle.std.specs.List.{AllZip, filter_map, sum_by}
@@ -52,11 +52,7 @@ last_of versions = versions.last
 unfoldable pub oldest_of : Versions → ℕ
 oldest_of versions = versions.oldest
 
--- whether a prune drops the values that no readable version needs
-unfoldable pub is_pruned : Versions → Bool
-is_pruned versions = is_some versions.dues
-
--- how many values the store holds, all versions together, and removals among them
+-- how many values a store holds, all versions together, and removals among them
 unfoldable pub nodes_of : Versions → ℕ
 nodes_of versions = sum_by length (values_of versions.chains)
 
@@ -69,7 +65,7 @@ later version (given ∷ older) = (if nat_lt version given.0 then 1 else 0) + la
 unfoldable pub later_of : Versions → ℕ → ℕ
 later_of versions version = sum_by (later version) (values_of versions.chains)
 
--- the store holds no more values than there are pairs at its oldest version and changes that came later
+-- a store holds no more values than there are pairs at its oldest version and changes that came later
 unfoldable pub HasFew : Versions → Type 0
 HasFew versions = nodes_of versions ≤ length (finite.entries (at versions (oldest_of versions))) + later_of versions (oldest_of versions)
 

@@ -4,15 +4,16 @@ ghost use Rattle.std.specs.Prelude.{◌≡◌, ◌≤◌, ◌<◌, ℕ, ◌+◌,
 ghost use Rattle.std.specs.Bool.{OnTrue};
 ghost use Rattle.std.specs.Option.{IfSome, IfNone};
 ghost use Rattle.version_store.specs.declared.pruning.Due.{Due};
-ghost use Rattle.version_store.specs.Chains.{chain_of, Sound};
+ghost use Rattle.version_store.specs.Chains.{chain_of, Places, Sound};
 ghost use Rattle.version_store.specs.Dues.{AreNoted, HasRoomFor, IsAfter, IsComplete, Trims};
-ghost use Rattle.version_store.specs.Kept.{KeepsFrom};
+ghost use Rattle.version_store.specs.Kept.{AreFew, AreTrimmed, KeepsFrom};
 
 use crate::chains::len_at;
 use crate::values::Values;
 use key_bytes::{Bytes, Key};
 use slab::Slab;
 use std::alloc::{AllocError, Global};
+use std::collections::btree_map::Range;
 use std::collections::{BTreeMap, VecDeque};
 
 // A change that left something old behind it: its version, the place of its key, and the key where the change removed it.
@@ -23,7 +24,7 @@ pub(crate) struct Due {
     pub(crate) removed: Option<Key>,
 }
 
-// What became old, or will, by version; nothing where the store isn't pruned.
+// What became old, or will, by version; nothing where the store notes none of it.
 #[derive(Drop)]
 pub(crate) struct Dues {
     noting: bool,
@@ -116,8 +117,9 @@ fn settle(tree: &mut BTreeMap<Bytes, u32>, nodes: &mut Slab<Values>, due: &Due, 
     }
 }
 
-// Drops what no version from `oldest` on needs: one step for each change up to that version, and one for each value that goes.
-pub(crate) fn prune_dues(
+// Drops what no version from `oldest` on needs: one step for each change that was noted up to that version, and one for each value
+// that goes.
+fn prune_dues(
     tree: &mut BTreeMap<Bytes, u32>,
     nodes: &mut Slab<Values>,
     dues: &mut Dues,
@@ -131,5 +133,38 @@ pub(crate) fn prune_dues(
 {
     while let Some(due) = dues.pop(oldest) {
         settle(tree, nodes, &due, oldest);
+    }
+}
+
+// Drops what no version from `oldest` on needs of the chain of each place of a span.
+fn trim_span(nodes: &mut Slab<Values>, mut span: Range<'_, Bytes, u32>, oldest: u64)
+    ensures keeps { (places : Places) → KeepsFrom oldest nodes.old.slots places nodes.new.slots places }
+    ensures trimmed { AreTrimmed oldest nodes.new.slots span.entry }
+{
+    while let Some((_, place)) = span.next() {
+        trim_at(nodes, *place, oldest);
+    }
+}
+
+// Drops what no version from `oldest` on needs: where changes are noted, what became old with those up to that version; else it goes
+// over all keys.
+pub(crate) fn prune_values(
+    tree: &mut BTreeMap<Bytes, u32>,
+    nodes: &mut Slab<Values>,
+    dues: &mut Dues,
+    oldest: u64,
+)
+    ensures keeps { KeepsFrom oldest nodes.old.slots tree.old.entries nodes.new.slots tree.new.entries }
+    ensures noting { dues.new.noting ≡ dues.old.noting }
+    ensures complete { (low high next : ℕ) → Sound nodes.old.slots next tree.old.entries
+        → IsComplete low high dues.old nodes.old.slots tree.old.entries
+        → IsComplete (oldest + 1) high dues.new nodes.new.slots tree.new.entries }
+    ensures few { (low high next : ℕ) → Sound nodes.old.slots next tree.old.entries
+        → IsComplete low high dues.old nodes.old.slots tree.old.entries → AreFew oldest nodes.new.slots tree.new.entries }
+{
+    if dues.noting {
+        prune_dues(tree, nodes, dues, oldest);
+    } else {
+        trim_span(nodes, tree.range(..), oldest);
     }
 }

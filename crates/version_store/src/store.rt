@@ -9,7 +9,7 @@ ghost use Rattle.key_bytes.specs.Keys.{key_le, key_lt, within};
 ghost use Rattle.key_map.specs.Ends.{first, last};
 ghost use Rattle.database_rules.specs.Databases.{do_all};
 ghost use Rattle.database_rules.specs.Histories.{loaded};
-ghost use Rattle.version_store.specs.Versions.{at, is_pruned, last_of, later_of, nodes_of, oldest_of, HasFew, IsReadable, IsFaultAt, IsReadyFor};
+ghost use Rattle.version_store.specs.Versions.{at, last_of, later_of, nodes_of, oldest_of, HasFew, IsReadable, IsFaultAt, IsReadyFor};
 ghost use Rattle.version_store.specs.Changed.{changed};
 
 use crate::chains::{add_keys, add_room, count_values, last_present, put_changes, value_at};
@@ -18,7 +18,7 @@ use crate::fault::VersionFault;
 use crate::loading::load_places;
 use crate::merging::merge_runs;
 use crate::pairs_left::{PairsLeft, copied};
-use crate::pruning::{Dues, prune_dues};
+use crate::pruning::{Dues, prune_values};
 use crate::values::Values;
 use key_bytes::{Bytes, Key, Pairs};
 use slab::Slab;
@@ -63,6 +63,7 @@ impl Model for Store {
     ghost use Rattle.version_store.specs.Versions.{Versions};
     ghost use Rattle.version_store.specs.Chains.{chains_of, rooms_of, total, Sound};
     ghost use Rattle.version_store.specs.Dues.{room_in, IsComplete};
+    ghost use Rattle.version_store.specs.Kept.{AreFew};
 
     ghost Value = { Versions };
 
@@ -82,17 +83,18 @@ impl Model for Store {
         × (store.oldest ≤ store.last)
         × (total length store.nodes.slots store.tree.entries ≤ store.given)
         × (store.given < 2 ^ 64)
-        × IsComplete (store.oldest + 1) store.last store.dues store.nodes.slots store.tree.entries };
+        × IsComplete (store.oldest + 1) store.last store.dues store.nodes.slots store.tree.entries
+        × AreFew store.oldest store.nodes.slots store.tree.entries };
 }
 
 impl Store {
     /// Makes the empty map at version 0.
-    #[tactic(auto, unfolding(crate::specs::Versions::last_of, crate::specs::Versions::oldest_of, crate::specs::Versions::at, crate::specs::Versions::database_at, crate::specs::Versions::present, crate::specs::Versions::is_pruned))]
+    #[tactic(auto, unfolding(crate::specs::Versions::last_of, crate::specs::Versions::oldest_of, crate::specs::Versions::at, crate::specs::Versions::database_at, crate::specs::Versions::present))]
     pub fn new(alloc: Global) -> Store
         ensures last { last_of result ≡ 0 }
         ensures oldest { oldest_of result ≡ 0 }
         ensures empty { at result 0 ≡ finite.empty }
-        ensures pruned { is_pruned result ≡ false }
+        ensures few { HasFew result }
     {
         Store {
             alloc,
@@ -107,20 +109,22 @@ impl Store {
     }
 
     /// Loads a store whose first version has these pairs: of two values of one key the later stays. It moves
-    /// the keys and values, and copies none. `prune` drops nothing of it.
+    /// the keys and values, and copies none. `prune` goes over all keys.
     pub fn load(alloc: Global, pairs: Pairs) -> Result<Store, AllocError>
         ensures last { IfOk result (λ store. last_of store ≡ 1) }
         ensures oldest { IfOk result (λ store. oldest_of store ≡ 0) }
         ensures empty { IfOk result (λ store. at store 0 ≡ finite.empty) }
         ensures first { IfOk result (λ store. at store 1
             ≡ do_all (loaded pairs).mutations finite.empty) }
-        ensures pruned { IfOk result (λ store. is_pruned store ≡ false) }
+        ensures loaded { IfOk result (λ store. later_of store 0 ≡ length (finite.entries (at store 1))) }
+        ensures latest { IfOk result (λ store. (version : ℕ) → 1 ≤ version → later_of store version ≡ 0) }
+        ensures few { IfOk result HasFew }
     {
         Store::load_with_pruning(alloc, pairs, false)
     }
 
-    /// Loads a store as `load` does. `prunes` tells whether `prune` shall drop the values that no readable version needs: the
-    /// store then notes each change that leaves such a value behind it, which takes memory.
+    /// Loads a store as `load` does. `prunes` tells whether it is pruned often: the store then notes each change that leaves
+    /// behind it a value that will be needless, which takes memory, and `prune` takes a step for each of these changes alone.
     #[tactic(auto, unfolding(crate::specs::Versions::last_of, crate::specs::Versions::oldest_of, crate::specs::Versions::at))]
     pub fn load_with_pruning(alloc: Global, pairs: Pairs, prunes: bool) -> Result<Store, AllocError>
         ensures last { IfOk result (λ store. last_of store ≡ 1) }
@@ -128,9 +132,9 @@ impl Store {
         ensures empty { IfOk result (λ store. at store 0 ≡ finite.empty) }
         ensures first { IfOk result (λ store. at store 1
             ≡ do_all (loaded pairs).mutations finite.empty) }
-        ensures pruned { IfOk result (λ store. is_pruned store ≡ prunes) }
         ensures loaded { IfOk result (λ store. later_of store 0 ≡ length (finite.entries (at store 1))) }
         ensures latest { IfOk result (λ store. (version : ℕ) → 1 ≤ version → later_of store version ≡ 0) }
+        ensures few { IfOk result HasFew }
     {
         let mut pairs = pairs.into_vec();
         merge_runs(&mut pairs);
@@ -267,8 +271,8 @@ impl Store {
         ensures oldest { oldest_of self.new ≡ oldest_of self.old }
         ensures reads { (version : ℕ) → at self.new version ≡ at self.old version }
         ensures ready { OnOk result (IsReadyFor self.new changes.now) }
-        ensures pruned { is_pruned self.new ≡ is_pruned self.old }
         ensures later { (version : ℕ) → later_of self.new version ≡ later_of self.old version }
+        ensures few { HasFew self.new }
     {
         self.reserved.clear();
         if usize::MAX - self.given < changes.len() {
@@ -298,11 +302,10 @@ impl Store {
             → at self.new version ≡ at self.old version }
         ensures after { at self.new (last_of self.old + 1)
             ≡ changed changes (at self.old (last_of self.old)) }
-        ensures pruned { is_pruned self.new ≡ is_pruned self.old }
         ensures later { (version : ℕ) → version ≤ last_of self.old
             → later_of self.new version ≡ later_of self.old version + length changes }
         ensures latest { (version : ℕ) → last_of self.old < version → later_of self.new version ≡ 0 }
-        ensures few { is_pruned self.new ≡ true → HasFew self.new }
+        ensures few { HasFew self.new }
     {
         let version = self.last + 1;
         self.given += changes.len();
@@ -317,26 +320,32 @@ impl Store {
         self.last = version;
     }
 
-    /// Makes the versions below `oldest` unreadable, and leaves the others as they are. Of a store that was loaded to be pruned
-    /// it drops the values that no readable version needs: one step for each change up to `oldest`, and one for each value
-    /// that goes. What was reserved must be reserved again.
+    /// Makes the versions below `oldest` unreadable, and leaves the others as they are. It drops the values that no readable
+    /// version needs: of a store that notes changes by one step for each change up to `oldest` and one for each value that goes,
+    /// of another in a walk over all keys. What was reserved must be reserved again.
     pub fn prune(&mut self, oldest: u64)
         requires { oldest ≤ last_of self.old }
         ensures oldest { oldest_of self.new ≡ max (oldest_of self.old) oldest }
         ensures last { last_of self.new ≡ last_of self.old }
         ensures reads { (version : ℕ) → oldest_of self.new ≤ version → at self.new version ≡ at self.old version }
-        ensures pruned { is_pruned self.new ≡ is_pruned self.old }
         ensures later { (version : ℕ) → later_of self.new version ≤ later_of self.old version }
-        ensures few { is_pruned self.new ≡ true → HasFew self.new }
+        ensures few { HasFew self.new }
     {
         self.oldest = self.oldest.max(oldest);
-        prune_dues(&mut self.tree, &mut self.nodes, &mut self.dues, self.oldest);
+        prune_values(&mut self.tree, &mut self.nodes, &mut self.dues, self.oldest);
+    }
+
+    /// Shows to a proof that the store holds few values, as it does after each call. It does nothing when it runs.
+    pub fn shows_few(&self)
+        ensures { HasFew self.now }
+    {
+        let _last = self.last;
     }
 
     /// Returns how many values the store holds, all versions together, and removals among them. It goes over all keys.
     pub fn nodes(&self) -> usize
         ensures counts { result ≡ nodes_of self.now }
-        ensures few { is_pruned self.now ≡ true → HasFew self.now }
+        ensures few { HasFew self.now }
     {
         count_values(&self.nodes, self.tree.range(..))
     }

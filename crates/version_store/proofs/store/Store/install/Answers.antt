@@ -2,8 +2,8 @@ use Rattle.std.proofs.Common.{◌+◌, length, sym, ap, subst, ◌∙◌, arith}
 use Rattle.std.proofs.lemmas.List.{length-map}
 use Rattle.version_store.specs.Changed.{change_of, changes_of, changed}
 use Rattle.version_store.specs.Chains.{database_of, AreReady}
-use Rattle.version_store.specs.Versions.{at, is_pruned, last_of, later, later_of, nodes_of, oldest_of, HasFew, IsReadyFor}
-use Rattle.version_store.proofs.Bounds.{few-complete, later-put, pruned-noting, total-later_none}
+use Rattle.version_store.specs.Versions.{at, last_of, later, later_of, nodes_of, oldest_of, HasFew, IsReadyFor}
+use Rattle.version_store.proofs.Bounds.{few-more, later-put, total-later_none}
 use Rattle.version_store.proofs.Notes.{HasRoomFor-IfSome, IsComplete-higher}
 use Rattle.version_store.proofs.Slots.{database_of-later}
 use Rattle.version_store.proofs.store.Store.install.Goals as goal
@@ -45,6 +45,15 @@ invariant_of-self c =
       c.put_changes.ensures.complete (store.oldest + 1) (omega (arith, c.self.invariant.2))
           (IsComplete-higher (store.oldest + 1) store.last (store.last + 1) store.dues store.nodes.slots store.tree.entries (omega arith)
           c.self.invariant.5),
+      few-more store.oldest (length (changes_of c.into_vec.result.items)) store.nodes.slots c.put_changes.new.nodes.slots store.tree.entries
+          (omega (arith, total, length-map c.into_vec.result.items change_of))
+          (omega (
+            arith,
+            c.put_changes.ensures.totals (later store.oldest)
+                (λ value chain. later-put store.oldest (store.last + 1) value chain (omega (arith, c.self.invariant.2))),
+            length-map c.into_vec.result.items change_of,
+          ))
+          (c.put_changes.ensures.before store.oldest (omega (arith, c.self.invariant.2))) c.self.invariant.6,
     )
 
 pub returns-clause-last : goal.returns-clause-last
@@ -70,12 +79,6 @@ returns-clause-after c =
     ∙ ap (changed (changes_of c.into_vec.result.items)) (database_of-later store.nodes.slots store.tree.entries store.last c.self.invariant.0)
     ∙ (λ i. changed (c.into_vec.ensures.same i) (at (c.self.view_is i) (last_of (c.self.view_is i))))
 
-pub returns-clause-pruned : goal.returns-clause-pruned
-unfolding is_pruned
-returns-clause-pruned c =
-    pruned-noting c.put_changes.new.dues ∙ c.put_changes.ensures.noting ∙ sym (pruned-noting c.self.inside.dues)
-    ∙ ap is_pruned c.self.view_is
-
 pub returns-clause-later : goal.returns-clause-later
 unfolding last_of later_of
 returns-clause-later c version earlier =
@@ -94,11 +97,16 @@ returns-clause-latest c version late =
     c.put_changes.ensures.sound
 
 pub returns-clause-few : goal.returns-clause-few
-unfolding at is_pruned later_of nodes_of oldest_of HasFew
-returns-clause-few c pruned =
-    let store = c.self.inside in let new = c.put_changes.new in
-    few-complete store.oldest (store.last + 1) new.dues new.nodes.slots store.tree.entries c.self.invariant.0.rising
-    (c.put_changes.ensures.complete (store.oldest + 1) (omega (arith, c.self.invariant.2))
-    (IsComplete-higher (store.oldest + 1) store.last (store.last + 1) store.dues store.nodes.slots store.tree.entries (omega arith)
-    c.self.invariant.5))
-    pruned
+unfolding at later_of nodes_of oldest_of HasFew
+returns-clause-few c =
+    let store = c.self.inside in
+    let total = c.put_changes.ensures.totals length (λ value chain. omega arith) in
+    few-more store.oldest (length (changes_of c.into_vec.result.items)) store.nodes.slots c.put_changes.new.nodes.slots store.tree.entries
+    (omega (arith, total, length-map c.into_vec.result.items change_of))
+    (omega (
+      arith,
+      c.put_changes.ensures.totals (later store.oldest)
+          (λ value chain. later-put store.oldest (store.last + 1) value chain (omega (arith, c.self.invariant.2))),
+      length-map c.into_vec.result.items change_of,
+    ))
+    (c.put_changes.ensures.before store.oldest (omega (arith, c.self.invariant.2))) c.self.invariant.6

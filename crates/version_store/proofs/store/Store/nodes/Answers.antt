@@ -1,8 +1,7 @@
 use Rattle.std.proofs.Common.{length, ap, subst, ◌∙◌, arith}
 use Rattle.key_map.proofs.Spans.{filter-unbounded}
 use Rattle.version_store.specs.Chains.{total}
-use Rattle.version_store.specs.Versions.{at, is_pruned, later_of, nodes_of, oldest_of, HasFew}
-use Rattle.version_store.proofs.Bounds.{few-complete}
+use Rattle.version_store.specs.Versions.{at, later_of, nodes_of, oldest_of, HasFew}
 use Rattle.version_store.proofs.store.Store.nodes.Goals as goal
 
 pub count_values-requires : goal.count_values-requires
@@ -20,9 +19,5 @@ returns-clause-counts c =
     ∙ ap nodes_of c.self.view_is
 
 pub returns-clause-few : goal.returns-clause-few
-unfolding at is_pruned later_of nodes_of oldest_of HasFew
-returns-clause-few c pruned =
-    let store = c.self.inside in
-    subst HasFew c.self.view_is
-    (few-complete store.oldest store.last store.dues store.nodes.slots store.tree.entries c.self.invariant.0.rising c.self.invariant.5
-    (ap is_pruned c.self.view_is ∙ pruned))
+unfolding at later_of nodes_of oldest_of HasFew
+returns-clause-few c = subst HasFew c.self.view_is c.self.invariant.6

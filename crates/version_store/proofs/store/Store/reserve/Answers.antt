@@ -1,9 +1,10 @@
-use Rattle.std.proofs.Common.{length, sym, ap, subst, refl, ◌∙◌, arith}
+use Rattle.std.proofs.Common.{◌+◌, length, sym, ap, subst, refl, ◌∙◌, arith}
 use Rattle.std.proofs.lemmas.Result.{on_ok_weaker}
 use Rattle.version_store.specs.Chains.{database_of, total, AreReady}
 use Rattle.version_store.specs.Dues.{HasRoomFor}
-use Rattle.version_store.specs.Versions.{at, is_pruned, last_of, later, later_of, oldest_of, IsReadyFor}
-use Rattle.version_store.proofs.Bounds.{pruned-noting}
+use Rattle.version_store.specs.Kept.{AreFew}
+use Rattle.version_store.specs.Versions.{at, last_of, later, later_of, nodes_of, oldest_of, HasFew, IsReadyFor}
+use Rattle.version_store.proofs.Bounds.{few-adds}
 use Rattle.version_store.proofs.Notes.{IfSome-HasRoomFor}
 use Rattle.version_store.proofs.store.Store.reserve.Goals as goal
 
@@ -18,10 +19,6 @@ returns-then-self-len-clause-oldest c = ap oldest_of c.self.view_is
 pub returns-then-self-len-clause-reads : goal.returns-then-self-len-clause-reads
 unfolding at
 returns-then-self-len-clause-reads c version = ap (λ versions. at versions version) c.self.view_is
-
-pub returns-then-self-len-clause-pruned : goal.returns-then-self-len-clause-pruned
-unfolding is_pruned
-returns-then-self-len-clause-pruned c = ap is_pruned c.self.view_is
 
 pub returns-then-self-len-clause-later : goal.returns-then-self-len-clause-later
 unfolding later_of
@@ -40,10 +37,6 @@ unfolding at
 returns-in_err-add_room-clause-reads c version =
     ap (λ nodes. database_of version nodes.slots c.self.inside.tree.entries) c.add_room.ensures.rest_kept
     ∙ ap (λ versions. at versions version) c.self.view_is
-
-pub returns-in_err-add_room-clause-pruned : goal.returns-in_err-add_room-clause-pruned
-unfolding is_pruned
-returns-in_err-add_room-clause-pruned c = ap is_pruned c.self.view_is
 
 pub returns-in_err-add_room-clause-later : goal.returns-in_err-add_room-clause-later
 unfolding later_of
@@ -64,12 +57,6 @@ unfolding at
 returns-in_err-reserve-clause-reads c version =
     ap (λ nodes. database_of version nodes.slots c.self.inside.tree.entries) c.add_room.ensures.rest_kept
     ∙ ap (λ versions. at versions version) c.self.view_is
-
-pub returns-in_err-reserve-clause-pruned : goal.returns-in_err-reserve-clause-pruned
-unfolding is_pruned
-returns-in_err-reserve-clause-pruned c =
-    pruned-noting c.reserve.new.self ∙ c.reserve.ensures.noting ∙ sym (pruned-noting c.self.inside.dues)
-    ∙ ap is_pruned c.self.view_is
 
 pub returns-in_err-reserve-clause-later : goal.returns-in_err-reserve-clause-later
 unfolding later_of
@@ -92,12 +79,6 @@ returns-clause-reads c version =
     ∙ ap (λ nodes. database_of version nodes.slots c.self.inside.tree.entries) c.add_room.ensures.rest_kept
     ∙ ap (λ versions. at versions version) c.self.view_is
 
-pub returns-clause-pruned : goal.returns-clause-pruned
-unfolding is_pruned
-returns-clause-pruned c =
-    pruned-noting c.reserve.new.self ∙ c.reserve.ensures.noting ∙ sym (pruned-noting c.self.inside.dues)
-    ∙ ap is_pruned c.self.view_is
-
 pub returns-clause-later : goal.returns-clause-later
 unfolding later_of
 returns-clause-later c version =
@@ -116,3 +97,27 @@ returns-clause-ready c =
       omega (arith, c.if-self-len.false, c.len.ensures.value, c.self.invariant.4),
     ))
     c.add_keys.ensures.ready
+
+pub returns-then-self-len-clause-few : goal.returns-then-self-len-clause-few
+unfolding at later_of nodes_of oldest_of HasFew
+returns-then-self-len-clause-few c = c.self.invariant.6
+
+pub returns-in_err-add_room-clause-few : goal.returns-in_err-add_room-clause-few
+unfolding at later_of nodes_of oldest_of HasFew
+returns-in_err-add_room-clause-few c =
+    let store = c.self.inside in
+    subst (λ nodes. AreFew store.oldest nodes.slots store.tree.entries) (sym c.add_room.ensures.rest_kept) c.self.invariant.6
+
+pub returns-in_err-reserve-clause-few : goal.returns-in_err-reserve-clause-few
+unfolding at later_of nodes_of oldest_of HasFew
+returns-in_err-reserve-clause-few c =
+    let store = c.self.inside in
+    subst (λ nodes. AreFew store.oldest nodes.slots store.tree.entries) (sym c.add_room.ensures.rest_kept) c.self.invariant.6
+
+pub returns-clause-few : goal.returns-clause-few
+unfolding at later_of nodes_of oldest_of HasFew
+returns-clause-few c =
+    let store = c.self.inside in
+    few-adds store.oldest (store.last + 1) c.add_room.new.nodes.slots c.add_keys.new.nodes.slots store.tree.entries c.add_keys.new.tree.entries
+    c.add_keys.ensures.adds
+    (subst (λ nodes. AreFew store.oldest nodes.slots store.tree.entries) (sym c.add_room.ensures.rest_kept) c.self.invariant.6)

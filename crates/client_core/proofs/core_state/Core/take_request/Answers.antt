@@ -5,7 +5,7 @@ use Rattle.client_core.specs.Stands.{CoreModel, StandsFor, is_no_memory}
 use Rattle.client_core.specs.Contents.{core_of, model_of}
 use Rattle.client_core.proofs.Kept.{history_kept}
 use Rattle.client_core.proofs.Steps.{sound_enough, sound_later, sound_taken, stands_counted, taken_fits, taken_speaks, whole_answers}
-use Rattle.client_core.proofs.core_state.Core.apply.Goals as goal
+use Rattle.client_core.proofs.core_state.Core.take_request.Goals as goal
 
 pub take-requires : goal.take-requires
 take-requires g c =
