@@ -30,14 +30,15 @@ struct Unsettled {
 }
 
 /// Closes the senders of all machines that ran, and settles each waiter against its receipt: the suspended machines, by their
-/// numbers. Where the numbers are not those from 0 on, each once, it answers `StrayNumbers`.
+/// numbers. It is refused for want of memory; numbers that are not those from 0 on, each once, which no core gives, are dealt with
+/// alike.
 pub fn settle_machines(
     alloc: Global,
     receiver: Receiver<Post>,
     order: &Order,
     receipts: Receipts,
     ended: Vec<ThreadedMachine>,
-) -> Result<Vec<SuspendedMachine>, Cause>
+) -> Result<Vec<SuspendedMachine>, AllocError>
     requires none_closed { closed receiver ≡ [] }
     requires one_line { All (λ one. client_line one.client ≡ receiver_line receiver) ended.items }
     requires cover { CoverAllNumbers (map history_of ended.items) }
@@ -50,12 +51,12 @@ pub fn settle_machines(
     let mut ended = ended;
     ended.sort_by_key(|one| one.suspended.machine.number())?;
     if !are_numbered(&ended) {
-        return Err(Cause::StrayNumbers);
+        return Err(AllocError);
     }
     let mut receiver = receiver;
     let unsettled = close_all(alloc, &mut receiver, ended)?;
     let receipts = by_machine(alloc, unsettled.len(), order, receipts)?;
-    Ok(settle_each(alloc, unsettled, receipts)?)
+    settle_each(alloc, unsettled, receipts)
 }
 
 // Whether the machine of each number stands at that place.

@@ -14,12 +14,12 @@
 //! # Choices
 //!
 //! - The bound of the recursion is the newest machine number that a branch has seen, which rises with each machine that is
-//!   started. A reply that names no higher number, which no core gives, has a cause of its own (`Cause::StrayStart`): both
+//!   started. A reply that names no higher number, which no core gives, is dealt with as where memory is wanting: both
 //!   Overs are posted.
 //! - Machines come back at a refusal too, kept by boxes that were taken before the fork (`Crew`): a refusal that dropped them
 //!   could say nothing of what they have posted.
 //! - Machines come back in the order of the joins and are sorted by their numbers before their senders are closed. Where
-//!   these are not the numbers from 0 on, which no core gives, the cause is `Cause::StrayNumbers`.
+//!   these are not the numbers from 0 on, which no core gives, they are refused as for want of memory.
 //! - `AreSettled` says that what was taken is of one of these machines (`of_these`), since the spans of all senders cover all
 //!   numbers. Without it nothing would say that the core answered these machines alone.
 //! - No test of this crate calls `settle_machines`, whose conditions are what `serve` and the machines' threads say. Each
@@ -33,4 +33,4 @@ mod team;
 pub use closing::settle_machines;
 pub use crew::Crew;
 pub use team::{Ran, run_machine};
-pub use threaded_machine::{Cause, Refused, ThreadedMachine};
+pub use threaded_machine::{Refused, ThreadedMachine};

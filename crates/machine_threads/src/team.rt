@@ -1,6 +1,6 @@
 //! A machine and those that it starts, each in its thread.
 
-ghost use Rattle.std.specs.Prelude.{◌≡◌, ◌≤◌, ◌<◌, ◌+◌, ◌++◌, Some, None};
+ghost use Rattle.std.specs.Prelude.{◌≡◌, ◌≤◌, ◌<◌, ◌+◌, ◌++◌, true, false};
 ghost use Rattle.std.specs.Thread.{IsSync};
 ghost use Rattle.machine_rules.specs.declared.TheConstants.{MACHINES};
 ghost use Rattle.suspended_machine.specs.SuspendedMachines.{progress_of, IsSuspended};
@@ -13,6 +13,7 @@ use machine_rules::MACHINES;
 use outside::Gate;
 use std::alloc::Global;
 use std::sync::Wait;
+use std::sync::atomic::{AtomicBool, Ordering};
 use std::thread::{Threads, join};
 use suspended_machine::SuspendedMachine;
 use threaded_machine::{Cause, Refused, ThreadedMachine};
@@ -21,38 +22,40 @@ use threaded_machine::{Cause, Refused, ThreadedMachine};
 #[derive(Drop)]
 pub struct Ran {
     pub crew: Crew,
-    /// Why not each machine that was started ran to its end, if so.
-    pub cut: Option<Cause>,
+    /// Whether the run was cut short: not each machine that was started ran to its end.
+    pub is_cut: bool,
 }
 
 /// Runs a machine, and beside it each machine that it starts, and those that these start. The number of each that is started is to be
-/// greater than `newest`, the greatest that was seen. All of them come back, also where not each ran to its end. Together they have
-/// posted one Over, and one for each machine that a reply to them said was started meanwhile.
+/// greater than `newest`, the greatest that was seen. All of them come back, also where not each ran to its end: where memory is wanting
+/// for one, `is_cut` is set, and the others stop at their next request. Together they have posted one Over, and one for each machine
+/// that a reply to them said was started meanwhile.
 #[cycle(machines)]
 pub fn run_machine<R: Threads + Wait + Sync, G: Gate>(
     rt: &R,
     alloc: Global,
     gate: &G,
+    is_cut: &AtomicBool,
     machine: ThreadedMachine,
     newest: u16,
 ) -> Ran
     requires running { IsRunning machine }
     requires newest { newest < MACHINES }
     requires room { MACHINES ≤ (history_of machine).room + newest + 1 }
-    ensures team { result.cut ≡ None → IsTeamOf machine (machines_in result.crew) }
+    ensures team { result.is_cut ≡ false → IsTeamOf machine (machines_in result.crew) }
     ensures over { AreOver 1 machine (machines_in result.crew) }
 {
     let mut machine = machine;
-    match machine.run_until_started(rt, alloc, gate) {
-        Ok(Some(suspended)) => run_beside(rt, alloc, gate, machine, suspended, newest),
+    match machine.run_until_started(rt, alloc, gate, is_cut) {
+        Ok(Some(suspended)) => run_beside(rt, alloc, gate, is_cut, machine, suspended, newest),
         Ok(None) => {
             machine.end(rt);
             Ran {
                 crew: Crew::One(machine),
-                cut: None,
+                is_cut: false,
             }
         }
-        Err(refused) => given_up(rt, machine, refused),
+        Err(refused) => given_up(rt, is_cut, machine, refused),
     }
 }
 
@@ -62,6 +65,7 @@ fn run_beside<R: Threads + Wait + Sync, G: Gate>(
     rt: &R,
     alloc: Global,
     gate: &G,
+    is_cut: &AtomicBool,
     machine: ThreadedMachine,
     suspended: SuspendedMachine,
     newest: u16,
@@ -72,20 +76,21 @@ fn run_beside<R: Threads + Wait + Sync, G: Gate>(
     requires is_suspended { IsSuspended suspended }
     requires unposted { overs_of machine ≡ 0 }
     requires started { IsStartedBy (history_of machine).posted (replies_to machine) (machine_in machine).options (progress_of suspended) }
-    ensures team { result.cut ≡ None → IsTeamOf machine (machines_in result.crew) }
+    ensures team { result.is_cut ≡ false → IsTeamOf machine (machines_in result.crew) }
     ensures over { AreOver 2 machine (machines_in result.crew) }
 {
     let mut machine = machine;
     let number = suspended.machine.number();
+    let refused = Refused { owed: Some(number) };
     if number <= newest || usize::from(number) >= MACHINES {
-        return given_up(rt, machine, Refused::new(Cause::StrayStart, Some(number)));
+        return given_up(rt, is_cut, machine, refused);
     }
     let Ok(places) = Places::new(alloc) else {
-        return given_up(rt, machine, Refused::new(Cause::NoMemory, Some(number)));
+        return given_up(rt, is_cut, machine, refused);
     };
     let other = match machine.fork(alloc, suspended) {
         Ok(other) => other,
-        Err(_) => return given_up(rt, machine, Refused::new(Cause::NoMemory, Some(number))),
+        Err(_) => return given_up(rt, is_cut, machine, refused),
     };
     let (own, others) = join(
         rt,
@@ -94,54 +99,44 @@ fn run_beside<R: Threads + Wait + Sync, G: Gate>(
             requires running { IsRunning machine }
             requires newest { number < MACHINES }
             requires room { MACHINES ≤ (history_of machine).room + number + 1 }
-            ensures team { result.cut ≡ None → IsTeamOf machine (machines_in result.crew) }
+            ensures team { result.is_cut ≡ false → IsTeamOf machine (machines_in result.crew) }
             ensures over { AreOver 1 machine (machines_in result.crew) }
-        { run_machine(rt, alloc, gate, machine, number) },
+        { run_machine(rt, alloc, gate, is_cut, machine, number) },
         move || -> Ran
             requires sync { IsSync R.row × IsSync G.row }
             requires running { IsRunning other }
             requires newest { number < MACHINES }
             requires room { MACHINES ≤ (history_of other).room + number + 1 }
-            ensures team { result.cut ≡ None → IsTeamOf other (machines_in result.crew) }
+            ensures team { result.is_cut ≡ false → IsTeamOf other (machines_in result.crew) }
             ensures over { AreOver 1 other (machines_in result.crew) }
-        { run_machine(rt, alloc, gate, other, number) },
+        { run_machine(rt, alloc, gate, is_cut, other, number) },
     );
     together(places, own, others)
 }
 
-// Posts the Over of a machine that can't go on, and before it the one that it owes, if it owes one.
-fn given_up<R: Wait>(rt: &R, machine: ThreadedMachine, refused: Refused) -> Ran
-    ensures cut { result.cut ≡ Some refused.cause }
+// Posts the Over of a machine that can't go on, and before it the one that it owes, if it owes one, and cuts the run short.
+fn given_up<R: Wait>(rt: &R, is_cut: &AtomicBool, machine: ThreadedMachine, refused: Refused) -> Ran
+    ensures cut { result.is_cut ≡ true }
     ensures overs { overs_of_all (machines_in result.crew) ≡ overs_of machine + 1 + owed_of refused }
     ensures starts { starts_to_all (machines_in result.crew) ≡ starts_to machine }
 {
+    is_cut.store(true, Ordering::Release);
     let mut machine = machine;
     machine.give_up(rt, refused);
     Ran {
         crew: Crew::One(machine),
-        cut: Some(refused.cause),
+        is_cut: true,
     }
 }
 
 // Two crews as one.
 fn together(places: Places, own: Ran, others: Ran) -> Ran
     ensures crew { machines_in result.crew ≡ machines_in own.crew ++ machines_in others.crew }
-    ensures own { result.cut ≡ None → own.cut ≡ None }
-    ensures others { result.cut ≡ None → others.cut ≡ None }
+    ensures own { result.is_cut ≡ false → own.is_cut ≡ false }
+    ensures others { result.is_cut ≡ false → others.is_cut ≡ false }
 {
     Ran {
         crew: places.keep(own.crew, others.crew),
-        cut: first_cause(own.cut, others.cut),
-    }
-}
-
-// The first of two causes, if there is any.
-fn first_cause(own: Option<Cause>, others: Option<Cause>) -> Option<Cause>
-    ensures own { result ≡ None → own ≡ None }
-    ensures others { result ≡ None → others ≡ None }
-{
-    match own {
-        Some(cause) => Some(cause),
-        None => others,
+        is_cut: own.is_cut || others.is_cut,
     }
 }

@@ -4,8 +4,8 @@
 //! waits for the reply and uses it, until a request was answered that a machine was started, or until it has stopped and posts its
 //! Over. `specs/Threaded.antt` says what it has asked and come to: by itself, over the replies that its waiters have shown.
 //!
-//! A machine that can't go on, mostly for want of memory, posts its Over too, and that of a machine that a reply to it said was
-//! started and that isn't run (`give_up`). Nothing is refused between a post and its reply.
+//! A machine that can't go on, for want of memory, posts its Over too, and that of a machine that a reply to it said was started and
+//! that isn't run (`give_up`). Nothing is refused between a post and its reply.
 //!
 //! # Choices
 //!
@@ -13,10 +13,14 @@
 //!   machine that a reply to it said was started and that can't run. A refusal names the machine whose Over is owed
 //!   (`Refused`). Nothing is refused between the post of a request and the use of its reply: what can be taken before is
 //!   taken before.
+//! - A reply that says that a machine was started where none was asked for, which no core gives, is dealt with as where memory is
+//!   wanting: a thread sees its own machine alone, and that a reply is the core's is known only once its waiter was settled.
+//! - Where one machine of a run can't go on the run has no dump, so the others need not wait for what it would have done: each looks at
+//!   a flag before it asks (`run_until_started`).
 #![tactic(auto)]
 
 mod refusal;
 mod threaded;
 
-pub use refusal::{Cause, Refused};
+pub use refusal::Refused;
 pub use threaded::ThreadedMachine;

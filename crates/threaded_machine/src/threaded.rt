@@ -14,7 +14,7 @@ ghost use Rattle.thread_laws.specs.Alone.{begun_as};
 ghost use Rattle.suspended_machine.specs.SuspendedMachines.{progress_of, Awaits, IsSuspended};
 ghost use Rattle.threaded_machine.specs.Threaded.{history_of, machine_in, replies_to, overs_of, starts_to, owed_by, owed_of, HasEnded, IsLater, IsRunning, IsStartedBy};
 
-use crate::refusal::{Cause, Refused};
+use crate::refusal::Refused;
 use fdb_calls::Reply;
 use future_cell::{Waiter, Wake};
 use key_bytes::Bytes;
@@ -23,6 +23,7 @@ use outside::Gate;
 use request_line::Sender;
 use std::alloc::{AllocError, Global};
 use std::sync::Wait;
+use std::sync::atomic::{AtomicBool, Ordering};
 use suspended_machine::{SuspendedMachine, is_no_memory, prefix_of, suspended_started_by};
 
 /// A machine in its thread: the suspended machine, its client, and the waiters of its requests, in the order in which it asked.
@@ -67,13 +68,14 @@ impl ThreadedMachine {
         }
     }
 
-    /// Asks until a machine was started, which comes back at its suspended machine, or this one has stopped. A refusal names the
-    /// machine that a reply said was started and that doesn't come back.
+    /// Asks until a machine was started, which comes back at its suspended machine, or this one has stopped. It is refused too once
+    /// `is_cut` says that the run is cut short. A refusal names the machine that a reply said was started and that doesn't come back.
     pub fn run_until_started<R: Wait, G: Gate>(
         &mut self,
         rt: &R,
         alloc: Global,
         gate: &G,
+        is_cut: &AtomicBool,
     ) -> Result<Option<SuspendedMachine>, Refused>
         requires { IsRunning self.old }
         ensures running { OnOk result (IsRunning self.new) }
@@ -89,6 +91,9 @@ impl ThreadedMachine {
         for _ in rt.forever() {
             if self.suspended.asks.is_none() {
                 return Ok(None);
+            }
+            if is_cut.load(Ordering::Acquire) {
+                return Err(Refused { owed: None });
             }
             if let Some(started) = self.ask(rt, alloc, gate, &mut polled)? {
                 return Ok(Some(started));
@@ -231,8 +236,7 @@ fn use_reply(
     match suspended_both(alloc, suspended, prefix, reply) {
         Ok(Some(started)) => Ok(Some(started)),
         Ok(None) if owed.is_none() => Ok(None),
-        Ok(None) => Err(Refused::new(Cause::StrayStart, owed)),
-        Err(_) => Err(Refused::new(Cause::NoMemory, owed)),
+        Ok(None) | Err(_) => Err(Refused { owed }),
     }
 }
 
