@@ -104,8 +104,8 @@ abbrev pub is_no_memory : Reply → Bool
 is_no_memory reply.NoMemory = true
 is_no_memory _ = false
 
--- the second core keeps each history that the first one kept: its store has the same map at each version, and its index has for
--- each key the same newest commit
+-- the second core keeps each history that the first one kept: its store has the same map at each version that can be read, and its
+-- index has for each key the same newest commit behind the oldest of them
 abbrev pub KeepsHistory : (old new : CoreModel) → Type 0
 KeepsHistory old new = (setting : Setting) → txn.Keeps old.store old.index setting → txn.Keeps new.store new.index setting
 

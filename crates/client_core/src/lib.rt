@@ -2,8 +2,8 @@
 //! one at a time.
 //!
 //! A `Core` stands for a world of the definitions (`machine_rules`, `specs/Worlds.antt`): its store has the map of the world's
-//! history at each version, its index has for each key the newest commit with it among its write conflict ranges, the same became
-//! of each life, each name has a transaction that stands for the world's, and the same machines were started (`specs/Stands.antt`).
+//! history at each version that can be read, its index has for each key the newest commit with it among its write conflict ranges
+//! where that is behind the oldest of these versions, the same became of each life, each name has a transaction that stands for the world's, and the same machines were started (`specs/Stands.antt`).
 //! `load` stands for the beginning, and for every world for which a core stands before `apply`, the reply is that of the step, and
 //! the core stands for the world of the step.
 //!

@@ -38,7 +38,7 @@ pub struct TxnOn<'a> {
 
 impl TxnOn<'_> {
     /// Asks the checks of a commit, and answers the first that fails by its code: 2101 where the mutations have too many bytes,
-    /// 1009 where the read version is above the last one, 1020 exactly where a commit after it wrote a key of the transaction's
+    /// 1007 where the read version is below the oldest one, 1009 where it is above the last one, 1020 exactly where a commit after it wrote a key of the transaction's
     /// read conflict ranges; then whether there is anything to write. A transaction that goes on to its version takes it.
     pub fn judge(&mut self) -> Result<Verdict, TrFault>
         ensures verdict { (setting : Setting) (t : Transaction) → StandsFor self.old.txn.now t → Keeps self.old.store.now self.old.index.now setting
