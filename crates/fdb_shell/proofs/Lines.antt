@@ -5,10 +5,10 @@ use Rattle.std.specs.List.{AllByRecursion, filter}
 use Rattle.std.proofs.lemmas.Bool.{eqb-true}
 use Rattle.std.proofs.lemmas.List.{append-nil, take_at}
 use Rattle.std.proofs.lemmas.Grind.{flat_map-append}
-use Rattle.line_rules.specs.Reading.{Line, lines_of}
+use Rattle.line_rules.specs.Reading.{Line, Fault, BadLine, TooLong, TooMany, with_first, lines_of}
 use Rattle.line_rules.proofs.Lines.{IsFeedless, IsFeedless-append, whole_first}
 use Rattle.fdb_shell.specs.Limits.{line_limit, input_limit}
-use Rattle.fdb_shell.specs.Outcomes.{lines_in, whole_lines_in, lines_before, IsWithin}
+use Rattle.fdb_shell.specs.Outcomes.{lines_in, whole_lines_in, lines_before, number_in, IsPast, IsWithin}
 use Rattle.fdb_shell.specs.Endings.{joined}
 
 abbrev pub whole : List ℕ → Line
@@ -177,5 +177,60 @@ before_last lines bytes more =
     ∙ ap (take (length lines)) (bytes_of_whole lines (more.last ∷ []))
     ∙ take_at lines (more.last.bytes ∷ []) (length lines) refl
 
-pub lines_of_more : (lines : List (List ℕ)) (bytes : List ℕ) (more : OneMore lines bytes) → lines_in bytes ≡ lines ++ more.last.bytes ∷ []
-lines_of_more lines bytes more = ap (map (λ (line : Line). line.bytes)) more.lines_are ∙ bytes_of_whole lines (more.last ∷ [])
+-- ---- whole lines
+
+-- the whole ones of some lines
+abbrev pub whole_in : List Line → List (List ℕ)
+whole_in lines = map (λ (line : Line). line.bytes) (filter (λ (line : Line). line.is_whole) lines)
+
+pub whole_of_more : (lines : List (List ℕ)) (bytes : List ℕ) (more : OneMore lines bytes)
+    → whole_lines_in bytes ≡ lines ++ whole_in (more.last ∷ [])
+whole_of_more lines bytes more =
+    ap whole_in more.lines_are
+    ∙ ap (map (λ (line : Line). line.bytes)) (only_whole lines (more.last ∷ []))
+    ∙ bytes_of_whole lines (filter (λ (line : Line). line.is_whole) (more.last ∷ []))
+
+-- bytes that are there have a last line, and whole ones before it
+first_more : (byte : ℕ) (lines : List (List ℕ)) (last : Line) (rest : List Line) → rest ≡ map whole lines ++ last ∷ []
+    → (more : List (List ℕ)) × (its : Line) × (with_first byte rest ≡ map whole more ++ its ∷ [])
+first_more byte [] last rest is = ([], record last { bytes = byte ∷ last.bytes }, ap (with_first byte) is)
+first_more byte (line ∷ lines) last rest is = ((byte ∷ line) ∷ lines, last, ap (with_first byte) is)
+
+some_lines : (byte : ℕ) (bytes : List ℕ) → (lines : List (List ℕ)) × OneMore lines (byte ∷ bytes)
+unfolding lines_of
+some_lines byte [] =
+    elim (byte == 10) as (λ b. (byte == 10) ≡ b → (lines : List (List ℕ)) × OneMore lines (byte ∷ [])) [
+      | true ↦ λ b. ([], record { last = whole []; lines_are = rw b refl })
+      | false ↦ λ b. ([], record { last = open_line (byte ∷ []); lines_are = rw b refl })
+    ] refl
+some_lines byte (next ∷ bytes) =
+    let rest = some_lines next bytes in
+    elim (byte == 10) as (λ b. (byte == 10) ≡ b → (lines : List (List ℕ)) × OneMore lines (byte ∷ next ∷ bytes)) [
+      | true ↦ λ b. (
+        [] ∷ rest.0,
+        record { last = rest.1.last; lines_are = rw b (ap (λ (x : List Line). whole [] ∷ x) rest.1.lines_are) },
+      )
+      | false ↦ λ b.
+          let more = first_more byte rest.0 rest.1.last (lines_of (next ∷ bytes)) rest.1.lines_are in
+          (more.0, record { last = more.1; lines_are = rw b more.2 })
+    ] refl
+
+behind_last : (byte : ℕ) (bytes : List ℕ) (number : ℕ) → number ≡ length (lines_of (byte ∷ bytes))
+    → (rest : List (List ℕ)) × (whole_lines_in (byte ∷ bytes) ≡ lines_before number (byte ∷ bytes) ++ rest)
+behind_last byte bytes number is =
+    let some = some_lines byte bytes in
+    let last_number : number ≡ length some.0 + 1 = is ∙ ap length some.1.lines_are ∙ count_of_more some.0 some.1.last in
+    let before = ap (λ (n : ℕ). lines_before n (byte ∷ bytes)) last_number ∙ before_last some.0 (byte ∷ bytes) some.1 in (
+      whole_in (some.1.last ∷ []),
+      whole_of_more some.0 (byte ∷ bytes) some.1 ∙ ap (λ (x : List (List ℕ)). x ++ whole_in (some.1.last ∷ [])) (sym before),
+    )
+
+-- the lines before the one that passes a limit are whole ones, the first of them
+pub whole_behind : (fault : Fault) (bytes : List ℕ) → IsPast fault bytes
+    → (rest : List (List ℕ)) × (whole_lines_in bytes ≡ lines_before (number_in fault) bytes ++ rest)
+unfolding lines_of
+whole_behind (BadLine number place) bytes past = absurd past
+whole_behind (TooMany number) [] past = absurd (omega (arith, past.1))
+whole_behind (TooLong number) [] past = let impossible = past.3 in absurd cc
+whole_behind (TooMany number) (byte ∷ bytes) past = behind_last byte bytes number past.0
+whole_behind (TooLong number) (byte ∷ bytes) past = behind_last byte bytes number past.0

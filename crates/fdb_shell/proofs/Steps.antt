@@ -1,5 +1,5 @@
 -- What a byte of the input, and its end, make of where reading stands.
-use Rattle.std.proofs.Common.{◌≡◌, ℕ, ◌+◌, ◌-◌, ◌≤◌, false, ◌==◌, List, [], ◌∷◌, ◌++◌, length, map, Option, Some, None, Result, Ok, Err, refl, sym, ap, subst, ◌∙◌, arith}
+use Rattle.std.proofs.Common.{◌≡◌, inl, inr, ℕ, ◌+◌, ◌-◌, ◌≤◌, false, ◌==◌, List, [], ◌∷◌, ◌++◌, length, map, Option, Some, None, Result, Ok, Err, refl, sym, ap, subst, ◌∙◌, arith}
 use Rattle.std.specs.Prelude.{slice_get, OnOk}
 use Rattle.std.specs.Io.KnownBytes.{Keeps, Appends, Consumes, IsAtEnd}
 use Rattle.std.proofs.KnownBytes.{Appends-nil, Consumes-nil}
@@ -16,7 +16,7 @@ use Rattle.fdb_shell.specs.Limits.{line_limit, input_limit}
 use Rattle.fdb_shell.specs.Doing.{IsSession}
 use Rattle.fdb_shell.specs.Outcomes.{lines_in, whole_lines_in, lines_before, IsWithin, Passes, AppendsSome}
 use Rattle.fdb_shell.specs.Endings.{joined, IsAt, IsByteRead, Ends, Goes, Closes, Answers, Finishes}
-use Rattle.fdb_shell.proofs.Lines.{whole, open_line, last_line, OneMore, lines_in_are, whole_lines_are, within_by, joined_more, feedless_more, short_more, longer, feedless_byte, one_more, either_more, count_of_more, get_last, before_last, lines_of_more}
+use Rattle.fdb_shell.proofs.Lines.{whole, open_line, last_line, OneMore, lines_in_are, whole_lines_are, within_by, joined_more, feedless_more, short_more, longer, feedless_byte, one_more, either_more, count_of_more, get_last, before_last, whole_in, whole_of_more}
 use Rattle.fdb_shell.proofs.Printed.{written_more, written_front_more, after_line_more, some_of_more}
 
 -- what a reading has of a line is no more than a line may have
@@ -44,6 +44,11 @@ module _ (start before after : Option (List ℕ)) (reading new : Reading) (bytes
       ap lines_in (joined_more at.lines reading.line bytes at.parts ∙ sym (append-nil (joined (at.lines ++ reading.line ∷ []))))
       ∙ lines_in_are (at.lines ++ reading.line ∷ []) [] (feedless_more at.lines reading.line at.feedless at.line_feedless) tt
       ∙ append-nil (at.lines ++ reading.line ∷ [])
+
+  whole_fed : whole_lines_in (bytes ++ 10 ∷ []) ≡ at.lines ++ reading.line ∷ []
+  whole_fed =
+      ap whole_lines_in (joined_more at.lines reading.line bytes at.parts ∙ sym (append-nil (joined (at.lines ++ reading.line ∷ []))))
+      ∙ whole_lines_are (at.lines ++ reading.line ∷ []) [] (feedless_more at.lines reading.line at.feedless at.line_feedless) tt
 
   within_fed : IsSmall reading → reading.count + 1 ≤ input_limit → IsWithin (bytes ++ 10 ∷ [])
   within_fed small few =
@@ -78,7 +83,7 @@ module _ (start before after : Option (List ℕ)) (reading new : Reading) (bytes
 
   pub fed_short : IsSmall reading → after ≡ before → Ends halt.NoMemory start after (bytes ++ 10 ∷ [])
   fed_short small same =
-      subst (λ (x : List (List ℕ)). AppendsSome start after (printed_for first_session x)) (sym (lines_fed small))
+      subst (λ (x : List (List ℕ)). AppendsSome start after (printed_for first_session x)) (sym whole_fed)
       (some_of_more start after first_session at.lines (reading.line ∷ []) (still same))
 
   -- however the line was answered
@@ -113,8 +118,8 @@ module _ (start before after : Option (List ℕ)) (reading new : Reading) (bytes
   pub stays_short : (byte : ℕ) → after ≡ before → Ends halt.NoMemory start after (bytes ++ byte ∷ [])
   stays_short byte same =
       let more = either_more at.lines reading.line bytes byte at.parts at.feedless at.line_feedless in
-      subst (λ (x : List (List ℕ)). AppendsSome start after (printed_for first_session x)) (sym (lines_of_more at.lines (bytes ++ byte ∷ []) more))
-      (some_of_more start after first_session at.lines (more.last.bytes ∷ []) (still same))
+      subst (λ (x : List (List ℕ)). AppendsSome start after (printed_for first_session x)) (sym (whole_of_more at.lines (bytes ++ byte ∷ []) more))
+      (some_of_more start after first_session at.lines (whole_in (more.last ∷ [])) (still same))
 
   -- what is printed for the lines before the one that the byte belongs to
   written_before : (longer_bytes : List ℕ) → OneMore at.lines longer_bytes → after ≡ before
@@ -233,14 +238,20 @@ finishes_by (halt.TooLong line) left left_after start after bytes consumed h =
     record { bytes = bytes; consumed = consumed; passes = h.0; written = h.1 }
 finishes_by (halt.TooMany line) left left_after start after bytes consumed h =
     record { bytes = bytes; consumed = consumed; passes = h.0; written = h.1 }
-finishes_by halt.NoMemory left left_after start after bytes consumed h = record { bytes = bytes; consumed = consumed; written = h }
+finishes_by halt.NoMemory left left_after start after bytes consumed h = record { bytes = bytes; consumed = consumed; written = inl h }
 
 -- the source is at its end, and its lines were answered
 pub finishes_closed : (result : Result (Unit {0}) Halt) (left left_after start after : Option (List ℕ)) (bytes : List ℕ)
     → Consumes left left_after bytes → IsAtEnd left_after → Closes result start after bytes → Finishes result left left_after start after
 finishes_closed (Ok done) left left_after start after bytes consumed end h =
     record { bytes = bytes; consumed = consumed; end = end; within = h.0; written = h.1 }
-finishes_closed (Err halt) left left_after start after bytes consumed end h = finishes_by halt left left_after start after bytes consumed h
+finishes_closed (Err halt.NoMemory) left left_after start after bytes consumed end h =
+    record { bytes = bytes; consumed = consumed; written = inr (end, h) }
+finishes_closed (Err halt.Write) left left_after start after bytes consumed end h =
+    finishes_by halt.Write left left_after start after bytes consumed h
+finishes_closed (Err halt.Read) left left_after start after bytes consumed end h = absurd h
+finishes_closed (Err (halt.TooLong line)) left left_after start after bytes consumed end h = absurd h
+finishes_closed (Err (halt.TooMany line)) left left_after start after bytes consumed end h = absurd h
 
 -- the source failed
 pub finishes_unread : (left left_after start after : Option (List ℕ)) (reading : Reading) (bytes : List ℕ) → Consumes left left_after bytes
@@ -255,7 +266,7 @@ finishes_unread left left_after start after reading bytes consumed at small few 
 
 -- memory ran out before anything was read
 pub finishes_at_once : (left before : Option (List ℕ)) → Finishes (Err halt.NoMemory) left left before before
-finishes_at_once left before = record { bytes = []; consumed = Consumes-nil left; written = (0, omega arith, Appends-nil before) }
+finishes_at_once left before = record { bytes = []; consumed = Consumes-nil left; written = inl (0, omega arith, Appends-nil before) }
 
 -- no line fails to be read
 pub unread_ends : (why : Halt) (start after : Option (List ℕ)) (bytes : List ℕ) → Ends why start after bytes → why ≡ halt.Read → ⊥

@@ -1,15 +1,15 @@
 -- What the shell's statuses say, by how its reading ended.
-use Rattle.std.proofs.Common.{◌≡◌, ℕ, ◌-◌, ◌⊎◌, inl, inr, List, take, drop, Option, Some, None, Err, refl, subst, arith}
+use Rattle.std.proofs.Common.{◌≡◌, ℕ, ◌⊎◌, inl, inr, List, Option, Some, None, Err, refl, sym, subst, arith}
 use Rattle.std.specs.Io.KnownBytes.{Consumes}
-use Rattle.std.proofs.lemmas.List.{take-append-drop}
 use Rattle.outside.specs.Counts.{Rose}
 use Rattle.line_rules.specs.Reading.{Fault, TooLong, TooMany}
 use Rattle.err_lines.specs.Told.{IsTold}
 use Rattle.shell_rules.specs.Sessions.{shell, first_session}
 use Rattle.fdb_shell.specs.declared.reading.Halt.{Halt}
 use Rattle.fdb_shell.specs.declared.reading.Halt.TheVariants as halt
-use Rattle.fdb_shell.specs.Outcomes.{all_answered, past_limit, read_fault, write_fault, out_of_memory, limit_text, number_in, lines_in, IsStatus, AnswersAll, StopsAtLimit, AnswersWhole, BreaksOff, RunsShort, AppendsSome, IsFaultless, Tells}
+use Rattle.fdb_shell.specs.Outcomes.{all_answered, past_limit, read_fault, write_fault, out_of_memory, limit_text, number_in, lines_before, IsStatus, AnswersAll, StopsAtLimit, AnswersWhole, BreaksOff, RunsShort, AppendsSome, IsFaultless, Tells}
 use Rattle.fdb_shell.specs.Endings.{Finishes, IsRefused, IsShort, IsToldAt}
+use Rattle.fdb_shell.proofs.Lines.{whole_behind}
 use Rattle.fdb_shell.proofs.Printed.{some_of_more}
 use Rattle.fdb_shell.proofs.Within.{past_is_not_within}
 
@@ -44,16 +44,16 @@ module _ (status : ℕ) (left left_after before after said said_after : Option (
         told = record { read = λ e. absurd (omega arith); write = λ e. absurd (omega arith); memory = λ e. told.is_told };
       }
 
-  -- what is printed for the lines before one is a front of what is printed for all
+  -- what is printed for the lines before the one that passes a limit is a front of what is printed for the whole lines
   short_of : (fault : Fault) → StopsAtLimit left left_after before after fault → RunsShort left left_after before after
   short_of fault h =
-      let n = number_in fault - 1 in
-      let lines = lines_in h.bytes in
       record {
         bytes = h.bytes;
         consumed = h.consumed;
-        written = subst (λ (x : List (List ℕ)). AppendsSome before after (shell x)) (take-append-drop n lines)
-            (some_of_more before after first_session (take n lines) (drop n lines) h.written);
+        written =
+            let more = whole_behind fault h.bytes h.passes.past in
+            inl (subst (λ (x : List (List ℕ)). AppendsSome before after (shell x)) (sym more.1)
+            (some_of_more before after first_session (lines_before (number_in fault) h.bytes) more.0 h.written));
       }
 
   ended_limit : (fault : Fault) → StopsAtLimit left left_after before after fault

@@ -15,7 +15,7 @@ use Rattle.fdb_shell.specs.declared.reading.Halt.TheVariants as halt
 use Rattle.fdb_shell.specs.declared.session.Session.{Session}
 use Rattle.fdb_shell.specs.Limits.{line_limit}
 use Rattle.fdb_shell.specs.Doing.{IsSession}
-use Rattle.fdb_shell.specs.Outcomes.{past_limit, read_fault, write_fault, out_of_memory, limit_text, lines_in, lines_before, IsWithin, Passes, AppendsSome, AnswersAll, StopsAtLimit, AnswersWhole, BreaksOff, RunsShort}
+use Rattle.fdb_shell.specs.Outcomes.{past_limit, read_fault, write_fault, out_of_memory, limit_text, lines_in, whole_lines_in, lines_before, IsWithin, Passes, AppendsSome, AnswersAll, StopsAtLimit, AnswersWhole, BreaksOff, RunsShort}
 
 -- no byte is a line feed
 abbrev pub HasNoFeed : List ℕ → Type 0
@@ -46,7 +46,7 @@ Ends (halt.TooLong line) start written bytes =
     Passes bytes (TooLong line) × Appends start written (shell (lines_before line bytes))
 Ends (halt.TooMany line) start written bytes =
     Passes bytes (TooMany line) × Appends start written (shell (lines_before line bytes))
-Ends halt.NoMemory start written bytes = AppendsSome start written (shell (lines_in bytes))
+Ends halt.NoMemory start written bytes = AppendsSome start written (shell (whole_lines_in bytes))
 
 -- reading goes on behind these bytes, or ended there
 abbrev pub Goes : Result (Unit {0}) Halt → (start written : Option (List ℕ)) → Reading → (bytes : List ℕ) → Type 0
@@ -56,7 +56,11 @@ Goes (Err halt) start written reading bytes = Ends halt start written bytes
 -- all lines of these bytes were answered, or reading ended before
 abbrev pub Closes : Result (Unit {0}) Halt → (start written : Option (List ℕ)) → (bytes : List ℕ) → Type 0
 Closes (Ok done) start written bytes = IsWithin bytes × Appends start written (shell (lines_in bytes))
-Closes (Err halt) start written bytes = Ends halt start written bytes
+Closes (Err halt.NoMemory) start written bytes = AppendsSome start written (shell (lines_in bytes))
+Closes (Err halt.Read) start written bytes = ⊥
+Closes (Err halt.Write) start written bytes = Ends halt.Write start written bytes
+Closes (Err (halt.TooLong line)) start written bytes = ⊥
+Closes (Err (halt.TooMany line)) start written bytes = ⊥
 
 -- a line was answered, and what is printed for it was written; or out failed; or memory ran out, and nothing was written
 abbrev pub Answers : Result (Unit {0}) Halt → (before after : Option (List ℕ)) → Session → sessions.Answered → Type 0

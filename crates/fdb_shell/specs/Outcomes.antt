@@ -109,11 +109,13 @@ pub record BreaksOff (left left_after before after : Option (List ℕ)) : Type 0
 abbrev pub AppendsSome : Option (List ℕ) → Option (List ℕ) → List ℕ → Type 0
 AppendsSome before after bytes = (n : ℕ) × (n ≤ length bytes) × Appends before after (take n bytes)
 
--- 6: out has a front of what is printed for the lines that were read
+-- 6: out has a front of what is printed for the whole lines that were read, and for the last one too where the source was read to
+-- its end
 pub record RunsShort (left left_after before after : Option (List ℕ)) : Type 0 where
   pub bytes : List ℕ
   pub consumed : Consumes left left_after bytes
-  pub written : AppendsSome before after (shell (lines_in bytes))
+  pub written : AppendsSome before after (shell (whole_lines_in bytes))
+      ⊎ (IsAtEnd left_after × AppendsSome before after (shell (lines_in bytes)))
 
 -- what was told on err at the statuses but 0 and 2
 pub record Tells (status : ℕ) (before after : Option (List ℕ)) (faults faults_after : ℕ) : Type 0 where
