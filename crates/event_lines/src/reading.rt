@@ -1,9 +1,10 @@
 //! Reading of lines of events, one after the other.
 
-ghost use Rattle.std.specs.Prelude.{◌≡◌, ◌+◌, ◌^◌, ◌<◌, ◌≤◌, IfOk};
+ghost use Rattle.std.specs.Prelude.{◌≡◌, ◌+◌, ◌^◌, ◌<◌, ◌≤◌, List, Ok, IfOk};
 ghost use Rattle.line_rules.specs.Reading.{size_of};
 ghost use Rattle.dump_text.specs.InputLines.{line_is};
 ghost use Rattle.dump_text.specs.Reading.{Gives};
+ghost use Rattle.event_rules.specs.declared.event.Event.{Event};
 ghost use Rattle.event_rules.specs.Events.{next_place, is_too_many, read_event, events_of, AreEventsOf};
 ghost use Rattle.event_lines.specs.Lines.{place_is};
 
@@ -108,6 +109,8 @@ fn read_each(alloc: Global, bytes: &[u8]) -> Result<Events, LineFault>
 pub fn read_events(alloc: Global, bytes: &[u8]) -> Result<Events, LineFault>
     // What is read is spelled so, and within the limits.
     ensures found { IfOk result (λ events. AreEventsOf bytes.now events) }
+    // What is spelled so is read, unless memory runs out.
+    ensures only { (events : List Event) → AreEventsOf bytes.now events → Gives (λ events. events) result (Ok events) }
     // Which fault it is.
     ensures exact { Gives (λ events. events) result (events_of bytes.now) }
 {
