@@ -4,7 +4,9 @@ ghost use Rattle.std.specs.Prelude.{◌≡◌, ℕ, List, ◌+◌, ◌^◌, ◌<
 ghost use Rattle.line_rules.specs.Printing.{line};
 ghost use Rattle.line_rules.specs.Reading.{input_limit};
 ghost use Rattle.dump_text.specs.Reading.{Fails};
-ghost use Rattle.event_rules.specs.Events.{events_of, is_watch_event};
+ghost use Rattle.dump_text.specs.declared.fault.LineFault.TheVariants.{NoMemory};
+ghost use Rattle.event_rules.specs.declared.event.Event.{Event};
+ghost use Rattle.event_rules.specs.Events.{events_of, is_watch_event, AreEventsOf};
 ghost use Rattle.text_commands.specs.Firings.{firing_lines, firing_text, history_of, made_from, AreFirings, IsWatched};
 ghost use Rattle.text_commands.specs.Scenes.{firing_of};
 
@@ -19,6 +21,8 @@ use watch_core::WatchEnd;
 pub fn watch(alloc: Global, bytes: &[u8]) -> Result<Vec<u8>, LineFault>
     // What comes out says for each watch when it fires.
     ensures found { IfOk result (λ lines. IsWatched bytes.now lines.items) }
+    // Lines of events are answered, unless memory runs out.
+    ensures only { (events : List Event) → AreEventsOf bytes.now events → IfErr result (λ fault. fault ≡ NoMemory) }
     // Which fault it is.
     ensures exact { IfErr result (λ fault. Fails fault (events_of bytes.now)) }
     // Bytes behind the first one past the limit change nothing.
