@@ -54,7 +54,7 @@ leaves_nothing IsFront bytes h =
 
 -- ---- the letter and the space
 
-first_byte : (kind byte : ℕ) (bytes tail other behind : List ℕ) → byte ∷ bytes ≡ other ++ behind → other ≡ kind ∷ tail → byte ≡ kind
+pub first_byte : (kind byte : ℕ) (bytes tail other behind : List ℕ) → byte ∷ bytes ≡ other ++ behind → other ≡ kind ∷ tail → byte ≡ kind
 first_byte kind byte bytes tail other behind parts is =
     let same : byte ∷ bytes ≡ kind ∷ (tail ++ behind) = parts ∙ ap (λ (x : List ℕ). x ++ behind) is in
     cc

@@ -1,3 +1,4 @@
+pub mod Events
 pub mod Heads
 pub mod Pairs
 pub mod Orders

@@ -19,7 +19,7 @@ use Rattle.line_laws.proofs.Heads.{Heads, no_byte, one_byte, more_bytes, IsHeade
 abbrev Fronts : (front rest : List ℕ) → Type 0
 Fronts front rest = IsPairFront front
 
-heads : (front : List ℕ) → IsPairFront front → Heads 75 front
+pub heads : (front : List ℕ) → IsPairFront front → Heads 75 front
 heads front (NoPair is) = no_byte is
 heads front (PairKind is) = one_byte is
 heads front (PairKey key lawful is) = more_bytes (printable key) is
@@ -31,24 +31,24 @@ headed = record { nothing = λ rest. NoPair refl; letter = λ rest. PairKind ref
 -- ---- texts that begin a text
 
 -- what is left behind the bytes that were spelled, the separator included
-abbrev unspelled : ReadText → List ℕ
+abbrev pub unspelled : ReadText → List ℕ
 unspelled text = ending text.stop text.left
 
-no_longer : (bytes : List ℕ) → length (unspelled (text_of bytes)) ≤ length bytes
+pub no_longer : (bytes : List ℕ) → length (unspelled (text_of bytes)) ≤ length bytes
 no_longer bytes =
     let text = text_of bytes in
     omega (arith, ap length (text_was bytes).parts, length-append (printable text.bytes) (unspelled text))
 
-byte_string : (bytes : List ℕ) → IsByteString (text_of bytes).bytes
+pub byte_string : (bytes : List ℕ) → IsByteString (text_of bytes).bytes
 byte_string bytes = All-from_recursion (λ b. b < 256) (text_of bytes).bytes (text_was bytes).small
 
 -- a text that begins with a printable form
-begun : (bytes front behind : List ℕ) → IsByteString front → bytes ≡ printable front ++ behind
+pub begun : (bytes front behind : List ℕ) → IsByteString front → bytes ≡ printable front ++ behind
     → text_of bytes ≡ with_front front (text_of behind)
 begun bytes front behind h parts = ap text_of parts ∙ text_printed front behind (recursion_from_All (λ b. b < 256) front h)
 
 -- behind it no less is left than behind the whole text
-begun_leaves : (bytes front behind : List ℕ) → IsByteString front → bytes ≡ printable front ++ behind
+pub begun_leaves : (bytes front behind : List ℕ) → IsByteString front → bytes ≡ printable front ++ behind
     → length (unspelled (text_of bytes)) ≤ length behind
 begun_leaves bytes front behind h parts =
     omega (arith, ap (λ (x : ReadText). length (unspelled x)) (begun bytes front behind h parts), no_longer behind)
@@ -84,7 +84,7 @@ stays_less false true (byte ∷ rest) more e = absurd cc
 stays_less false false rest more e = absurd cc
 
 -- the first byte of a key decides, so more bytes change nothing
-stays_below : (byte : ℕ) (rest more : List ℕ) → key_lt (byte ∷ rest) top ≡ true → key_lt (byte ∷ more) top ≡ true
+pub stays_below : (byte : ℕ) (rest more : List ℕ) → key_lt (byte ∷ rest) top ≡ true → key_lt (byte ∷ more) top ≡ true
 stays_below byte rest more e = stays_less (nat_lt byte 255) (byte == 255) rest more e
 
 pub empty_key : IsKey []

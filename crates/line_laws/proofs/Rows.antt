@@ -6,7 +6,8 @@ use Rattle.std.specs.Fmt.{decimal}
 use Rattle.line_rules.specs.Printing.{printable}
 use Rattle.line_rules.specs.Reading.{Bad, pair_at, text_of, pieces, piece_at}
 use Rattle.input_rules.specs.Orders.{machine_at}
-use Rattle.line_laws.specs.Places.{IsKey, IsPairFront, PairKind, PairKey, PairValue, IsOrderFront, OrderGap, OrderMachine}
+use Rattle.event_rules.specs.Events.{event_at}
+use Rattle.line_laws.specs.Places.{IsKey, IsPairFront, PairKind, PairKey, PairValue, IsOrderFront, OrderGap, OrderMachine, NoLetter, LoneLetter, LoneKey, IsEventFront, WatchFront, ClearFront, PutFront}
 use Rattle.line_laws.proofs.Pairs.{empty_key}
 
 -- a line of these bytes is bad at this place
@@ -72,3 +73,35 @@ no_second_digit = (refl, refl, OrderMachine 6 (omega arith) (inr refl) (digit_be
 no_line_feed_behind : OrderRow false 3 (codes "O 6") []
 unfolding machine_at
 no_line_feed_behind = (refl, refl, OrderMachine 6 (omega arith) (inr refl) (digit_behind 6 (omega arith)))
+
+-- ---- events
+
+abbrev IsBadEvent : Bool → List ℕ → ℕ → Type 0
+IsBadEvent is_whole bytes place = event_at (record { bytes = bytes; is_whole = is_whole }) bytes ≡ Err (Bad place)
+
+abbrev EventRow : Bool → (place : ℕ) (front rest : List ℕ) → Type 0
+EventRow is_whole place front rest = IsBadEvent is_whole (front ++ rest) place × (length front ≡ place) × IsEventFront front
+
+no_kind : EventRow true 0 [] (codes "O 0")
+unfolding event_at
+no_kind = (refl, refl, WatchFront (NoLetter refl))
+
+kind_alone : EventRow true 1 (codes "C") []
+unfolding event_at
+kind_alone = (refl, refl, ClearFront (LoneLetter refl))
+
+separator_behind_a_key : EventRow true 3 (codes "W a") (codes "\\=b")
+unfolding event_at text_of pieces piece_at printable
+separator_behind_a_key = (refl, refl, WatchFront (LoneKey (codes "a") one_byte_key refl))
+
+lone_key_past_top : EventRow true 2 (codes "W ") (codes "\\xff\\q")
+unfolding event_at text_of pieces piece_at printable
+lone_key_past_top = (refl, refl, WatchFront (LoneKey [] empty_key refl))
+
+clear_without_line_feed : EventRow false 3 (codes "C a") []
+unfolding event_at text_of pieces piece_at printable
+clear_without_line_feed = (refl, refl, ClearFront (LoneKey (codes "a") one_byte_key refl))
+
+put_without_separator : EventRow true 3 (codes "K a") []
+unfolding event_at text_of pieces piece_at printable
+put_without_separator = (refl, refl, PutFront (PairKey (codes "a") one_byte_key refl))

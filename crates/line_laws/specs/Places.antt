@@ -1,9 +1,10 @@
 -- The place of a bad line, by a relation: how long the longest front of the line is that ends behind a whole part of a lawful line.
 use Rattle.std.specs.Prelude.{◌≡◌, ◌≤◌, ◌⊎◌, ℕ, Bool, true, false, List, [], ◌∷◌, ◌++◌, length, Err, codes, decimal}
 use Rattle.key_bytes.specs.Keys.{IsByteString, key_lt, top}
-use Rattle.line_rules.specs.Printing.{printable, separator}
+use Rattle.line_rules.specs.Printing.{space, printable, separator}
 use Rattle.line_rules.specs.Reading.{Line, Bad, pair_at}
 use Rattle.input_rules.specs.Orders.{is_digit, last_machine, machine_at}
+use Rattle.event_rules.specs.Events.{event_at}
 
 -- a key that a line of a pair may have, whatever its length: a byte string less than FF, the empty one included
 pub record IsKey (key : List ℕ) : Type 0 where
@@ -18,6 +19,18 @@ pub data IsPairFront (front : List ℕ) : Type 0 where
   PairKey : (key : List ℕ) (lawful : IsKey key) (is : front ≡ codes "K " ++ printable key) → IsPairFront front
   PairValue : (key value : List ℕ) (lawful : IsKey key) (bytes : IsByteString value)
       (is : front ≡ codes "K " ++ (printable key ++ separator ++ printable value)) → IsPairFront front
+
+-- A whole front of a lawful line of a letter and one key: nothing; the letter; or that, a space and the printable form of a key.
+pub data IsKeyFront (letter : ℕ) (front : List ℕ) : Type 0 where
+  NoLetter : (is : front ≡ []) → IsKeyFront letter front
+  LoneLetter : (is : front ≡ letter ∷ []) → IsKeyFront letter front
+  LoneKey : (key : List ℕ) (lawful : IsKey key) (is : front ≡ letter ∷ space ∷ printable key) → IsKeyFront letter front
+
+-- A whole front of a lawful line of an event: of one that watches a key, by W, of one that clears a key, by C, or of one of a pair.
+pub data IsEventFront (front : List ℕ) : Type 0 where
+  WatchFront : (its : IsKeyFront 87 front) → IsEventFront front
+  ClearFront : (its : IsKeyFront 67 front) → IsEventFront front
+  PutFront : (its : IsPairFront front) → IsEventFront front
 
 abbrev pub begins_with_digit : List ℕ → Bool
 begins_with_digit [] = false
@@ -49,3 +62,8 @@ ArePairPlaces = (line : Line) (place : ℕ) → pair_at line line.bytes ≡ Err 
 -- the place of a bad line of an order
 abbrev pub AreOrderPlaces : Type 0
 AreOrderPlaces = (line : Line) (place : ℕ) → machine_at line line.bytes ≡ Err (Bad place) → IsLongestFront IsOrderFront line.bytes place
+
+-- the place of a bad line of an event
+abbrev pub AreEventPlaces : Type 0
+AreEventPlaces = (line : Line) (place : ℕ) → event_at line line.bytes ≡ Err (Bad place)
+    → IsLongestFront (λ front rest. IsEventFront front) line.bytes place

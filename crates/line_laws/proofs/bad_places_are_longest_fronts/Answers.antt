@@ -1,3 +1,4 @@
+use Rattle.line_laws.proofs.Events.{event_places}
 use Rattle.line_laws.proofs.Pairs.{pair_places}
 use Rattle.line_laws.proofs.Orders.{order_places}
 use Rattle.line_laws.proofs.bad_places_are_longest_fronts.Goals as goal
@@ -7,3 +8,6 @@ returns-clause-pairs c = pair_places
 
 pub returns-clause-orders : goal.returns-clause-orders
 returns-clause-orders c = order_places
+
+pub returns-clause-events : goal.returns-clause-events
+returns-clause-events c = event_places
