@@ -37,7 +37,8 @@ pub fn shell<S: Source, K: Sink, N: Sink>(
     ensures write { result ≡ write_fault → Rose (K.faults out.old) (K.faults out.new) }
     ensures front { result ≡ write_fault → BreaksOff (S.left source.old) (S.left source.new) (K.written out.old) (K.written out.new) }
 
-    // 6: memory ran out. A front of what is printed for the lines that were read was written.
+    // 6: memory ran out. A front of what is printed for the whole lines that were read was written, and for the last one too at the
+    // end of the source.
     ensures short { result ≡ out_of_memory → RunsShort (S.left source.old) (S.left source.new) (K.written out.old) (K.written out.new) }
 
     // There is no other status; where the input is within its limits and nothing fails, it is 0 or 6.
