@@ -6,7 +6,7 @@ use database_rules::{Api, DatabaseOptions};
 use fdb_calls::{Reply, TxnCall};
 use key_bytes::Pairs;
 use std::alloc::{AllocError, Global};
-use txn_core::{Txn, TxnOn};
+use txn_core::{Txn, TxnOn, call};
 use version_store::Store;
 
 /// The greatest version at which a transaction is committed.
@@ -59,7 +59,8 @@ impl Database {
         if self.store.last() > LAST {
             bail!("too many commits");
         }
-        let answer = txn.call(
+        let answer = call(
+            txn,
             &mut self.store,
             &mut self.index,
             OPTIONS,

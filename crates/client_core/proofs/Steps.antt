@@ -19,7 +19,7 @@ use Rattle.directory_types.specs.declared.DirArgs.{DirArgs}
 use Rattle.directory_types.specs.declared.DirKind.{DirKind}
 use Rattle.directory_types.specs.declared.Layer.{Layer}
 use Rattle.directory_rules.specs.Calls.{effect}
-use Rattle.txn_core.proofs.Stored.{low_inside}
+use Rattle.txn_calls.proofs.Stored.{low_inside}
 use Rattle.client_core.specs.Stands.{ContentsModel, CoreModel, HasStarted, KeepsWorld, StandsFor, Answers, contents_in, is_no_memory}
 use Rattle.client_core.specs.Sound.{IsSound, Took, TookDrawing, TookWhole}
 use Rattle.client_core.specs.Lives.{drawn_in}

@@ -270,7 +270,7 @@ fn call_on(
     ensures kept { OnErr result (StillKeepsOf options transaction.old store.old store.new index.old index.new) }
 {
     let life = transaction.life();
-    let answer = transaction.call(store, index, options, call, lives.next())?;
+    let answer = txn_core::call(transaction, store, index, options, call, lives.next())?;
     let outcome = outcome_after(life, transaction);
     lives.go_on(answer.drew_life, life, outcome)?;
     Ok(answer.reply)

@@ -53,7 +53,7 @@ impl Model for Core {
     ghost use Rattle.key_bytes.specs.Keys.{key_cmp};
     ghost use Rattle.std.specs.Coded.{codes, coded_ℕ, coded_list};
     ghost use Rattle.version_store.specs.contracts.store.Store as store;
-    ghost use Rattle.txn_core.specs.contracts.txn.Txn as txn;
+    ghost use Rattle.txn_calls.specs.contracts.txn.Txn as txn;
     ghost use Rattle.conflict_ranges.specs.contracts.write_index.WriteIndex as index;
 
     ghost Value = { CoreModel };

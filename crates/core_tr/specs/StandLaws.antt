@@ -14,7 +14,7 @@ use Rattle.fdb_calls.specs.declared.Outcome.{Outcome}
 use Rattle.fdb_calls.specs.Outcomes.{outcome_of}
 use Rattle.machine_rules.specs.Worlds.{World, Transactions, decide, first_of, with_transaction}
 use Rattle.txn_core.specs.Stands as txn
-use Rattle.txn_core.specs.StandLaws as txn_laws
+use Rattle.txn_calls.specs.StandLaws as txn_laws
 use Rattle.client_core.specs.Stands.{CoreModel, StandsFor, AreAlike}
 use Rattle.core_tr.specs.Standing.{IsSettled, Stands, AreAlikeElse, Stays, KeepsRest}
 

@@ -7,7 +7,7 @@ use Rattle.std.specs.FinMap as finite
 use Rattle.std.proofs.lemmas.List.Concat.{flat_map-cons}
 use Rattle.std.proofs.lemmas.List.Folds.{list_all-map}
 use Rattle.std.proofs.lemmas.Option.{none-some, same_Some}
-use Rattle.txn_core.proofs.Stored.{low_inside}
+use Rattle.txn_calls.proofs.Stored.{low_inside}
 use Rattle.client_core.specs.Stands.{CoreModel, StandsFor}
 use Rattle.version_store.specs.Versions.{at, last_of}
 use Rattle.database_rules.specs.Databases.{Database}

@@ -20,9 +20,10 @@ use Rattle.fdb_calls.specs.Calling.{Called, answers, refuses, does_by, committed
 use Rattle.version_store.specs.Versions.{Versions}
 use Rattle.txn_core.specs.declared.answer.Answer.{Answer}
 use Rattle.txn_core.specs.Answering.{Tells, TellsOf}
-use Rattle.txn_core.specs.Judging.{Promises, TakesVersion, commit_refusal, conflict_refusal}
-use Rattle.txn_core.specs.Stands.{Kept, StandsFor, Keeps, StandsStill, Answers}
-use Rattle.txn_core.specs.Accesses.{Writes, WritesNamed, IsRefusedBy}
+use Rattle.txn_calls.specs.Judging.{Promises, TakesVersion, commit_refusal, conflict_refusal}
+use Rattle.txn_calls.specs.Stands.{Kept, StandsFor, Keeps, StandsStill}
+use Rattle.txn_core.specs.Stands.{Answers}
+use Rattle.txn_calls.specs.Accesses.{Writes, WritesNamed, IsRefusedBy}
 
 pub subst2 : {A B : Type 0} (P : A → B → Type 0) {a a' : A} {b b' : B} → a ≡ a' → b ≡ b' → P a b → P a' b'
 subst2 P same other p = subst (λ pair. pair) (λ i. P (same i) (other i)) p
@@ -253,11 +254,3 @@ pub commit_refused_late : (answer : Answer) (kept : Kept) (store : Versions) (in
 commit_refused_late answer kept store index setting t code takes refused replied drew stands keeps =
     subst (λ (made : Called). Answers answer kept store index setting made) (sym (takes_version setting t (Some code.0) takes refused))
     (refused_by_phase answer kept store index setting (with_version setting t) code t.phase replied drew keeps stands)
-
--- ---- other calls
-
--- one that no check refuses
-pub does_done : (code : Option ℕ) (t after : Transaction) (reply : Reply) (kept : Kept) → code ≡ None → StandsFor kept after
-    → (reply ≡ (does_by code t after reply).reply) × StandsFor kept (does_by code t after reply).transaction
-does_done code t after reply kept none stands =
-    subst (λ c. (reply ≡ (does_by c t after reply).reply) × StandsFor kept (does_by c t after reply).transaction) (sym none) (refl, stands)

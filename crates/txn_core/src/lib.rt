@@ -1,64 +1,23 @@
-//! A transaction over a store of versions: its calls, one at a time.
+//! The calls of a transaction over a store of versions, as requests have them and as layers have them.
 //!
-//! A `Txn` keeps its pending mutations (`write_map`) and the fields of a transaction of the definitions (`database_rules`,
-//! `specs/Transactions.antt`) but for what its reads were answered, and stands for each transaction that these agree with
-//! (`specs/Stands.antt`). For every transaction for which it stands before a call, and every history that the store and the
-//! index of its writes keep, the call is answered as `fdb_calls` says (`specs/Calling.antt`), and it stands for the
-//! transaction after the call. Reads are answered from a view (`ryw_view`) of the store under the pending mutations, and
-//! commits are judged by the index (`conflict_ranges`). `TxnOn` has the calls by their names (`Tr`), and the parts of a
-//! commit; `Txn::call` takes a call of a request.
+//! `txn_calls` has the transaction, `Txn`, and each of its calls as a function. `call` takes a call of a request, commits included:
+//! it joins the checks of a commit (`Txn::judge`) and the version that it makes (`Txn::make_version`). `TxnOn` has the calls by their
+//! names, for layers over any `Tr`, and the parts of a commit. For every transaction for which a `Txn` stands before a call, and
+//! every history that the store and the index of its writes keep, the call is answered as `fdb_calls` says (`specs/Calling.antt`),
+//! and the `Txn` stands for the transaction after the call.
 //!
 //! # Choices
 //!
-//! - What the code keeps of a transaction stands for one of the definitions by a relation: under their mutations the same
-//!   keys are unreadable and each key has the same state. That mutations act alike on every map would not do: adding an empty
-//!   operand leaves the empty value on every map, as a set of it does, and yet it decides nothing.
-//! - A transaction's calls stand twice: `Txn::call` takes a call as a request has it and commits, and `TxnOn` has the calls
-//!   by their names, for layers over any `Tr`. Both use the same functions.
-//! - A read is answered before it is asked whether it may be: an unreadable key has no value then, and the answer is dropped
-//!   where the interval that it gives has an unreadable key. So one walk along the mutations tells that and finds the undecided
-//!   keys. A read by snapshot asks `hides` alone, which looks at nothing where no mutation has a versionstamp; an ordinary read
-//!   between two boundaries of the mutations takes one search (`lies_open`).
-//! - Whether a mutation adds a write conflict range stands beside the mutations, in a list of its own of the same length, so that
-//!   `write_map` knows nothing of conflicts.
-//! - That a commit is read-only is compared as one fact, and not apart whether there is a mutation and whether a
-//!   write conflict range was added: no check asks for more. `judge` says beside its verdict that the life is active where no check fails, which
-//!   `tried` asks for.
-//! - A version is below 2^63, since a client sees it as an `i64`: a store keeps its last version below that, and a transaction
-//!   its read version (`IsLowVersion`), which is the last version of a store or was set from an `i64` above 0. So the answer to
-//!   a call for the read version never lacks a number.
-//! - A commit with a versionstamp makes a second map of its mutations, each filled in (`WriteMap::filled`), since a key that
-//!   is filled in has its place among the others only then.
-//! - A commit takes all its memory before any answer changes (`Txn::make_version`). The changes are made apart;
-//!   `Store::reserve` takes what `install` needs; the last call that can be refused is `WriteIndex::install_all` or
-//!   `install_key`. What follows takes no memory. So after a refusal the transaction stands as before, and the store and the
-//!   index keep what they kept (clause `err`).
-//! - A commit makes a list of its write conflict ranges, those of its mutations and then those that were added to it, and
-//!   gives it to the index. The ranges may meet: no answer of the index is another where a key is given the same version
-//!   twice. A commit with one key alone among them makes no list (`only_write_conflicts`).
-//! - A reset keeps the room of up to sixteen mutations for the next life, and gives back that of more (`Txn::reset`). No
-//!   clause says what room is kept.
+//! - A transaction's calls stand twice: `call` takes a call as a request has it and commits, and `TxnOn` has the calls
+//!   by their names. Both use the same functions of `txn_calls`.
 #![tactic(auto)]
 
-mod adding_conflicts;
 mod answer;
-mod call;
-mod changing;
-mod codes;
+mod calling;
 mod committing;
-mod conflicts;
-mod intervals;
-mod lives;
-mod logging;
-mod reading;
-mod resting;
-mod txn;
 mod txn_on;
-mod verdict;
-mod versions;
-mod writing;
 
 pub use answer::Answer;
-pub use txn::Txn;
+pub use calling::call;
+pub use txn_calls::{Txn, Verdict};
 pub use txn_on::TxnOn;
-pub use verdict::Verdict;

@@ -15,16 +15,15 @@ ghost use Rattle.fdb_calls.specs.Calling.{read_called, set_called, clear_called,
 ghost use Rattle.fdb_calls.specs.Calling.{read_conflict_called, write_conflict_called, no_write_conflict_called, read_version_called, set_read_version_called};
 ghost use Rattle.version_store.specs.Changed.{changed};
 ghost use Rattle.version_store.specs.Versions.{at, last_of};
-ghost use Rattle.txn_core.specs.Judging.{IsLow, Judged, Promises};
-ghost use Rattle.txn_core.specs.Stands.{StandsFor, Keeps};
+ghost use Rattle.txn_calls.specs.Judging.{IsLow, Judged, Promises};
+ghost use Rattle.txn_calls.specs.Stands.{StandsFor, Keeps};
 
-use crate::txn::Txn;
-use crate::verdict::Verdict;
 use conflict_ranges::{RangeSet, WriteIndex};
 use database_rules::{AtomicOp, Code, Mode, RangeOptions, Selector, Tried};
 use fdb_calls::{Tr, TrFault};
 use key_bytes::{Bytes, Key, KeyRange, Pairs};
 use std::alloc::AllocError;
+use txn_calls::{Txn, Verdict};
 use version_store::{Changes, Store};
 
 /// A transaction on a store and the index of its writes: its reads see the store's versions, and its commit is judged by the
@@ -204,7 +203,7 @@ impl TxnOn<'_> {
 
 impl Tr for TxnOn<'_> {
     ghost use Rattle.std.proofs.Common.{refl, ◌∙◌};
-    ghost use Rattle.txn_core.specs.StandLaws.{stands_granted};
+    ghost use Rattle.txn_calls.specs.StandLaws.{stands_granted};
 
     ghost stands = { λ on setting t. StandsFor on.txn.now t × Keeps on.store.now on.index.now setting };
 

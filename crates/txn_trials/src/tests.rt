@@ -3,7 +3,7 @@ use database_rules::{Api, AtomicOp, Code, DatabaseOptions, Tried};
 use fdb_calls::{Outcome, Reply, Tr, TrFault, TxnCall};
 use key_bytes::{Bytes, Key, KeyRange, Pair, Pairs};
 use std::alloc::{AllocError, Global};
-use txn_core::{Answer, Txn, TxnOn, Verdict};
+use txn_core::{Answer, Txn, TxnOn, Verdict, call};
 use version_store::Store;
 
 mod commits;
@@ -139,7 +139,8 @@ impl World {
         if self.store.last() > 9 {
             return Err(AllocError);
         }
-        self.first.call(
+        call(
+            &mut self.first,
             &mut self.store,
             &mut self.index,
             OPTIONS,

@@ -11,7 +11,7 @@ use Rattle.client_core.proofs.contents.call_on.Goals as goal
 
 pub returns-clause-made : goal.returns-clause-made
 returns-clause-made c =
-    let answer = c.in_ok-answer.answer in let left = c.call.new.self in
+    let answer = c.in_ok-answer.answer in let left = c.call.new.txn in
     let longer = with_lives c.args.lives.now (cond answer.drew_life 1 0) in
     record {
       answer = answer;
@@ -32,5 +32,5 @@ returns-in_err-answer-clause-kept c = err_always c.from_residual.result (λ t se
 pub returns-in_err-go_on-clause-kept : goal.returns-in_err-go_on-clause-kept
 returns-in_err-go_on-clause-kept c = err_always c.from_residual-in_err-go_on.result (λ t setting stood keeps same.
     let life = c.next.result in
-    drawing_keeps c.in_ok-answer.answer c.call.new.self c.call.new.store c.call.new.index setting (called setting life t c.args.call.now)
+    drawing_keeps c.in_ok-answer.answer c.call.new.txn c.call.new.store c.call.new.index setting (called setting life t c.args.call.now)
     (drawing_quiet setting life t c.args.call.now) c.in_err-go_on.ensures.err (c.in_ok-answer.ensures.ok t setting stood keeps same))

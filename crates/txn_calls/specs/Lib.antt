@@ -1,0 +1,5 @@
+pub mod Stands
+pub mod StandLaws
+pub mod Accesses
+pub mod Judging
+pub mod Logging

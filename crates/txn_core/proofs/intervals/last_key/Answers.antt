@@ -1,9 +1,0 @@
-use Rattle.std.proofs.Common.{rules, ap, ◌∙◌}
-use Rattle.database_rules.specs.Intervals.{last_key}
-use Rattle.txn_core.proofs.LastKeys.{last_key_at}
-use Rattle.txn_core.proofs.intervals.last_key.Goals as goal
-
-pub returns-in-Some : goal.returns-in-Some
-returns-in-Some c =
-    last_key_at c.args.key.now c.as_slice.result.now c.in-Some.pair.now (search rules)
-    ∙ ap (last_key c.args.key.now) c.as_slice.ensures

@@ -1,6 +1,0 @@
-use Rattle.std.proofs.Common.{rules}
-use Rattle.txn_core.proofs.Standing.{stands_written}
-use Rattle.txn_core.proofs.txn.Txn.add_set.Goals as goal
-
-pub returns-clause-ok : goal.returns-clause-ok
-returns-clause-ok c = stands_written _ c.args.self.now _ (search rules) (search rules)

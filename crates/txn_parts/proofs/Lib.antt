@@ -1,0 +1,4 @@
+pub mod Changes
+pub mod Modified
+pub mod Units
+mod LastKeys
