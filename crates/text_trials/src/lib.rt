@@ -1,5 +1,5 @@
-//! Trials of what stands on byte strings alone: keys, lists, sources and sinks, atomic operations, tuples, subspaces, lines of a
-//! dump, the words of a command line and generated instructions; and of the block that shares a request.
+//! Trials of what stands on byte strings alone, of which no case tells: keys, sources and sinks, tuples that aren't packed or can't be
+//! unpacked, lines at their limits, dumps that are read, and generated instructions.
 //!
 //! They call public functions alone: each call once with memory, and the spellings that come from outside.
 #![tactic(auto)]

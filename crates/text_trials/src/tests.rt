@@ -1,13 +1,7 @@
-mod atomics;
-mod cases;
 mod dumps;
 mod keys;
 mod lines;
-mod listed;
 mod packing;
-mod requests;
 mod script;
 mod streams;
-mod subspaces;
 mod unpacking;
-mod words;

@@ -15,23 +15,6 @@ fn set_with_a_gap(alloc: Global) -> Result<RangeSet, AllocError> {
     Ok(set)
 }
 
-// Whether that set meets a range.
-fn meets(alloc: Global, begin: &[u8], end: &[u8]) -> Result<bool, AllocError> {
-    let range = range_of(alloc, begin, end)?;
-    let set = set_with_a_gap(alloc)?;
-    Ok(set.meets(&range))
-}
-
-#[test]
-fn meets_what_it_has(rt: HostRuntime) -> Result<(), Fail> {
-    let alloc = rt.alloc();
-    assert!(rt; meets(alloc, b"b", b"c")?);
-    assert!(rt; !meets(alloc, b"c", b"d")?);
-    assert!(rt; meets(alloc, b"bz", b"c\0")?);
-    assert!(rt; !meets(alloc, b"d", b"b")?);
-    Ok(())
-}
-
 fn write_range(text: &mut Bytes, begin: &Key, end: &Key) -> Result<(), AllocError> {
     text.extend(begin.as_slice())?;
     text.extend(b"-")?;

@@ -1,9 +1,6 @@
 //! Dumps and printable text that are read.
 
-use dump_reading::{
-    FieldFault, Line, LineFault, PrintableFault, Spelling, behind, digit_of, digits_len,
-    first_line, read_dump, read_printable, spelling_of,
-};
+use dump_reading::{Line, LineFault, PrintableFault, read_dump, read_printable};
 use dump_text::write_line;
 use key_bytes::Bytes;
 use std::alloc::{AllocError, Global};
@@ -157,19 +154,4 @@ fn dumps_come_back(rt: HostRuntime) -> Result<(), Fail> {
         Some((65_535, 10, 907))
     );
     Ok(())
-}
-
-// ---- parts of a line
-
-#[test]
-fn parts_of_a_line(rt: HostRuntime) {
-    let (line, rest) = first_line(3, b"O 0\nK a\\=b\n");
-    assert_eq!(rt; line.bytes, b"O 0".as_slice());
-    assert_eq!(rt; rest, b"K a\\=b\n".as_slice());
-    assert_eq!(rt; line.bad_at(2), LineFault::BadLine { line: 3, place: 2 });
-    assert!(rt; matches!(behind(b"end", b"ended"), Ok(b"ed")));
-    assert!(rt; matches!(behind(b"end", b"enter"), Err(FieldFault::Bad(3))));
-    assert_eq!(rt; digits_len(b"63x"), 2);
-    assert_eq!(rt; (digit_of(b'f'), digit_of(b'F')), (15, 16));
-    assert!(rt; matches!(spelling_of(None, b"\\x00b"), Spelling::Byte(0, b"b")));
 }
