@@ -10,6 +10,3 @@ mod reading;
 pub use dump_text::LineFault;
 pub use event_rules::{Event, Events};
 pub use reading::read_events;
-
-#[cfg(test)]
-mod tests;

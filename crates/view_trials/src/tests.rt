@@ -6,6 +6,7 @@ mod many_mutations;
 mod undecided;
 mod versions;
 mod views;
+mod watches;
 
 fn key_of(alloc: Global, text: &[u8]) -> Result<Key, AllocError> {
     Bytes::from_slice(alloc, text)

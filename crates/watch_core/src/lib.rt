@@ -39,6 +39,3 @@ mod watches;
 pub use ending::{Ending, WatchEnd, WatchEnds};
 pub use laws::events_settle_watches;
 pub use watches::{MOST_PENDING, Watches};
-
-#[cfg(test)]
-mod tests;
