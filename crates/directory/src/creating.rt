@@ -6,14 +6,12 @@
 
 ghost use Rattle.std.specs.Prelude.{◌≡◌, ℕ, ◌+◌, ◌≤◌, false, [], ◌∷◌, ◌++◌, length, reverse, OnOk};
 ghost use Rattle.directory_rules.specs.Calls.{judged, found_opened, looks, makes, opening};
-ghost use Rattle.directory.specs.Runs.{Draws, Follows, Tells, beside};
+ghost use Rattle.directory_nodes.specs.Runs.{Draws, Follows, Tells, beside};
 ghost use Rattle.directory.specs.Places.{place_so, IsWithin};
 ghost use Rattle.directory.specs.Descents.{missing_at, descends, ascends, makes_parent};
 
-use crate::entries::{asked_or_empty, enter, opened};
-use crate::finding::root;
-use crate::prefixes::take_prefix;
 use crate::reaching::{Place, copy_of, reach};
+use directory_nodes::{asked_or_empty, enter, opened, root, take_prefix};
 use directory_rules::{Directory, Lookup, OpenOptions};
 use directory_types::{DirArgs, DirFault, DirReply, Layer};
 use fdb_calls::Tr;

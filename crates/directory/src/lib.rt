@@ -6,7 +6,8 @@
 //! in the transaction, and the words that were drawn are drawn. After NoMemory it stands for the transaction after some first of
 //! the steps.
 //!
-//! A contract of a single function here says that it makes the steps of a course, which is one of the definitions' (`specs/Runs.antt`).
+//! A contract of a single function here says that it makes the steps of a course, which is one of the definitions'
+//! (`directory_nodes`, `specs/Runs.antt`). What reads and writes nodes, follows names and takes prefixes stands there too.
 //!
 //! # Choices
 //!
@@ -20,18 +21,10 @@ ghost use Rattle.database_rules.specs.Transactions.{Transaction};
 ghost use Rattle.directory_types.specs.declared.DirKind.TheVariants as kind;
 ghost use Rattle.directory.specs.Runs.{IsAnswered};
 
-mod calls;
-mod checking;
 mod creating;
-mod entries;
-mod fault;
-mod finding;
-mod in_use;
 mod listing;
 mod logging;
 mod moving;
-mod nodes;
-mod prefixes;
 mod reaching;
 mod removing;
 

@@ -4,12 +4,10 @@ ghost use Rattle.std.specs.Prelude.{◌≡◌, map, IfOk};
 ghost use Rattle.key_bytes.specs.Entries.{entry_of};
 ghost use Rattle.directory_rules.specs.Steps.{child_in, children_in, children};
 ghost use Rattle.directory_rules.specs.Calls.{to_see, lists, names_below, is_there};
-ghost use Rattle.directory.specs.Runs.{Follows, Tells};
+ghost use Rattle.directory_nodes.specs.Runs.{Follows, Tells};
 
-use crate::calls::pairs_of;
-use crate::checking::check;
-use crate::nodes::Node;
 use crate::reaching::{Place, inside, reach};
+use directory_nodes::{Node, check, pairs_of};
 use directory_rules::{Child, Directory, Lookup, is_partition};
 use directory_types::{DirFault, Layer, Path};
 use fdb_calls::Tr;

@@ -2,11 +2,10 @@
 
 ghost use Rattle.std.specs.Prelude.{◌≡◌, ◌+◌, ◌<◌, ◌==◌, ◌&&◌, not, false, IfOk, OnOk, length};
 ghost use Rattle.directory_rules.specs.Steps.{admits, arrives, inside};
-ghost use Rattle.directory.specs.Runs.{Follows};
+ghost use Rattle.directory_nodes.specs.Runs.{Follows};
 ghost use Rattle.directory.specs.Places.{place_so, IsWithin};
 
-use crate::checking::check;
-use crate::finding::find;
+use directory_nodes::{check, find};
 use directory_rules::{Directory, Lookup};
 use directory_types::{DirFault, Layer};
 use fdb_calls::Tr;

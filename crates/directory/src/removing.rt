@@ -2,13 +2,12 @@
 
 ghost use Rattle.std.specs.Prelude.{◌≡◌, ◌+◌, length, [], ◌∷◌, ◌++◌, map, OnOk};
 ghost use Rattle.directory_rules.specs.Calls.{clears_one, clears_all, removes_one, removing};
-ghost use Rattle.directory.specs.Runs.{Follows, FollowsBelow};
+ghost use Rattle.directory_nodes.specs.Runs.{Follows, FollowsBelow};
 
-use crate::calls::clear_range;
 use crate::listing::children;
 use crate::moving::leave;
-use crate::nodes::Node;
 use crate::reaching::{Place, reach};
+use directory_nodes::{Node, clear_range};
 use directory_rules::{Child, Directory, Lookup};
 use directory_types::{DirFault, DirReply, Layer};
 use fdb_calls::Tr;

@@ -3,7 +3,7 @@ use Rattle.directory_types.specs.declared.fault.DirFault.TheVariants as fault
 use Rattle.directory_rules.specs.declared.Directory.{Directory}
 use Rattle.directory_rules.specs.declared.OpenOptions.{OpenOptions}
 use Rattle.directory_rules.specs.Calls.{judged}
-use Rattle.directory.specs.Runs.{Tells}
+use Rattle.directory_nodes.specs.Runs.{Tells}
 use Rattle.directory.proofs.creating.judge.Goals as goal
 
 -- none is there, and one may be created, or may not

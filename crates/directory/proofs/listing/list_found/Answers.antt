@@ -4,10 +4,10 @@ use Rattle.directory_rules.specs.Courses.{Course, Done, done, ◌>>=◌}
 use Rattle.directory_rules.specs.Nodes.{is_partition}
 use Rattle.directory_rules.specs.Steps.{check, inside, children}
 use Rattle.directory_rules.specs.Calls.{lists}
-use Rattle.directory.specs.Runs.{Draws}
-use Rattle.directory.proofs.Following.{then_drew}
-use Rattle.directory.proofs.Passing.{ended_so, ran_out}
-use Rattle.directory.proofs.Deciding.{where_true, where_false}
+use Rattle.directory_nodes.specs.Runs.{Draws}
+use Rattle.directory_nodes.proofs.Following.{then_drew}
+use Rattle.directory_nodes.proofs.Passing.{ended_so, ran_out}
+use Rattle.directory_nodes.proofs.Deciding.{where_true, where_false}
 use Rattle.directory.proofs.listing.list_found.Goals as goal
 
 -- those of the root of a partition's layer, once that was checked

@@ -1,6 +1,6 @@
 use Rattle.std.proofs.Common.{ℕ, ◌+◌, ◌<◌, length}
 use Rattle.directory_rules.specs.Calls.{finds_moved}
-use Rattle.directory.proofs.Leading.{Leads}
+use Rattle.directory_nodes.proofs.Leading.{Leads}
 use Rattle.directory.proofs.moving.find_moved.Given as goal
 
 -- who begins again on this layer with the names that are left of both paths, under a bound that is enough, has made the whole course

@@ -1,8 +1,9 @@
 use Rattle.std.proofs.Common.{sym, subst}
 use Rattle.std.specs.Prelude.{option_map}
 use Rattle.directory_rules.specs.Calls.{moves_on}
-use Rattle.directory.specs.Places.{found_as, names_so}
-use Rattle.directory.specs.Runs.{Tells}
+use Rattle.directory_nodes.specs.Places.{found_as}
+use Rattle.directory.specs.Places.{names_so}
+use Rattle.directory_nodes.specs.Runs.{Tells}
 use Rattle.directory.proofs.moving.move_on.Goals as goal
 
 pub returns-in-Some : goal.returns-in-Some

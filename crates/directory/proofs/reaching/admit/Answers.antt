@@ -5,9 +5,9 @@ use Rattle.directory_types.specs.declared.fault.DirFault.TheVariants as fault
 use Rattle.directory_rules.specs.declared.Lookup.{Lookup}
 use Rattle.directory_rules.specs.Courses.{Course, ◌>>=◌, Done, done}
 use Rattle.directory_rules.specs.Steps.{refuse_where, check, admits}
-use Rattle.directory.proofs.Following.{then_drew}
-use Rattle.directory.proofs.Passing.{ended_so}
-use Rattle.directory.proofs.Refusing.{passed_where, refused_where, refused_last, passed_last}
+use Rattle.directory_nodes.proofs.Following.{then_drew}
+use Rattle.directory_nodes.proofs.Passing.{ended_so}
+use Rattle.directory_nodes.proofs.Refusing.{passed_where, refused_where, refused_last, passed_last}
 use Rattle.directory.proofs.reaching.admit.Goals as goal
 
 -- what is behind each step

@@ -2,10 +2,11 @@ use Rattle.std.proofs.Common.{◌≡◌, ◌+◌, ◌<◌, Some, None, Ok, sym, 
 use Rattle.std.specs.Prelude.{option_map}
 use Rattle.directory_rules.specs.Courses.{done}
 use Rattle.directory_rules.specs.Steps.{place, admits, find, arrives}
-use Rattle.directory.specs.Places.{place_so, found_as, IsLess}
-use Rattle.directory.specs.Runs.{Draws}
-use Rattle.directory.proofs.Following.{then_drew, gave}
-use Rattle.directory.proofs.Passing.{ended_so, ran_out, handed}
+use Rattle.directory_nodes.specs.Places.{found_as, IsLess}
+use Rattle.directory.specs.Places.{place_so}
+use Rattle.directory_nodes.specs.Runs.{Draws}
+use Rattle.directory_nodes.proofs.Following.{then_drew, gave}
+use Rattle.directory_nodes.proofs.Passing.{ended_so, ran_out, handed}
 use Rattle.directory.proofs.Arriving.{less_one, less_one_is, by_found, behind_admits, one_layer, ends_here, begins_again, shorter}
 use Rattle.directory.proofs.reaching.reach.Goals as goal
 

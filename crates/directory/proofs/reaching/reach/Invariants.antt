@@ -1,6 +1,6 @@
 use Rattle.std.proofs.Common.{ℕ, ◌+◌, ◌<◌, ◌≤◌, length}
 use Rattle.directory_rules.specs.Steps.{arrives}
-use Rattle.directory.proofs.Leading.{Leads}
+use Rattle.directory_nodes.proofs.Leading.{Leads}
 use Rattle.directory.proofs.reaching.reach.Given as goal
 
 -- who begins again on this layer with the names that are left, under a bound that is enough, has made the whole course

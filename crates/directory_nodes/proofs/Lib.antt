@@ -1,0 +1,12 @@
+pub mod Following
+pub mod Refusing
+pub mod Single
+pub mod Passing
+pub mod Versions
+pub mod Deciding
+pub mod Ranges
+pub mod Values
+pub mod Insides
+pub mod Taking
+pub mod Leading
+pub mod NameByName

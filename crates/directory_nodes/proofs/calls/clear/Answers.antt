@@ -1,0 +1,19 @@
+use Rattle.std.proofs.Common.{subst, sym}
+use Rattle.database_rules.specs.Databases.{Clear}
+use Rattle.fdb_calls.specs.declared.Reply.TheVariants as reply
+use Rattle.fdb_calls.specs.Answers.{Answered}
+use Rattle.allocator_rules.specs.Acts.{Writes, act_called}
+use Rattle.directory_rules.specs.Courses.{does}
+use Rattle.directory_nodes.specs.Runs.{RunsTo}
+use Rattle.directory_nodes.proofs.Single.{write_ran}
+use Rattle.directory_nodes.proofs.calls.clear.Goals as goal
+
+pub returns-clause-follows : goal.returns-clause-follows
+returns-clause-follows g c words setting t stands =
+    let after = g.T.Tr.stands c.clear.new.self setting in
+    let mutation = Clear c.args.key.now in
+    subst (λ result. RunsTo result setting after words words (does mutation) t) (sym c.from_tr.ensures)
+    (write_ran c.clear.result setting after words mutation t
+    (subst (λ key. Answered (λ (done : Unit {0}). reply.Done) c.clear.result after t (act_called setting t (Writes (Clear key))))
+    c.as_slice.ensures
+    (c.clear.ensures.answer setting t stands)))
