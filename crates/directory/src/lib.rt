@@ -1,7 +1,7 @@
 //! Directories (the directory layer's documentation): paths of names, each of which stands for a short prefix of keys.
 //!
-//! Each call does to its transaction, and answers, what its definition says (`directory_rules`, `specs/Calls.antt`): exactly those
-//! reads and writes in their order, each read answered as it is after the writes before it, up to the first refusal. It works
+//! Each call does to its transaction, and answers, what its definition says (`directory_rules`, `specs/Calls.antt`): those
+//! reads and writes in their order, and no other that a transaction keeps, each read answered as it is after the writes before it, up to the first refusal. It works
 //! over any transaction that answers as the definitions say (`Tr`), and any random words. What the steps before a refusal did stays
 //! in the transaction, and the words that were drawn are drawn. After NoMemory it stands for the transaction after some first of
 //! the steps.

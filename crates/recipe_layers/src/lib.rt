@@ -2,9 +2,9 @@
 //! (`push`, `pop`), a map from pairs to counts (`add`, `subtract`, `values`) and a byte string in chunks (`size`, `read`,
 //! `write`).
 //!
-//! Each call makes exactly the reads and writes that its definition lists (`recipe_rules`), all of them ordinary, and its
-//! contract says what they make of the queue, the counts or the bytes, and that every key outside the subspace is seen as
-//! before. So calls of transactions that commit are those of the list, the map or the string in the order of the commits.
+//! Each call makes the reads and writes that its definition lists (`recipe_rules`), all of them ordinary, in that order, and no
+//! other that a transaction keeps. Its contract says what they make of the queue, the counts or the bytes, and that every key outside
+//! the subspace is seen as before. What that means for calls of transactions that commit is said by laws (`queue_laws`).
 #![tactic(auto)]
 
 mod blob;
