@@ -10,12 +10,13 @@ use fdb_calls::{Reply, Request};
 use future_cell::{Receipt, Wake};
 use key_bytes::{Bytes, Pair, Pairs};
 use machine_rules::MachineOptions;
-use machine_threads::{Cause, ThreadedMachine, run_machine};
+use machine_threads::{ThreadedMachine, run_machine};
 use network::{Post, Service, serve};
 use outside::OpenGate;
 use request_line::{Receiver, Sender, open};
 use std::alloc::{AllocError, Global};
 use std::sync::Wait;
+use std::sync::atomic::AtomicBool;
 use std::test::Fail;
 use std::thread;
 use std::thread::Threads;
@@ -48,11 +49,11 @@ impl Service for Starts {
     fn note_refused(&mut self, _receipt: Receipt<Reply, Wake>) {}
 }
 
-// How many machines came back, why not all ran to their end, and how many were started as the service saw it.
+// How many machines came back, whether the run was cut short, and how many machines were started as the service saw it.
 #[derive(Clone, Copy, Debug, PartialEq, Eq)]
 struct Came {
     back: usize,
-    cut: Option<Cause>,
+    is_cut: bool,
     machines: u64,
 }
 
@@ -94,20 +95,22 @@ fn answer_all<R: Wait>(
     serve(rt, alloc, &mut receiver, &mut starts).machines
 }
 
-// Runs machine 0, while another thread answers.
+// Runs machine 0, while another thread answers; `is_cut` says whether the run is cut short from the start.
 fn run_over<R: Threads + Wait + Copy + Send + Sync + 'static>(
     rt: R,
     alloc: Global,
     machine: Option<u16>,
+    is_cut: bool,
 ) -> Result<Came, AllocError> {
     let (sender, receiver) = open::<Post>(alloc, 4)?;
     let first = first_machine(alloc, sender)?;
     let serving = thread::spawn(&rt, move || answer_all(&rt, alloc, receiver, machine))?;
-    let ran = run_machine(&rt, alloc, &OpenGate, first, 0);
+    let is_cut = AtomicBool::new(is_cut);
+    let ran = run_machine(&rt, alloc, &OpenGate, &is_cut, first, 0);
     let machines = serving.join(&rt);
     Ok(Came {
         back: ran.crew.listed(alloc)?.len(),
-        cut: ran.cut,
+        is_cut: ran.is_cut,
         machines,
     })
 }
@@ -115,19 +118,17 @@ fn run_over<R: Threads + Wait + Copy + Send + Sync + 'static>(
 // The service's thread ends only where as many Overs were posted as machines were started.
 #[test]
 fn each_machine_that_was_started_is_over(rt: HostRuntime) -> Result<(), Fail> {
-    let came = |back, cut, machines| Came {
+    let came = |back, is_cut, machines| Came {
         back,
-        cut,
+        is_cut,
         machines,
     };
-    assert_eq!(rt; run_over(rt, rt.alloc(), Some(1))?, came(2, None, 2));
     assert_eq!(rt;
-        run_over(rt, rt.alloc(), None)?,
-        came(1, Some(Cause::NoMemory), 1)
+        run_over(rt, rt.alloc(), Some(1), false)?,
+        came(2, false, 2)
     );
-    assert_eq!(rt;
-        run_over(rt, rt.alloc(), Some(0))?,
-        came(1, Some(Cause::StrayStart), 2)
-    );
+    assert_eq!(rt; run_over(rt, rt.alloc(), None, false)?, came(1, true, 1));
+    assert_eq!(rt; run_over(rt, rt.alloc(), Some(0), false)?, came(1, true, 2));
+    assert_eq!(rt; run_over(rt, rt.alloc(), Some(1), true)?, came(1, true, 1));
     Ok(())
 }

@@ -171,11 +171,11 @@ fn answers_at_each_version(rt: HostRuntime) -> Result<(), Fail> {
 
 // ---- a store that is pruned
 
-// One key, which has each of the versions 1 to 100 as its value.
-fn set_hundred_times(alloc: Global) -> Result<Store, AllocError> {
+// One key, which has each of the versions 1 to 100 as its value, in a store that notes changes for a prune or doesn't.
+fn set_hundred_times(alloc: Global, prunes: bool) -> Result<Store, AllocError> {
     let mut pairs = Pairs::new(alloc);
     push_pair(alloc, &mut pairs, b"k", &[1])?;
-    let mut store = Store::load_with_pruning(alloc, pairs, true)?;
+    let mut store = Store::load_with_pruning(alloc, pairs, prunes)?;
     for version in 2..=100u8 {
         let mut changes = Changes::new(alloc);
         add_change(alloc, &mut changes, b"k", Some(&[version]))?;
@@ -193,9 +193,9 @@ fn pruned(store: &mut Store, oldest: u64) -> (usize, usize, u64) {
     (before, store.nodes(), store.oldest())
 }
 
-fn is_pruned(alloc: Global) -> Result<bool, AllocError> {
+fn is_pruned(alloc: Global, prunes: bool) -> Result<bool, AllocError> {
     let key = key_of(alloc, b"k")?;
-    let mut store = set_hundred_times(alloc)?;
+    let mut store = set_hundred_times(alloc, prunes)?;
     let is_few = pruned(&mut store, 99) == (100, 2, 99);
     let too_old = store.get_at(&key, 98).err() == Some(VersionFault::TooOld { oldest: 99 });
     Ok(
@@ -208,7 +208,8 @@ fn is_pruned(alloc: Global) -> Result<bool, AllocError> {
 
 #[test]
 fn keeps_what_can_be_read(rt: HostRuntime) -> Result<(), Fail> {
-    assert!(rt; is_pruned(rt.alloc())?);
+    assert!(rt; is_pruned(rt.alloc(), true)?);
+    assert!(rt; is_pruned(rt.alloc(), false)?);
     Ok(())
 }
 
