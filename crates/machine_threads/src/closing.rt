@@ -20,7 +20,7 @@ use network::{Post, Receipts};
 use request_line::Receiver;
 use std::alloc::{AllocError, Global};
 use suspended_machine::SuspendedMachine;
-use threaded_machine::{Cause, ThreadedMachine};
+use threaded_machine::ThreadedMachine;
 
 /// What is left of a machine once its sender was closed.
 #[derive(Drop)]
@@ -56,7 +56,7 @@ pub fn settle_machines(
     let mut receiver = receiver;
     let unsettled = close_all(alloc, &mut receiver, ended)?;
     let receipts = by_machine(alloc, unsettled.len(), order, receipts)?;
-    settle_each(alloc, unsettled, receipts)
+    Ok(settle_each(alloc, unsettled, receipts)?)
 }
 
 // Whether the machine of each number stands at that place.

@@ -13,10 +13,9 @@ use machine_rules::MACHINES;
 use outside::Gate;
 use std::alloc::Global;
 use std::sync::Wait;
-use std::sync::atomic::{AtomicBool, Ordering};
 use std::thread::{Threads, join};
 use suspended_machine::SuspendedMachine;
-use threaded_machine::{Cause, Refused, ThreadedMachine};
+use threaded_machine::{Refused, ThreadedMachine};
 
 /// What a machine and those that were run beside it have come to.
 #[derive(Drop)]
@@ -27,15 +26,13 @@ pub struct Ran {
 }
 
 /// Runs a machine, and beside it each machine that it starts, and those that these start. The number of each that is started is to be
-/// greater than `newest`, the greatest that was seen. All of them come back, also where not each ran to its end: where memory is wanting
-/// for one, `is_cut` is set, and the others stop at their next request. Together they have posted one Over, and one for each machine
-/// that a reply to them said was started meanwhile.
+/// greater than `newest`, the greatest that was seen. All of them come back, also where not each ran to its end. Together they have
+/// posted one Over, and one for each machine that a reply to them said was started meanwhile.
 #[cycle(machines)]
 pub fn run_machine<R: Threads + Wait + Sync, G: Gate>(
     rt: &R,
     alloc: Global,
     gate: &G,
-    is_cut: &AtomicBool,
     machine: ThreadedMachine,
     newest: u16,
 ) -> Ran
@@ -46,8 +43,8 @@ pub fn run_machine<R: Threads + Wait + Sync, G: Gate>(
     ensures over { AreOver 1 machine (machines_in result.crew) }
 {
     let mut machine = machine;
-    match machine.run_until_started(rt, alloc, gate, is_cut) {
-        Ok(Some(suspended)) => run_beside(rt, alloc, gate, is_cut, machine, suspended, newest),
+    match machine.run_until_started(rt, alloc, gate) {
+        Ok(Some(suspended)) => run_beside(rt, alloc, gate, machine, suspended, newest),
         Ok(None) => {
             machine.end(rt);
             Ran {
@@ -55,7 +52,7 @@ pub fn run_machine<R: Threads + Wait + Sync, G: Gate>(
                 is_cut: false,
             }
         }
-        Err(refused) => given_up(rt, is_cut, machine, refused),
+        Err(refused) => given_up(rt, machine, refused),
     }
 }
 
@@ -65,7 +62,6 @@ fn run_beside<R: Threads + Wait + Sync, G: Gate>(
     rt: &R,
     alloc: Global,
     gate: &G,
-    is_cut: &AtomicBool,
     machine: ThreadedMachine,
     suspended: SuspendedMachine,
     newest: u16,
@@ -83,14 +79,14 @@ fn run_beside<R: Threads + Wait + Sync, G: Gate>(
     let number = suspended.machine.number();
     let refused = Refused { owed: Some(number) };
     if number <= newest || usize::from(number) >= MACHINES {
-        return given_up(rt, is_cut, machine, refused);
+        return given_up(rt, machine, refused);
     }
     let Ok(places) = Places::new(alloc) else {
-        return given_up(rt, is_cut, machine, refused);
+        return given_up(rt, machine, refused);
     };
     let other = match machine.fork(alloc, suspended) {
         Ok(other) => other,
-        Err(_) => return given_up(rt, is_cut, machine, refused),
+        Err(_) => return given_up(rt, machine, refused),
     };
     let (own, others) = join(
         rt,
@@ -101,7 +97,7 @@ fn run_beside<R: Threads + Wait + Sync, G: Gate>(
             requires room { MACHINES ≤ (history_of machine).room + number + 1 }
             ensures team { result.is_cut ≡ false → IsTeamOf machine (machines_in result.crew) }
             ensures over { AreOver 1 machine (machines_in result.crew) }
-        { run_machine(rt, alloc, gate, is_cut, machine, number) },
+        { run_machine(rt, alloc, gate, machine, number) },
         move || -> Ran
             requires sync { IsSync R.row × IsSync G.row }
             requires running { IsRunning other }
@@ -109,18 +105,17 @@ fn run_beside<R: Threads + Wait + Sync, G: Gate>(
             requires room { MACHINES ≤ (history_of other).room + number + 1 }
             ensures team { result.is_cut ≡ false → IsTeamOf other (machines_in result.crew) }
             ensures over { AreOver 1 other (machines_in result.crew) }
-        { run_machine(rt, alloc, gate, is_cut, other, number) },
+        { run_machine(rt, alloc, gate, other, number) },
     );
     together(places, own, others)
 }
 
-// Posts the Over of a machine that can't go on, and before it the one that it owes, if it owes one, and cuts the run short.
-fn given_up<R: Wait>(rt: &R, is_cut: &AtomicBool, machine: ThreadedMachine, refused: Refused) -> Ran
+// Posts the Over of a machine that can't go on, and before it the one that it owes, if it owes one.
+fn given_up<R: Wait>(rt: &R, machine: ThreadedMachine, refused: Refused) -> Ran
     ensures cut { result.is_cut ≡ true }
     ensures overs { overs_of_all (machines_in result.crew) ≡ overs_of machine + 1 + owed_of refused }
     ensures starts { starts_to_all (machines_in result.crew) ≡ starts_to machine }
 {
-    is_cut.store(true, Ordering::Release);
     let mut machine = machine;
     machine.give_up(rt, refused);
     Ran {

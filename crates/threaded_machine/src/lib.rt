@@ -15,8 +15,6 @@
 //!   taken before.
 //! - A reply that says that a machine was started where none was asked for, which no core gives, is dealt with as where memory is
 //!   wanting: a thread sees its own machine alone, and that a reply is the core's is known only once its waiter was settled.
-//! - Where one machine of a run can't go on the run has no dump, so the others need not wait for what it would have done: each looks at
-//!   a flag before it asks (`run_until_started`).
 #![tactic(auto)]
 
 mod refusal;

@@ -2,8 +2,8 @@
 
 use std::alloc::AllocError;
 
-/// That a machine in its thread can't go on: memory was wanting, for it or for another machine of the run; a reply that doesn't fit what
-/// was asked, which no core gives, is dealt with alike. Where a reply to it said that a machine was started, and that one isn't run,
+/// That a machine in its thread can't go on: memory was wanting; a reply that doesn't fit what was asked, which no core gives, is dealt
+/// with alike. Where a reply to it said that a machine was started, and that one isn't run,
 /// `owed` is its number: its Over is still to be posted.
 #[derive(Clone, Copy, Debug)]
 pub struct Refused {

@@ -23,7 +23,6 @@ use outside::Gate;
 use request_line::Sender;
 use std::alloc::{AllocError, Global};
 use std::sync::Wait;
-use std::sync::atomic::{AtomicBool, Ordering};
 use suspended_machine::{SuspendedMachine, is_no_memory, prefix_of, suspended_started_by};
 
 /// A machine in its thread: the suspended machine, its client, and the waiters of its requests, in the order in which it asked.
@@ -68,14 +67,13 @@ impl ThreadedMachine {
         }
     }
 
-    /// Asks until a machine was started, which comes back at its suspended machine, or this one has stopped. It is refused too once
-    /// `is_cut` says that the run is cut short. A refusal names the machine that a reply said was started and that doesn't come back.
+    /// Asks until a machine was started, which comes back at its suspended machine, or this one has stopped. A refusal names the
+    /// machine that a reply said was started and that doesn't come back.
     pub fn run_until_started<R: Wait, G: Gate>(
         &mut self,
         rt: &R,
         alloc: Global,
         gate: &G,
-        is_cut: &AtomicBool,
     ) -> Result<Option<SuspendedMachine>, Refused>
         requires { IsRunning self.old }
         ensures running { OnOk result (IsRunning self.new) }
@@ -91,9 +89,6 @@ impl ThreadedMachine {
         for _ in rt.forever() {
             if self.suspended.asks.is_none() {
                 return Ok(None);
-            }
-            if is_cut.load(Ordering::Acquire) {
-                return Err(Refused { owed: None });
             }
             if let Some(started) = self.ask(rt, alloc, gate, &mut polled)? {
                 return Ok(Some(started));

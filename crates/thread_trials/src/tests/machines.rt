@@ -16,7 +16,6 @@ use outside::OpenGate;
 use request_line::{Receiver, Sender, open};
 use std::alloc::{AllocError, Global};
 use std::sync::Wait;
-use std::sync::atomic::AtomicBool;
 use std::test::Fail;
 use std::thread;
 use std::thread::Threads;
@@ -95,18 +94,16 @@ fn answer_all<R: Wait>(
     serve(rt, alloc, &mut receiver, &mut starts).machines
 }
 
-// Runs machine 0, while another thread answers; `is_cut` says whether the run is cut short from the start.
+// Runs machine 0, while another thread answers.
 fn run_over<R: Threads + Wait + Copy + Send + Sync + 'static>(
     rt: R,
     alloc: Global,
     machine: Option<u16>,
-    is_cut: bool,
 ) -> Result<Came, AllocError> {
     let (sender, receiver) = open::<Post>(alloc, 4)?;
     let first = first_machine(alloc, sender)?;
     let serving = thread::spawn(&rt, move || answer_all(&rt, alloc, receiver, machine))?;
-    let is_cut = AtomicBool::new(is_cut);
-    let ran = run_machine(&rt, alloc, &OpenGate, &is_cut, first, 0);
+    let ran = run_machine(&rt, alloc, &OpenGate, first, 0);
     let machines = serving.join(&rt);
     Ok(Came {
         back: ran.crew.listed(alloc)?.len(),
@@ -123,12 +120,8 @@ fn each_machine_that_was_started_is_over(rt: HostRuntime) -> Result<(), Fail> {
         is_cut,
         machines,
     };
-    assert_eq!(rt;
-        run_over(rt, rt.alloc(), Some(1), false)?,
-        came(2, false, 2)
-    );
-    assert_eq!(rt; run_over(rt, rt.alloc(), None, false)?, came(1, true, 1));
-    assert_eq!(rt; run_over(rt, rt.alloc(), Some(0), false)?, came(1, true, 2));
-    assert_eq!(rt; run_over(rt, rt.alloc(), Some(1), true)?, came(1, true, 1));
+    assert_eq!(rt; run_over(rt, rt.alloc(), Some(1))?, came(2, false, 2));
+    assert_eq!(rt; run_over(rt, rt.alloc(), None)?, came(1, true, 1));
+    assert_eq!(rt; run_over(rt, rt.alloc(), Some(0))?, came(1, true, 2));
     Ok(())
 }
