@@ -19,7 +19,7 @@ use Rattle.network.proofs.client.Client.TheSendSync.{the_field_send as client_se
 use Rattle.stack_directories.proofs.directories.Directories.TheSendSync.{the_send as directories_send}
 use Rattle.stack_items.specs.contracts.stack.Stack as stack
 use Rattle.stack_machine.specs.contracts.machine.Machine as machine
-use Rattle.stack_machine.specs.contracts.registers.Registers as registers
+use Rattle.machine_registers.specs.contracts.registers.Registers as registers
 use Rattle.suspended_machine.specs.contracts.suspended.SuspendedMachine as suspended
 use Rattle.machine_threads.proofs.crew.Crew.TheLaws.TheKnot.{send-Crew}
 use Rattle.threaded_machine.specs.contracts.threaded.ThreadedMachine as threaded

@@ -6,8 +6,8 @@ use Rattle.machine_rules.specs.declared.Awaits.TheVariants as awaits
 use Rattle.machine_rules.specs.declared.State.TheVariants as state
 use Rattle.machine_rules.specs.declared.Wait.{Wait}
 use Rattle.machine_rules.specs.Machines.{Machine, Progress, Registers, Act, Does, Stops, Asks, acted, replied_act, resumed, resumed_by, use_of, used}
-use Rattle.stack_machine.specs.Acts.{act_with}
-use Rattle.stack_machine.specs.declared.act.Act.{Act as Answer}
+use Rattle.machine_registers.specs.Acts.{act_with}
+use Rattle.machine_registers.specs.declared.act.Act.{Act as Answer}
 use Rattle.stack_machine.specs.declared.machine.Step.{Step}
 use Rattle.stack_machine.specs.MachineModel.{MachineModel}
 use Rattle.stack_machine.specs.Steps.{Moves, answer_of}

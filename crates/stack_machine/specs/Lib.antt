@@ -1,6 +1,4 @@
-pub mod Acts
 pub mod MachineModel
 pub mod Packed
-pub mod Ranges
+pub mod Polls
 pub mod Steps
-pub mod Pushes

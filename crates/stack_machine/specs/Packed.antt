@@ -1,5 +1,5 @@
--- Pairs packed as one tuple of their keys and values in turn, and names packed as one tuple.
-use Rattle.std.specs.Prelude.{ℕ, List, [], ◌∷◌, map}
+-- Pairs packed as one tuple of their keys and values in turn.
+use Rattle.std.specs.Prelude.{ℕ, List, [], ◌∷◌}
 use Rattle.std.specs.List.{flat_map}
 use Rattle.database_rules.specs.Slices.{Entries}
 use Rattle.fdb_tuple.specs.declared.tuple.Elem.TheVariants as elem
@@ -11,7 +11,3 @@ use Rattle.machine_rules.specs.Machines.{pairs_within}
 abbrev pub spelled_within : List ℕ → Entries → List ℕ
 spelled_within prefix pairs =
     spelling (tuple_of (flat_map (λ e. elem.Bytes e.0 ∷ elem.Bytes e.1 ∷ []) (pairs_within prefix pairs)))
-
--- the bytes of these names as Unicode strings
-abbrev pub spelled_names : List (List ℕ) → List ℕ
-spelled_names names = spelling (tuple_of (map elem.Text names))

@@ -8,34 +8,19 @@
 //! - `step` runs one instruction and answers Again, so that its contract is one step of the definitions. Coming to rest is a
 //!   fold over steps, as many as there are instructions left and one more, which always suffices.
 //! - A machine that ran out of memory answers nothing else from then on; contracts see that as a flag beside it.
-//! - A poll names a life alone, since what waits is always the uppermost item that waits: operands lie one below the other,
-//!   and the first that waits is polled for.
 //! - An instruction whose operand was waited for is run again from its start, once that item is known. So a machine keeps no
 //!   operands between two steps, and what an operation does is stated once, over a stack whose operands are known.
 //! - Machine and stack show all items while a poll is awaited, the operands above the item too. No dump has such a moment.
-//! - Most instructions are read without a tuple (`usual_instruction`, `pushed_element`, `lone_name`): those of SET and COMMIT
-//!   by one comparison, and PUSH of a byte string without a zero as it stands. Any other value is unpacked whole. What is
-//!   read is the instruction of the definitions in each case; no clause says which way was taken.
 //! - Machine 0 gets its instructions as values (`with_instructions`), and a machine that a request starts gets the pairs of
 //!   the reply: the list of all pairs of a long script would take more memory than its instructions.
-//! - A request lies in a block of its own (`request_of`), since it has 112 bytes, and a dozen answers on its way would each
-//!   copy it.
 #![tactic(auto)]
 
-mod act;
-mod call;
-mod directing;
-mod directory_replies;
-mod errors;
 mod instruction;
 mod machine;
 mod packed;
 mod polls;
-mod reads;
-mod registers;
 mod replies;
-mod requests;
 
-pub use errors::Errors;
 pub use machine::{Machine, Step};
+pub use machine_registers::Errors;
 pub use machine_rules::{End, ErrorNote, State};

@@ -4,15 +4,15 @@ ghost use Rattle.std.specs.Prelude.{◌≡◌, ◌+◌, ◌<◌, false, true, po
 ghost use Rattle.machine_rules.specs.declared.State.TheVariants.{Running};
 ghost use Rattle.machine_rules.specs.Machines.{stopped, done, silent, acted, instruction_at, next_act, advance, resumed};
 ghost use Rattle.machine_rules.specs.Directories.{first_directories};
-ghost use Rattle.stack_machine.specs.Pushes.{PushesAnElement};
-ghost use Rattle.stack_machine.specs.Acts.{act_with};
+ghost use Rattle.machine_instructions.specs.Pushes.{PushesAnElement};
+ghost use Rattle.machine_registers.specs.Acts.{act_with};
 
-use crate::act::Act;
-use crate::errors::Errors;
 use crate::instruction::instruction_under;
-use crate::registers::Registers;
+use crate::polls::{resume_log, resume_poll, resume_watch};
+use crate::replies::use_reply;
 use fdb_calls::{Reply, SharedRequest};
 use key_bytes::{Bytes, Pairs};
+use machine_registers::{Act, Errors, Registers};
 use machine_rules::{Awaits, End, Instruction, MachineOptions, State};
 use stack_items::Stack;
 use std::alloc::{AllocError, Global};
@@ -255,16 +255,18 @@ impl Machine {
             Awaits::Stamp(wait) => {
                 let wait = *wait;
                 let instruction = self.instruction()?;
-                self.registers
-                    .resume_poll(number, self.options.polls, wait, instruction, reply)
+                let polls = self.options.polls;
+                resume_poll(&mut self.registers, number, polls, wait, instruction, reply)
             }
-            Awaits::LoggedStamp { prefix, wait } => self
-                .registers
-                .resume_log(number, self.options.polls, prefix, *wait, reply),
-            Awaits::Empty { prefix, polled } => self
-                .registers
-                .resume_watch(number, self.options.polls, prefix, *polled, reply),
-            _ => self.registers.use_reply(number, awaits, reply),
+            Awaits::LoggedStamp { prefix, wait } => {
+                let polls = self.options.polls;
+                resume_log(&mut self.registers, number, polls, prefix, *wait, reply)
+            }
+            Awaits::Empty { prefix, polled } => {
+                let polls = self.options.polls;
+                resume_watch(&mut self.registers, number, polls, prefix, *polled, reply)
+            }
+            _ => use_reply(&mut self.registers, number, awaits, reply),
         };
         Ok(self.act(act?))
     }

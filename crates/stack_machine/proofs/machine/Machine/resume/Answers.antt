@@ -5,7 +5,7 @@ use Rattle.machine_rules.specs.declared.Instruction.{Instruction}
 use Rattle.machine_rules.specs.Machines.{act_of, after_poll, instruction_at, resumed}
 use Rattle.stack_machine.specs.MachineModel.{MachineModel}
 use Rattle.stack_machine.specs.Steps.{Moves}
-use Rattle.stack_machine.specs.declared.act.Act.{Act as Answer}
+use Rattle.machine_registers.specs.declared.act.Act.{Act as Answer}
 use Rattle.stack_machine.specs.contracts.machine.Machine as machine
 use Rattle.stack_machine.proofs.Replied.{Came, resumed_by_answer, used_plainly}
 use Rattle.stack_machine.proofs.machine.Machine.resume.Goals as goal
@@ -21,7 +21,7 @@ returns c =
     let came : Came old c.match-awaits.self c.in-Awaiting.awaits given c.in_ok-act.field-0 =
     elim c.match-awaits.branch [
       | in-Stamp+in_ok-instruction-in-Stamp w ↦ record {
-        registers = w.resume_poll-act.new.self;
+        registers = w.resume_poll-act.new.registers;
         its = _;
         exact = w.in-Stamp.is;
         stands = w.self-is;
@@ -31,21 +31,21 @@ returns c =
             (w.in_ok-instruction-in-Stamp.ensures.is ∙ ap (λ (old : MachineModel). instruction_at old.machine) (sym c.self.view_is));
       }
       | in-LoggedStamp w ↦ record {
-        registers = w.resume_log-act.new.self;
+        registers = w.resume_log-act.new.registers;
         its = _;
         exact = w.in-LoggedStamp.is;
         stands = w.self-is;
         is = of_answer _ _ _ _ w.act-is c.in_ok-act.was w.resume_log-act.ensures;
       }
       | in-Empty w ↦ record {
-        registers = w.resume_watch-act.new.self;
+        registers = w.resume_watch-act.new.registers;
         its = _;
         exact = w.in-Empty.is;
         stands = w.self-is;
         is = of_answer _ _ _ _ w.act-is c.in_ok-act.was w.resume_watch-act.ensures;
       }
       | in_default w ↦ record {
-        registers = w.use_reply-act.new.self;
+        registers = w.use_reply-act.new.registers;
         its = c.in-Awaiting.awaits;
         exact = refl;
         stands = w.self-is;
