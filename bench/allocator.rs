@@ -1,4 +1,4 @@
-//! The grants that `crates/allocator_bench` makes, as a lean Rust program makes them, which does nothing else: the same steps over
+//! The grants that `allocator_bench` makes, as a lean Rust program makes them, which does nothing else: the same steps over
 //! a database of its own, and the same number printed.
 //!
 //! The database is one `BTreeMap`, whose entries have the value of each version that wrote them, the newest last, one of the

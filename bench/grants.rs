@@ -1,4 +1,4 @@
-//! The grants that `crates/allocator_bench` makes, as an ordinary Rust program makes them whose transactions have the calls of any
+//! The grants that `allocator_bench` makes, as an ordinary Rust program makes them whose transactions have the calls of any
 //! other: the same steps, and the same number printed. `allocator.rs` beside it has transactions that know of these steps alone.
 
 use std::env;

@@ -1,5 +1,5 @@
 //! Packing and unpacking of tuples, as an ordinary Rust program does them. Its words, and the number that it prints,
-//! are those of the program in `crates/tuple_bench`.
+//! are those of the program in `tuple_bench`.
 
 use std::env;
 use std::error::Error;

@@ -1,6 +1,6 @@
-//! Runs the cases of `data/`, whose README says how a case is written, and compares what each gives with what it wants.
-//! A line is printed for each file of cases: how many passed. One more is printed for each case that differs, and the
-//! program ends with status 1 where one does.
+//! Runs the cases of `data/`, and compares what each gives with what it wants: `README.md` there says how a case of the program is
+//! written, `REQUESTS.md` how one of requests for the database alone. A line is printed for each file of cases: how many passed. One
+//! more is printed for each case that differs, and the program ends with status 1 where one does.
 #![tactic(auto)]
 
 mod case;
@@ -16,19 +16,32 @@ use std::thread::Threads;
 use std::{fs, io};
 
 fn main(rt: HostRuntime) -> io::Result<ExitCode> {
-    let are_same = run_all(&rt)?;
+    let are_same = run_scripts(&rt)? & run_requests(&rt)?;
     Ok(ExitCode::from(if are_same { 0 } else { 1 }))
 }
 
-// Runs each file of cases, and returns whether none differs.
-fn run_all<R: Files + Print + Threads + Wait + Sync + AllocGlobal + Clone + Drop + Send + 'static>(
-    rt: &R,
-) -> io::Result<bool> {
+// Runs each file of cases of the program, and returns whether none differs.
+fn run_scripts<
+    R: Files + Print + Threads + Wait + Sync + AllocGlobal + Clone + Drop + Send + 'static,
+>(rt: &R) -> io::Result<bool> {
     let mut are_same = true;
     let files = names::ending_with(rt, ".cases")?;
     for file in files.iter() {
         let text = fs::read(rt, file.as_str())?;
         let report = run_cases(rt, text.as_slice())?;
+        are_same = are_same && report.is_same();
+        print(rt, file.as_str(), &report)?;
+    }
+    Ok(are_same)
+}
+
+// Runs each file of cases of requests, and returns whether none differs.
+fn run_requests<R: Files + Print + AllocGlobal + Clone + Drop>(rt: &R) -> io::Result<bool> {
+    let mut are_same = true;
+    let files = names::ending_with(rt, ".requests")?;
+    for file in files.iter() {
+        let text = fs::read(rt, file.as_str())?;
+        let report = request_cases::run_text(rt.alloc(), text.as_slice())?;
         are_same = are_same && report.is_same();
         print(rt, file.as_str(), &report)?;
     }

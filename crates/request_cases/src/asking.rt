@@ -124,17 +124,23 @@ fn range(words: &[Bytes]) -> Result<KeyRange, SpellFault> {
     Ok(KeyRange { begin, end })
 }
 
+const MODES: &[(&[u8], Mode)] = &[
+    (b"want_all", Mode::WantAll),
+    (b"iterator", Mode::Iterator),
+    (b"exact", Mode::Exact),
+    (b"small", Mode::Small),
+    (b"medium", Mode::Medium),
+    (b"large", Mode::Large),
+    (b"serial", Mode::Serial),
+];
+
 fn mode(word: &[u8]) -> Result<Mode, SpellFault> {
-    match word {
-        b"want_all" => Ok(Mode::WantAll),
-        b"iterator" => Ok(Mode::Iterator),
-        b"exact" => Ok(Mode::Exact),
-        b"small" => Ok(Mode::Small),
-        b"medium" => Ok(Mode::Medium),
-        b"large" => Ok(Mode::Large),
-        b"serial" => Ok(Mode::Serial),
-        _ => Err(SpellFault::Unknown),
+    for (known, mode) in MODES {
+        if *known == word {
+            return Ok(*mode);
+        }
     }
+    Err(SpellFault::Unknown)
 }
 
 // A limit, `reverse` or `forward`, and a mode, from a place on.

@@ -10,20 +10,26 @@ use key_bytes::Bytes;
 use lists::List;
 use std::alloc::{AllocError, Global};
 
+const KINDS: &[(&[u8], DirKind)] = &[
+    (b"create", DirKind::Create),
+    (b"create_or_open", DirKind::CreateOrOpen),
+    (b"open", DirKind::Open),
+    (b"move_to", DirKind::MoveTo),
+    (b"remove", DirKind::Remove),
+    (b"remove_if_exists", DirKind::RemoveIfExists),
+    (b"list", DirKind::List),
+    (b"exists", DirKind::Exists),
+    (b"log_directory", DirKind::Log),
+];
+
 /// Returns the call of this name.
 pub fn directory_kind(name: &[u8]) -> Option<DirKind> {
-    match name {
-        b"create" => Some(DirKind::Create),
-        b"create_or_open" => Some(DirKind::CreateOrOpen),
-        b"open" => Some(DirKind::Open),
-        b"move_to" => Some(DirKind::MoveTo),
-        b"remove" => Some(DirKind::Remove),
-        b"remove_if_exists" => Some(DirKind::RemoveIfExists),
-        b"list" => Some(DirKind::List),
-        b"exists" => Some(DirKind::Exists),
-        b"log_directory" => Some(DirKind::Log),
-        _ => None,
+    for (known, kind) in KINDS {
+        if *known == name {
+            return Some(*kind);
+        }
     }
+    None
 }
 
 /// Reads a call: its name, a path, and in any order `layer` or `prefix` with its bytes, `to` with a path, `raw` with the prefix and the
