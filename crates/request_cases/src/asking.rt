@@ -42,26 +42,61 @@ fn is_snapshot(words: &[Bytes], place: usize) -> bool {
         .is_some_and(|word| word.as_slice() == b"snapshot".as_slice())
 }
 
+// What a request begins with.
+#[derive(Clone, Copy)]
+enum Asks {
+    New,
+    On,
+    Database,
+    Log,
+    PollStamp,
+    PollEmpty,
+    Start,
+}
+
+const REQUESTS: &[(&[u8], Asks)] = &[
+    (b"new", Asks::New),
+    (b"on", Asks::On),
+    (b"database", Asks::Database),
+    (b"log", Asks::Log),
+    (b"poll_stamp", Asks::PollStamp),
+    (b"poll_empty", Asks::PollEmpty),
+    (b"start", Asks::Start),
+];
+
+fn request_named(word: &[u8]) -> Result<Asks, SpellFault> {
+    for (known, asks) in REQUESTS {
+        if *known == word {
+            return Ok(*asks);
+        }
+    }
+    Err(SpellFault::Unknown)
+}
+
 /// Reads a request.
 pub fn read_request(alloc: Global, layer: &Layer, words: &[Bytes]) -> Result<Request, SpellFault> {
-    match word(words, 0)? {
-        b"new" => Ok(Request::New {
+    match request_named(word(words, 0)?)? {
+        Asks::New => Ok(Request::New {
             name: bytes(words, 1)?,
         }),
-        b"on" => on(alloc, layer, words),
-        b"database" => on_database(alloc, layer, words),
-        b"log" => log(alloc, words),
-        b"poll_stamp" => Ok(Request::PollStamp {
-            life: number(word(words, 1)?)?,
+        Asks::On => on(alloc, layer, words),
+        Asks::Database => on_database(alloc, layer, words),
+        Asks::Log => log(alloc, words),
+        Asks::PollStamp => Ok(Request::PollStamp {
+            life: number_at(words, 1)?,
         }),
-        b"poll_empty" => Ok(Request::PollEmpty {
+        Asks::PollEmpty => Ok(Request::PollEmpty {
             prefix: bytes(words, 1)?,
         }),
-        b"start" => Ok(Request::Start {
+        Asks::Start => Ok(Request::Start {
             prefix: bytes(words, 1)?,
         }),
-        _ => Err(SpellFault::Unknown),
     }
+}
+
+// The number at a place.
+fn number_at(words: &[Bytes], place: usize) -> Result<u64, SpellFault> {
+    number(word(words, place)?)
 }
 
 // A call on the transaction of a name.
@@ -172,28 +207,85 @@ fn get_key_range(words: &[Bytes]) -> Result<TxnCall, SpellFault> {
     })
 }
 
-fn read_call(words: &[Bytes]) -> Result<TxnCall, SpellFault> {
-    match word(words, 0)? {
-        b"get" => Ok(TxnCall::Get {
-            key: bytes(words, 1)?,
-            snapshot: is_snapshot(words, 2),
-        }),
-        b"get_key" => {
-            Ok(TxnCall::GetKey {
-                selector: selector(words, 1)?,
-                snapshot: is_snapshot(words, 4),
-            })
+// The name of a call.
+#[derive(Clone, Copy)]
+enum Name {
+    Get,
+    GetKey,
+    GetRange,
+    GetKeyRange,
+    Set,
+    Clear,
+    ClearRange,
+    Atomic,
+    ReadConflict,
+    WriteConflict,
+    NoWriteConflict,
+    ReadVersion,
+    SetReadVersion,
+    CommittedVersion,
+    Versionstamp,
+    Commit,
+    OnError,
+    Reset,
+    Cancel,
+}
+
+const CALLS: &[(&[u8], Name)] = &[
+    (b"get", Name::Get),
+    (b"get_key", Name::GetKey),
+    (b"get_range", Name::GetRange),
+    (b"get_key_range", Name::GetKeyRange),
+    (b"set", Name::Set),
+    (b"clear", Name::Clear),
+    (b"clear_range", Name::ClearRange),
+    (b"atomic", Name::Atomic),
+    (b"read_conflict", Name::ReadConflict),
+    (b"write_conflict", Name::WriteConflict),
+    (b"no_write_conflict", Name::NoWriteConflict),
+    (b"read_version", Name::ReadVersion),
+    (b"set_read_version", Name::SetReadVersion),
+    (b"committed_version", Name::CommittedVersion),
+    (b"versionstamp", Name::Versionstamp),
+    (b"commit", Name::Commit),
+    (b"on_error", Name::OnError),
+    (b"reset", Name::Reset),
+    (b"cancel", Name::Cancel),
+];
+
+fn call_named(word: &[u8]) -> Result<Name, SpellFault> {
+    for (known, name) in CALLS {
+        if *known == word {
+            return Ok(*name);
         }
-        b"get_range" => get_range(words),
-        b"get_key_range" => get_key_range(words),
-        _ => read_write(words),
     }
+    Err(SpellFault::Unknown)
+}
+
+fn get(words: &[Bytes]) -> Result<TxnCall, SpellFault> {
+    Ok(TxnCall::Get {
+        key: bytes(words, 1)?,
+        snapshot: is_snapshot(words, 2),
+    })
+}
+
+fn get_key(words: &[Bytes]) -> Result<TxnCall, SpellFault> {
+    Ok(TxnCall::GetKey {
+        selector: selector(words, 1)?,
+        snapshot: is_snapshot(words, 4),
+    })
 }
 
 fn set(words: &[Bytes]) -> Result<TxnCall, SpellFault> {
     let key = bytes(words, 1)?;
     let value = bytes(words, 2)?;
     Ok(TxnCall::Set { key, value })
+}
+
+fn clear(words: &[Bytes]) -> Result<TxnCall, SpellFault> {
+    Ok(TxnCall::Clear {
+        key: bytes(words, 1)?,
+    })
 }
 
 fn atomic(words: &[Bytes]) -> Result<TxnCall, SpellFault> {
@@ -203,41 +295,44 @@ fn atomic(words: &[Bytes]) -> Result<TxnCall, SpellFault> {
     Ok(TxnCall::Atomic { name, key, operand })
 }
 
-fn read_write(words: &[Bytes]) -> Result<TxnCall, SpellFault> {
-    match word(words, 0)? {
-        b"set" => set(words),
-        b"clear" => Ok(TxnCall::Clear {
-            key: bytes(words, 1)?,
-        }),
-        b"clear_range" => Ok(TxnCall::ClearRange {
-            range: range(words)?,
-        }),
-        b"atomic" => atomic(words),
-        b"read_conflict" => Ok(TxnCall::ReadConflict {
-            range: range(words)?,
-        }),
-        b"write_conflict" => Ok(TxnCall::WriteConflict {
-            range: range(words)?,
-        }),
-        b"no_write_conflict" => Ok(TxnCall::NoWriteConflict),
-        _ => read_other(words),
-    }
+fn set_read_version(words: &[Bytes]) -> Result<TxnCall, SpellFault> {
+    Ok(TxnCall::SetReadVersion {
+        version: number(word(words, 1)?)?,
+    })
 }
 
-fn read_other(words: &[Bytes]) -> Result<TxnCall, SpellFault> {
-    match word(words, 0)? {
-        b"read_version" => Ok(TxnCall::ReadVersion),
-        b"set_read_version" => Ok(TxnCall::SetReadVersion {
-            version: number(word(words, 1)?)?,
+fn on_error(words: &[Bytes]) -> Result<TxnCall, SpellFault> {
+    Ok(TxnCall::OnError {
+        code: Code(number(word(words, 1)?)?),
+    })
+}
+
+fn read_call(words: &[Bytes]) -> Result<TxnCall, SpellFault> {
+    match call_named(word(words, 0)?)? {
+        Name::Get => get(words),
+        Name::GetKey => get_key(words),
+        Name::GetRange => get_range(words),
+        Name::GetKeyRange => get_key_range(words),
+        Name::Set => set(words),
+        Name::Clear => clear(words),
+        Name::Atomic => atomic(words),
+        Name::SetReadVersion => set_read_version(words),
+        Name::OnError => on_error(words),
+        Name::ClearRange => Ok(TxnCall::ClearRange {
+            range: range(words)?,
         }),
-        b"committed_version" => Ok(TxnCall::CommittedVersion),
-        b"versionstamp" => Ok(TxnCall::Versionstamp),
-        b"commit" => Ok(TxnCall::Commit),
-        b"on_error" => Ok(TxnCall::OnError {
-            code: Code(number(word(words, 1)?)?),
+        Name::ReadConflict => Ok(TxnCall::ReadConflict {
+            range: range(words)?,
         }),
-        b"reset" => Ok(TxnCall::Reset),
-        b"cancel" => Ok(TxnCall::Cancel),
-        _ => Err(SpellFault::Unknown),
+        Name::WriteConflict => Ok(TxnCall::WriteConflict {
+            range: range(words)?,
+        }),
+        Name::NoWriteConflict => Ok(TxnCall::NoWriteConflict),
+        Name::ReadVersion => Ok(TxnCall::ReadVersion),
+        Name::CommittedVersion => Ok(TxnCall::CommittedVersion),
+        Name::Versionstamp => Ok(TxnCall::Versionstamp),
+        Name::Commit => Ok(TxnCall::Commit),
+        Name::Reset => Ok(TxnCall::Reset),
+        Name::Cancel => Ok(TxnCall::Cancel),
     }
 }

@@ -107,16 +107,14 @@ impl Session {
     fn told_of(&mut self, asked: &[u8]) -> Result<String, SpellFault> {
         let read = read_words(self.alloc, asked)?;
         let words = read.as_slice();
-        match word(words, 0)? {
-            b"" | b"case" | b"api" | b"window" | b"pair" | b"numbers" | b"random" => {
-                Ok(String::new(self.alloc))
-            }
-            b"layer" => self.set_layer(words),
-            b"last" => self.show(self.core.last()),
-            b"drawn" => self.show(self.words.drawn),
-            b"count" => self.show_count(),
-            b"times" => self.repeat(words),
-            _ => self.reply_to(words),
+        match kind_of(word(words, 0)?) {
+            Kind::Nothing => Ok(String::new(self.alloc)),
+            Kind::Layer => self.set_layer(words),
+            Kind::Last => self.show(self.core.last()),
+            Kind::Drawn => self.show(self.words.drawn),
+            Kind::Count => self.show_count(),
+            Kind::Times => self.repeat(words),
+            Kind::Request => self.reply_to(words),
         }
     }
 
@@ -157,16 +155,52 @@ impl Session {
     fn reply_to(&mut self, words: &[Bytes]) -> Result<String, SpellFault> {
         let machine = number(word(words, 0)?)?;
         let request = read_request(self.alloc, &self.layer, words.get(1..).unwrap_or(&[]))?;
-        let reply = self.apply(machine, &request);
+        let reply = apply(&mut self.core, machine, &request, &mut self.words);
         Ok(tell(self.alloc, &reply)?)
     }
+}
 
-    fn apply(&mut self, machine: u16, request: &Request) -> Reply {
-        if self.core.applied() >= 1_000_000 {
-            return Reply::NoMemory;
-        }
-        self.core.apply(machine, request, &mut self.words)
+fn apply(core: &mut Core, machine: u16, request: &Request, words: &mut CountedWords) -> Reply {
+    if core.applied() >= 1_000_000 {
+        return Reply::NoMemory;
     }
+    core.apply(machine, request, words)
+}
+
+// What a line asks for, by its first word.
+#[derive(Clone, Copy)]
+enum Kind {
+    Nothing,
+    Layer,
+    Last,
+    Drawn,
+    Count,
+    Times,
+    Request,
+}
+
+const KINDS: &[(&[u8], Kind)] = &[
+    (b"", Kind::Nothing),
+    (b"case", Kind::Nothing),
+    (b"api", Kind::Nothing),
+    (b"window", Kind::Nothing),
+    (b"pair", Kind::Nothing),
+    (b"numbers", Kind::Nothing),
+    (b"random", Kind::Nothing),
+    (b"layer", Kind::Layer),
+    (b"last", Kind::Last),
+    (b"drawn", Kind::Drawn),
+    (b"count", Kind::Count),
+    (b"times", Kind::Times),
+];
+
+fn kind_of(word: &[u8]) -> Kind {
+    for (known, kind) in KINDS {
+        if *known == word {
+            return *kind;
+        }
+    }
+    Kind::Request
 }
 
 // What stands before ` => ` in a line, and what stands behind.
