@@ -7,7 +7,7 @@ use std::sync::Arc;
 use std::sync::atomic::{AtomicU64, Ordering};
 use std::test::Fail;
 use version_store::{Change, Changes, Store};
-use watch_core::{MOST_PENDING, WatchEnd, Watches, events_settle_watches};
+use watch_core::{MOST_PENDING, WatchEnd, WatchEnds, Watches, events_settle_watches};
 
 // A callback that counts how often it ran.
 #[derive(Drop)]
@@ -93,28 +93,42 @@ fn only_a_pending_watch_is_cancelled(rt: HostRuntime) -> Result<(), Fail> {
     Ok(())
 }
 
-// Whether no watch has no ending, how many endings two watches have, and the number of the second.
-fn endings(alloc: Global) -> Result<(bool, usize, Option<u64>), AllocError> {
-    let store = Store::new(alloc);
-    let none: Watches<Raise> = Watches::new(alloc, &store);
-    let mut watches = Watches::new(alloc, &store);
-    watch(&store, &mut watches)?;
-    watch(&store, &mut watches)?;
-    let ends = watches.close();
+// How many endings there are, and the number of the second.
+fn counted(ends: WatchEnds<Raise>) -> (usize, Option<u64>) {
     let second = if ends.len() > 1 {
         Some(ends.get(1).number)
     } else {
         None
     };
-    Ok((none.close().is_empty(), ends.into_vec().len(), second))
+    (ends.into_vec().len(), second)
+}
+
+// Whether no watch has no ending.
+fn has_none(alloc: Global) -> bool {
+    let store = Store::new(alloc);
+    let none: Watches<Raise> = Watches::new(alloc, &store);
+    none.close().is_empty()
+}
+
+// How many endings two watches have, and the number of the second.
+fn endings(alloc: Global) -> Result<(usize, Option<u64>), AllocError> {
+    let store = Store::new(alloc);
+    let mut watches = Watches::new(alloc, &store);
+    watch(&store, &mut watches)?;
+    watch(&store, &mut watches)?;
+    Ok(counted(watches.close()))
 }
 
 // Waits by a callback, where none is registered yet.
-fn wait_by(waiter: Option<Awaited>, raise: Raise) {
+fn wait_by(waiter: &mut Awaited, raise: Raise) {
+    if waiter.registered() == Registered::No {
+        waiter.on_ready(raise);
+    }
+}
+
+fn wait_if_any(waiter: Option<Awaited>, raise: Raise) {
     if let Some(mut waiter) = waiter {
-        if waiter.registered() == Registered::No {
-            waiter.on_ready(raise);
-        }
+        wait_by(&mut waiter, raise);
     }
 }
 
@@ -127,7 +141,7 @@ fn raised(alloc: Global) -> Result<(u64, u64), AllocError> {
     };
     let mut store = Store::new(alloc);
     let mut watches = Watches::new(alloc, &store);
-    wait_by(watch(&store, &mut watches)?, raise);
+    wait_if_any(watch(&store, &mut watches)?, raise);
     let before = mark.load(Ordering::SeqCst);
     change(changes, &mut store, &mut watches)?;
     Ok((before, mark.load(Ordering::SeqCst)))
@@ -135,7 +149,8 @@ fn raised(alloc: Global) -> Result<(u64, u64), AllocError> {
 
 #[test]
 fn each_watch_has_its_ending_and_runs_its_callback(rt: HostRuntime) -> Result<(), Fail> {
-    assert_eq!(rt; endings(rt.alloc())?, (true, 2, Some(1)));
+    assert!(rt; has_none(rt.alloc()));
+    assert_eq!(rt; endings(rt.alloc())?, (2, Some(1)));
     assert_eq!(rt; raised(rt.alloc())?, (0, 1));
     events_settle_watches();
     Ok(())
