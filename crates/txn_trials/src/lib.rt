@@ -1,4 +1,4 @@
-//! Trials of a transaction over a store: each call on its happy path, and the read and write conflict ranges of a transaction.
+//! Trials of a transaction over a store: what it changes, its read and write conflict ranges, and what a life keeps of its end.
 //!
 //! They call public functions alone, so they stand apart from txn_core: its own functions aren't proved again with them.
 #![tactic(auto)]

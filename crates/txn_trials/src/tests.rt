@@ -1,13 +1,12 @@
 use conflict_ranges::{RangeSet, WriteIndex};
-use database_rules::{Api, AtomicOp, Code, DatabaseOptions, Tried};
-use fdb_calls::{Outcome, Reply, Tr, TrFault, TxnCall};
+use database_rules::{AtomicOp, Code, Tried};
+use fdb_calls::{Outcome, Tr, TrFault};
 use key_bytes::{Bytes, Key, KeyRange, Pair, Pairs};
 use std::alloc::{AllocError, Global};
-use txn_core::{Answer, Txn, TxnOn, Verdict, call};
+use txn_core::{Txn, TxnOn};
 use version_store::Store;
 
 mod commits;
-mod reads;
 mod writes;
 
 // A key with its value, and a range of keys, as a test writes them.
@@ -15,14 +14,13 @@ type Entry = (&'static [u8], &'static [u8]);
 
 type Span = (&'static [u8], &'static [u8]);
 
-// Two transactions over a store with a commit. Each function below takes one step, and what owns a world lends it to the
+// A transaction over a store. Each function below takes one step, and what owns a world lends it to the
 // functions that take steps: a function that owns one and may end at many places has to be proved at each of them.
 struct World {
     alloc: Global,
     store: Store,
     index: WriteIndex,
     first: Txn,
-    second: Txn,
 }
 
 // Written out, so that its owner's proof sees one call where it ends.
@@ -33,7 +31,6 @@ impl Drop for World {
             store: _,
             index: _,
             first: _,
-            second: _,
         } = self;
     }
 }
@@ -57,7 +54,7 @@ fn pairs_of(alloc: Global, entries: &[Entry]) -> Result<Pairs, AllocError> {
     Ok(pairs)
 }
 
-// Version 1 has these pairs. The transactions are lives 0 and 1.
+// Version 1 has these pairs. The transaction is life 0.
 fn world_over(alloc: Global, entries: &[Entry]) -> Result<World, AllocError> {
     let store = Store::load(alloc, pairs_of(alloc, entries)?)?;
     Ok(World {
@@ -65,7 +62,6 @@ fn world_over(alloc: Global, entries: &[Entry]) -> Result<World, AllocError> {
         store,
         index: WriteIndex::new(alloc),
         first: Txn::new(alloc, 0),
-        second: Txn::new(alloc, 1),
     })
 }
 
@@ -95,25 +91,6 @@ fn is_value(read: &Option<Bytes>, value: Option<&[u8]>) -> bool {
     }
 }
 
-fn is_entry(pair: &Pair, entry: &Entry) -> bool {
-    pair.key.as_slice() == entry.0 && pair.value.as_slice() == entry.1
-}
-
-// Whether pairs are these.
-fn are_entries(pairs: &Pairs, entries: &[Entry]) -> bool {
-    let pairs = pairs.as_slice();
-    pairs.len() == entries.len()
-        && pairs
-            .iter()
-            .zip(entries)
-            .all(|(pair, entry)| is_entry(pair, entry))
-}
-
-const OPTIONS: DatabaseOptions = DatabaseOptions {
-    api: Api::V630,
-    window: None,
-};
-
 // The versionstamp with which a test asks what a commit changes, and its write conflict ranges.
 const STAMP: &[u8; 10] = b"stampstamp";
 
@@ -124,28 +101,5 @@ impl World {
             store: &self.store,
             index: &self.index,
         }
-    }
-
-    fn second(&mut self) -> TxnOn<'_> {
-        TxnOn {
-            txn: &mut self.second,
-            store: &self.store,
-            index: &self.index,
-        }
-    }
-
-    // Commits the first transaction.
-    fn commit(&mut self) -> Result<Answer, AllocError> {
-        if self.store.last() > 9 {
-            return Err(AllocError);
-        }
-        call(
-            &mut self.first,
-            &mut self.store,
-            &mut self.index,
-            OPTIONS,
-            &TxnCall::Commit,
-            9,
-        )
     }
 }

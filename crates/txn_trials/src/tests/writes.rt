@@ -1,4 +1,4 @@
-//! What a transaction writes and changes, and its write conflict ranges.
+//! What a transaction changes, and its write conflict ranges. Cases have what it reads of its writes.
 
 use super::*;
 use version_store::{Change, Changes};
@@ -13,33 +13,7 @@ fn write_layer<T: Tr>(tr: &mut T, range: &KeyRange) -> Result<(), TrFault> {
     tr.write_conflict_key(b"w")
 }
 
-// Whether a layer reads what it wrote: the value of `k`, and the pairs of a range.
-fn reads_layer<T: Tr>(tr: &mut T, range: &KeyRange) -> Result<(bool, bool), TrFault> {
-    let is_read = is_value(&tr.get(b"k", false)?, Some(b"\0\x01"));
-    let pairs = tr.range(range, 0, true, true)?;
-    Ok((is_read, are_entries(&pairs, &[(b"k", b"\0\x01")])))
-}
-
-fn layer_in(world: &mut World) -> Result<(bool, bool), TrFault> {
-    let cleared = range_of(world.alloc, (b"m", b"n"))?;
-    let all = range_of(world.alloc, (b"", b"\xff"))?;
-    write_layer(&mut world.first(), &cleared)?;
-    reads_layer(&mut world.first(), &all)
-}
-
 const STORED: &[Entry] = &[(b"l", b"1")];
-
-fn layer(alloc: Global) -> Result<(bool, bool), TrFault> {
-    let mut world = world_over(alloc, STORED)?;
-    let told = layer_in(&mut world);
-    drop(world);
-    told
-}
-
-#[test]
-fn a_layer_reads_what_it_wrote(rt: HostRuntime) {
-    assert_eq!(rt; layer(rt.alloc()), Ok((true, true)));
-}
 
 // Whether a transaction with the writes of a layer has these write conflict ranges.
 fn adds_conflict(on: &TxnOn<'_>, spans: &[Span]) -> Result<bool, AllocError> {
@@ -89,24 +63,4 @@ fn commits(alloc: Global) -> Result<(bool, bool), TrFault> {
 #[test]
 fn a_transaction_tells_what_it_changes_and_adds_conflict(rt: HostRuntime) {
     assert_eq!(rt; commits(rt.alloc()), Ok((true, true)));
-}
-
-// Whether entries are written under a prefix.
-fn logs_in(world: &mut World) -> Result<bool, TrFault> {
-    let prefix = Bytes::from_slice(world.alloc, b"L")?;
-    let entries = pairs_of(world.alloc, &[(b"1", b"x"), (b"2", b"y")])?;
-    world.first.log(&prefix, &entries)?;
-    Ok(is_value(&world.first().get(b"L2", false)?, Some(b"y")))
-}
-
-fn logs(alloc: Global) -> Result<bool, TrFault> {
-    let mut world = world_over(alloc, &[])?;
-    let logs = logs_in(&mut world);
-    drop(world);
-    logs
-}
-
-#[test]
-fn entries_are_logged_under_a_prefix(rt: HostRuntime) {
-    assert_eq!(rt; logs(rt.alloc()), Ok(true));
 }
