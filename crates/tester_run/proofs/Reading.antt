@@ -18,18 +18,22 @@ use Rattle.line_rules.specs.Reading.{Entry, Fault, input_limit}
 use Rattle.text_commands.specs.declared.fault.TextFault.{TextFault}
 use Rattle.text_commands.specs.declared.fault.TextFault.TheVariants as text
 use Rattle.text_commands.specs.Texts.{HasBadPair, IsDisasmFault}
-use Rattle.tester_run.specs.declared.fault.OrderFault.{OrderFault}
-use Rattle.tester_run.specs.declared.fault.OrderFault.TheVariants as order
+use Rattle.machine_runs.specs.declared.fault.OrderFault.{OrderFault}
+use Rattle.machine_runs.specs.declared.fault.OrderFault.TheVariants as order
 use Rattle.generator.specs.Generated.{gen_pairs}
 use Rattle.line_rules.specs.Inputs.{IsSmall}
 use Rattle.machine_rules.specs.Runs.{AreByTurns}
 use Rattle.std.specs.List.{AllByRecursion}
-use Rattle.tester_run.specs.Arguments.{gen_arguments, reads_input}
-use Rattle.tester_run.specs.Faults.{InputFault, HasLineFault, IsFaultOf, IsMisfit, line_in, order_in}
-use Rattle.tester_run.specs.Inputs.{IsCause, IsFaulty, IsMade, IsReadOut, IsRefusedBy, IsUnfit, IsUnread, WereRead, read_limit}
-use Rattle.tester_run.specs.Refusals.{line_refusal, order_refusal, text_refusal}
-use Rattle.tester_run.specs.Rendered.{Answers, IsOfGen, IsOfText, IsRead, Renders, Summarizes}
-use Rattle.tester_run.specs.declared.running.Rendered.{Rendered}
+use Rattle.machine_runs.specs.Arguments.{gen_arguments}
+use Rattle.machine_runs.specs.Misfits.{IsMisfit}
+use Rattle.machine_runs.specs.Outputs.{Renders, Summarizes}
+use Rattle.tester_run.specs.Arguments.{reads_input}
+use Rattle.tester_run.specs.Faults.{InputFault, HasLineFault}
+use Rattle.tester_run.specs.Answering.{IsCause, IsFaulty, IsMade, IsRefusedBy, IsUnfit, IsUnread, WereRead}
+use Rattle.tester_run.specs.Inputs.{IsReadOut, read_limit}
+use Rattle.tester_run.specs.Refusals.{line_refusal, order_refusal, text_refusal, line_in, order_in, IsFaultOf}
+use Rattle.tester_run.specs.Rendered.{Answers, IsOfGen, IsOfText, IsRead}
+use Rattle.machine_runs.specs.declared.running.Rendered.{Rendered}
 use Rattle.tester_run.specs.declared.fault.Refusal.{Refusal}
 use Rattle.tester_run.specs.declared.fault.Refusal.TheVariants as refusal
 

@@ -1,6 +1,5 @@
 -- The premise of `complete`, met by worked words and bytes.
-use Rattle.std.proofs.Common.{◌≡◌, ◌∷◌, ℕ, List, [], Some, None, Ok, Err, codes, refl, sym, ◌∙◌, arith}
-use Rattle.outside.specs.Counts.{Rose}
+use Rattle.std.proofs.Common.{◌≡◌, ◌∷◌, ℕ, List, [], Some, None, Ok, Err, codes, refl, sym, ◌∙◌}
 use Rattle.database_rules.specs.declared.Api.TheVariants.{V630}
 use Rattle.command_rules.specs.declared.args.RunArgs.{RunArgs}
 use Rattle.command_rules.specs.declared.args.Args.TheVariants as args
@@ -12,12 +11,10 @@ use Rattle.line_rules.specs.Reading.{Fault, lines_of, read_line, read_lines, pai
 use Rattle.line_rules.specs.Printing.{printable}
 use Rattle.tester_run.specs.Faults.{InputFault, InLine, NoRequest, EndsEarly, NotInstruction, HasFault}
 use Rattle.tester_run.specs.Outcomes.{IsLawful}
+use Rattle.tester_run.proofs.Tops.{no_rise}
 
 abbrev asked : RunArgs
 asked = record { prefix = codes "p"; api = V630; seed = 0; polls = 10000; window = None }
-
-no_rise : Rose 0 0 → ⊥
-no_rise rose = omega arith
 
 not_both : (bytes : List ℕ) (input : Input) (fault : Fault) → input_of form.Run bytes ≡ Ok input → input_of form.Run bytes ≡ Err fault → ⊥
 not_both bytes input fault read failed = let both : Ok input ≡ Err fault = sym read ∙ failed in cc

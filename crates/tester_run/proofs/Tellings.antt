@@ -2,20 +2,23 @@
 use Rattle.std.proofs.Common.{◌≡◌, ℕ, true, false, ap, List, Option, Some, None, ◌++◌, refl, sym, append_assoc, ◌∙◌, subst, inl, inr, ◌⊎◌, ⊎_elim, arith}
 use Rattle.std.specs.Prelude.{IfSome, codes}
 use Rattle.outside.specs.Counts.{Rose}
-use Rattle.std.proofs.lemmas.Option.{none-some, same_Some}
+use Rattle.std.proofs.lemmas.Option.{same_Some}
 use Rattle.command_rules.specs.declared.args.Args.{Args}
 use Rattle.command_words.specs.declared.fault.ArgFault.{ArgFault}
 use Rattle.command_words.specs.declared.fault.ArgFault.TheVariants as arg
 use Rattle.tester_run.specs.Arguments.{reads_input}
-use Rattle.tester_run.specs.Faults.{InputFault, HasFault, line_in, order_in, pair_in}
-use Rattle.tester_run.specs.Inputs.{IsFaulty, IsReadOut, IsRefusedBy}
-use Rattle.tester_run.specs.Outcomes.{usage, bad_input, read_fault, write_fault, out_of_memory, IsFinal, IsLawful, IsGenStatus}
-use Rattle.tester_run.specs.Tellings.{told, IsFaultLine, IsFaultTold, IsLineOf, IsShort, IsTold, IsUnasked, IsWritten, Refuses, Tells}
+use Rattle.tester_run.specs.Faults.{InputFault, HasFault}
+use Rattle.tester_run.specs.Answering.{IsFaulty, IsRefusedBy}
+use Rattle.tester_run.specs.Inputs.{IsReadOut}
+use Rattle.tester_run.specs.Outcomes.{IsLawful}
+use Rattle.tester_run.specs.Refusals.{line_in, order_in, pair_in, IsFaultLine, IsLineOf, IsShort, IsUnasked, Refuses}
+use Rattle.tester_run.specs.Statuses.{usage, bad_input, read_fault, write_fault, out_of_memory, IsFinal}
+use Rattle.tester_run.specs.Tellings.{told, IsFaultTold, IsTold, IsWritten, Tells}
 use Rattle.tester_run.specs.declared.fault.Refusal.{Refusal}
 use Rattle.tester_run.specs.declared.fault.Refusal.TheVariants as refusal
 
 -- a status is no other one
-other : {A : Type 0} (status n m : ℕ) → (n ≡ m → ⊥) → status ≡ n → status ≡ m → A
+pub other : {A : Type 0} (status n m : ℕ) → (n ≡ m → ⊥) → status ≡ n → status ≡ m → A
 other status n m apart is e = absurd (apart (sym is ∙ e))
 
 pub tells_words : (asked : Option Args) (status : ℕ) (left before after : Option (List ℕ)) (faults faults_after : ℕ) → status ≡ usage
@@ -183,14 +186,6 @@ pub usage_told : (fault : ArgFault) (status : ℕ) (before after : Option (List 
     → status ≡ usage → IsTold (codes "usage") before after faults faults_after → IsUnasked fault status before after faults faults_after
 usage_told fault status before after faults faults_after is status_is text =
     subst (λ (f : ArgFault). IsUnasked f status before after faults faults_after) (sym is) (status_is, text)
-
--- where the words ask for `gen`, nothing but want of memory refuses them
-pub unasked_generated : {X : Type 0} (words : Option Args) (fault : ArgFault) (status : ℕ) (source : X) (before after : Option (List ℕ))
-    (faults faults_after : ℕ) → (fault ≡ arg.Usage → words ≡ None) → IsUnasked fault status before after faults faults_after
-    → IfSome words (λ asked. reads_input asked ≡ false → (source ≡ source) × IsGenStatus status)
-unasked_generated None fault status source before after faults faults_after none unasked = tt
-unasked_generated (Some asked) arg.Usage status source before after faults faults_after none unasked = absurd (none-some asked (sym (none refl)))
-unasked_generated (Some asked) arg.NoMemory status source before after faults faults_after none unasked = λ alone. (refl, inr (inr unasked.is_status))
 
 -- ---- the text of a place of an order
 

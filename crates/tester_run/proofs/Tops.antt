@@ -13,13 +13,18 @@ use Rattle.std.specs.List.{list_all, AllByRecursion}
 use Rattle.machine_rules.specs.Machines.{Progress}
 use Rattle.machine_rules.specs.Runs.{Run, RunsTo, has_ended, status_of}
 use Rattle.tester_run.specs.Arguments.{arguments_of}
-use Rattle.tester_run.specs.Inputs.{IsMade}
-use Rattle.tester_run.specs.Outcomes.{write_fault, IsFinal, IsLawful, IsLegal, Finishes, BreaksOff, KeepsPrefixesApart}
+use Rattle.tester_run.specs.Answering.{IsMade}
+use Rattle.tester_run.specs.Outcomes.{IsLawful, IsLegal, Finishes, BreaksOff, KeepsPrefixesApart}
+use Rattle.tester_run.specs.Statuses.{write_fault, IsFinal}
 use Rattle.tester_run.specs.Rendered.{Answers}
-use Rattle.tester_run.specs.declared.running.Rendered.{Rendered}
+use Rattle.machine_runs.specs.declared.running.Rendered.{Rendered}
 
 abbrev some_args : Args → Option Args
 some_args asked = Some asked
+
+-- a count that stays 0 has not risen
+pub no_rise : Rose 0 0 → ⊥
+no_rise rose = omega arith
 
 -- the status of a run is final
 final_by : (b : Bool) → IsFinal (cond b 0 3)
@@ -42,7 +47,7 @@ final_of args.Disasm left order output status is = inl is.status_is
 pub made_final : (asked : Args) (left after : Option (List ℕ)) (rendered : Rendered) → IsMade asked left after rendered → IsFinal rendered.status
 made_final asked left after rendered made = final_of asked left rendered.order rendered.output.items rendered.status made.answers
 
-not_write_fault : (status : ℕ) → IsFinal status → status ≢ write_fault
+pub not_write_fault : (status : ℕ) → IsFinal status → status ≢ write_fault
 not_write_fault status final e =
     ⊎_elim (λ z. (let h : 0 ≡ 5 = sym z ∙ e in absurd (omega arith))) (λ z. (let h : 3 ≡ 5 = sym z ∙ e in absurd (omega arith))) final
 

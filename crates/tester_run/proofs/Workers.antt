@@ -6,7 +6,7 @@ use Rattle.command_rules.specs.declared.args.RunArgs.{RunArgs}
 use Rattle.command_rules.specs.declared.args.Args.{Args}
 use Rattle.command_rules.specs.declared.args.Args.TheVariants.{Run, Replay, Gen, Watch, Asm, Disasm}
 use Rattle.command_rules.specs.Grammar.{Argument, CommandName, args_of, arguments_in, asked_of, bare_of, command_in, command_names, gen_in, given, is_numeral, number_in, placed, run_in, workers_of, run, replay, gen, watch, asm, disasm}
-use Rattle.tester_run.specs.Arguments.{HasFewWorkers}
+use Rattle.tester_run.specs.Answering.{HasFewWorkers}
 
 abbrev AtMost : ℕ → Option ℕ → Type 0
 AtMost most found = IfSome found (λ n. n ≤ most)

@@ -1,14 +1,9 @@
 -- What a command asks for.
-use Rattle.std.specs.Prelude.{◌≤◌, Bool, true, false, Option, Some, None, ⊤}
-use Rattle.database_rules.specs.declared.Api.TheVariants.{V630}
+use Rattle.std.specs.Prelude.{Bool, true, false, Option, Some, None}
 use Rattle.command_rules.specs.declared.args.RunArgs.{RunArgs}
 use Rattle.command_rules.specs.declared.args.Args.{Args}
 use Rattle.command_rules.specs.declared.args.Args.TheVariants.{Run, Replay, Gen, Watch, Asm, Disasm}
-use Rattle.generator.specs.Generated.{main_prefix}
-
--- what `gen` makes is run under the prefix of main and API version 630, with seed 0
-abbrev pub gen_arguments : RunArgs
-gen_arguments = record { prefix = main_prefix; api = V630; seed = 0; polls = 10000; window = None }
+use Rattle.machine_runs.specs.Arguments.{gen_arguments}
 
 -- the arguments of its run; the commands on text run no machine
 abbrev pub arguments_of : Args → Option RunArgs
@@ -27,12 +22,3 @@ reads_input (Gen workers) = false
 reads_input Watch = true
 reads_input Asm = true
 reads_input Disasm = true
-
--- it asks for no more workers than there may be
-abbrev pub HasFewWorkers : Args → Type 0
-HasFewWorkers (Run arguments) = ⊤
-HasFewWorkers (Replay arguments) = ⊤
-HasFewWorkers (Gen workers) = workers ≤ 30
-HasFewWorkers Watch = ⊤
-HasFewWorkers Asm = ⊤
-HasFewWorkers Disasm = ⊤

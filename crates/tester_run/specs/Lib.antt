@@ -1,12 +1,9 @@
 pub mod Arguments
 pub mod Faults
-pub mod Driving
-pub mod Following
-pub mod Dumps
-pub mod Rendered
+pub mod Statuses
 pub mod Inputs
-pub mod Outcomes
+pub mod Rendered
 pub mod Tellings
-pub mod Summaries
-pub mod Serving
+pub mod Outcomes
 pub mod Refusals
+pub mod Answering

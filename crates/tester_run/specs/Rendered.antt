@@ -1,4 +1,5 @@
--- What each command answers: its order, what it writes, and the status where that was written whole.
+-- What each command answers over the bytes that the source had, where it tells them: its order, what it writes, and the status where that
+-- was written whole.
 use Rattle.std.specs.Prelude.{◌≡◌, ℕ, List, [], Option, IfSome, Ok}
 use Rattle.std.specs.List.{AllByRecursion}
 use Rattle.line_rules.specs.Inputs.{IsSmall}
@@ -10,34 +11,11 @@ use Rattle.input_rules.specs.declared.input.Form.{Form}
 use Rattle.input_rules.specs.declared.input.Form.TheVariants as form
 use Rattle.input_rules.specs.declared.input.Input.{Input}
 use Rattle.input_rules.specs.Forms.{input_of}
-use Rattle.machine_rules.specs.Runs.{AreByTurns, Run, RunsTo, status_of, dump}
+use Rattle.machine_rules.specs.Runs.{AreByTurns}
 use Rattle.text_commands.specs.Firings.{IsWatched}
 use Rattle.text_commands.specs.Texts.{IsAssembled, IsDisassembled}
-use Rattle.tester_run.specs.declared.running.Rendered.{Rendered}
-use Rattle.tester_run.specs.Arguments.{gen_arguments}
-use Rattle.tester_run.specs.Summaries.{summary}
-
--- the dump and the status of the complete run of the order
-pub record Dumps (pairs : List (List ℕ × List ℕ)) (arguments : RunArgs) (order output : List ℕ) (status : ℕ) : Type 0 where
-  pub run : Run
-  pub runs : RunsTo pairs arguments order run
-  pub dump_is : output ≡ dump order run
-  pub status_is : status ≡ status_of run
-
-abbrev pub Renders : (pairs : List (List ℕ × List ℕ)) → RunArgs → Rendered → Type 0
-Renders pairs arguments rendered = Dumps pairs arguments rendered.order rendered.output.items rendered.status
-
--- the summary of the complete run of the order, and status 0
-pub record Sums (pairs : List (List ℕ × List ℕ)) (arguments : RunArgs) (order output : List ℕ) (status : ℕ) : Type 0 where
-  pub run : Run
-  pub runs : RunsTo pairs arguments order run
-  pub summary_is : output ≡ summary order run
-  pub status_is : status ≡ 0
-
-abbrev pub Summarizes : (pairs : List (List ℕ × List ℕ)) → RunArgs → Rendered → Type 0
-Summarizes pairs arguments rendered = Sums pairs arguments rendered.order rendered.output.items rendered.status
-
--- ---- what each command answers over the bytes that the source had, where it tells them
+use Rattle.machine_runs.specs.Arguments.{gen_arguments}
+use Rattle.machine_runs.specs.Outputs.{Dumps, Sums}
 
 -- they say this input by a form, and an input may have these pairs
 pub record IsRead (its_form : Form) (left : Option (List ℕ)) (input : Input) : Type 0 where

@@ -2,22 +2,22 @@
 
 ghost use Rattle.std.specs.Prelude.{◌≡◌, ◌≤◌, [], false, IfOk, IfErr, OnOk};
 ghost use Rattle.std.specs.Io.KnownBytes.{IsAtEnd};
-ghost use Rattle.tester_run.specs.Arguments.{reads_input, HasFewWorkers};
-ghost use Rattle.tester_run.specs.Inputs.{IsMade, IsRefusedBy, IsUnfit, IsUnread, ReadsWithin, WereRead};
+ghost use Rattle.tester_run.specs.Answering.{HasFewWorkers, IsMade, IsRefusedBy, IsUnfit, IsUnread, WereRead};
+ghost use Rattle.tester_run.specs.Arguments.{reads_input};
+ghost use Rattle.tester_run.specs.Inputs.{ReadsWithin};
 ghost use Rattle.tester_run.specs.Rendered.{IsOfGen, IsRead};
 
 use crate::fault::Refusal;
-use crate::replaying::replay;
-use crate::running::{Rendered, generate};
-use crate::threading::run_threaded;
 use command_words::{Args, RunArgs};
 use dump_text::{Form, Input, Order, read_lines};
 use generator::gen_pairs;
+use machine_runs::{Rendered, generate, replay};
 use outside::{Gate, ReadOutcome, Source, read_all};
 use std::alloc::Global;
 use std::sync::Wait;
 use std::thread::Threads;
 use text_commands::{asm, disasm, watch};
+use threaded_runs::run_threaded;
 
 /// The most bytes that are read: one more than an input may have.
 const READ_LIMIT: usize = 67_108_865;

@@ -1,7 +1,7 @@
 //! A run over a source and a sink that cannot fail.
 
 ghost use Rattle.std.specs.Prelude.{◌≢◌, IfOk};
-ghost use Rattle.tester_run.specs.Outcomes.{read_fault, write_fault};
+ghost use Rattle.tester_run.specs.Statuses.{read_fault, write_fault};
 
 use crate::top::tester;
 use command_words::ArgWords;

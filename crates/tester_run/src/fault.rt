@@ -1,55 +1,15 @@
-//! Why the order of a replay can't be followed, and why a command has nothing to write.
+//! Why a command has nothing to write.
 
 ghost use Rattle.std.specs.Prelude.{◌≡◌};
-ghost use Rattle.tester_run.specs.declared.fault.OrderFault.TheVariants.{NoMemory};
 ghost use Rattle.tester_run.specs.declared.fault.Refusal.TheVariants.{Memory};
 ghost use Rattle.tester_run.specs.Refusals.{line_refusal, order_refusal, text_refusal};
 
-use crate::threading::NoDump;
 use dump_text::LineFault;
 use instr_text::DisFault;
-use std::alloc::{AllocError, AllocFailed};
+use machine_runs::OrderFault;
+use std::alloc::AllocError;
 use text_commands::TextFault;
-use thiserror::Error;
-
-/// Why the order of a replay can't be followed. Places of the order are counted from 1.
-#[derive(Clone, Copy, Debug, PartialEq, Eq, Error)]
-pub enum OrderFault {
-    /// The machine that the order names at this place has no request there.
-    #[error("order place {place}: machine {machine} has no request")]
-    NoRequest { place: u64, machine: u16 },
-    /// A machine has a request where the order ends.
-    #[error("order ends early")]
-    EndsEarly,
-    /// Memory ran out.
-    #[error("no memory")]
-    NoMemory,
-}
-
-impl From<AllocError> for OrderFault {
-    ghost from_gives = { λ _ e. e ≡ NoMemory };
-
-    fn from(_e: AllocError) -> OrderFault {
-        OrderFault::NoMemory
-    }
-}
-
-impl<T: Drop> From<AllocFailed<T>> for OrderFault {
-    ghost from_gives = { λ _ e. e ≡ NoMemory };
-
-    fn from(_e: AllocFailed<T>) -> OrderFault {
-        OrderFault::NoMemory
-    }
-}
-
-/// A run has no fault but want of memory, and no core leads to a stray one.
-impl From<NoDump> for OrderFault {
-    ghost from_gives = { λ _ e. e ≡ NoMemory };
-
-    fn from(_e: NoDump) -> OrderFault {
-        OrderFault::NoMemory
-    }
-}
+use threaded_runs::NoDump;
 
 /// Why a command has nothing to write.
 #[derive(Debug, Drop)]

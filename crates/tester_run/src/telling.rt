@@ -1,13 +1,14 @@
 //! What is told on err.
 
 ghost use Rattle.std.specs.Prelude.{◌≡◌, ◌++◌, codes, decimal, IfOk, OnOk};
-ghost use Rattle.tester_run.specs.Faults.{NoRequest, line_in, order_in, pair_in};
-ghost use Rattle.tester_run.specs.Tellings.{told, fault_text, IsLineOf, IsWritten};
+ghost use Rattle.tester_run.specs.Faults.{NoRequest};
+ghost use Rattle.tester_run.specs.Refusals.{line_in, order_in, pair_in, IsLineOf};
+ghost use Rattle.tester_run.specs.Tellings.{told, fault_text, IsWritten};
 
-use crate::fault::OrderFault;
 use dump_text::LineFault;
 use instr_text::DisFault;
 use itoa::Buffer;
+use machine_runs::OrderFault;
 use outside::{Sink, write_all};
 use std::alloc::{AllocError, Global};
 

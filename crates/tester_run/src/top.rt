@@ -1,24 +1,22 @@
 //! The top call.
 
-ghost use Rattle.std.specs.Prelude.{◌≡◌, ◌≢◌, ◌≤◌, ◌⊎◌, true, false, [], None, codes, IfSome};
-ghost use Rattle.std.specs.Io.KnownBytes.{Appends, IsAtEnd};
+ghost use Rattle.std.specs.Prelude.{◌≡◌, ◌≢◌, ◌⊎◌, [], codes};
+ghost use Rattle.std.specs.Io.KnownBytes.{Appends};
 ghost use Rattle.outside.specs.Counts.{Rose};
 ghost use Rattle.outside.specs.Streams.{AppendsFront};
 ghost use Rattle.command_rules.specs.Grammar.{args_of};
-ghost use Rattle.tester_run.specs.Arguments.{reads_input};
-ghost use Rattle.tester_run.specs.Faults.{InputFault, HasFault};
-ghost use Rattle.tester_run.specs.Outcomes.{usage, bad_input, read_fault, write_fault, out_of_memory, IsFinal, IsLawful, IsLegal, IsSilent, IsGenStatus, Finishes, BreaksOff, KeepsPrefixesApart};
-ghost use Rattle.tester_run.specs.Inputs.{IsReadOut, ReadsWithin};
-ghost use Rattle.tester_run.specs.Tellings.{IsTold, IsUnasked, IsWritten, Refuses, Tells};
+ghost use Rattle.tester_run.specs.Outcomes.{IsOutcome};
+ghost use Rattle.tester_run.specs.Refusals.{IsUnasked, Refuses};
+ghost use Rattle.tester_run.specs.Statuses.{read_fault, write_fault, out_of_memory, IsFinal};
+ghost use Rattle.tester_run.specs.Tellings.{IsTold, IsWritten};
 
 use crate::answering::answer;
-use crate::driving::shows_short;
 use crate::fault::Refusal;
-use crate::running::Rendered;
 use crate::telling::{line_fault_line, order_fault_line, pair_fault_line, tell};
 use command_words::{ArgFault, ArgWords, read_args};
 use dump_text::Order;
 use history_laws::runs_are_legal;
+use machine_runs::{Rendered, shows_short};
 use outside::{Gate, Sink, Source, write_all};
 use prefix_laws::prefixes_are_apart;
 use std::alloc::Global;
@@ -50,7 +48,7 @@ pub struct Outcome {
 /// Does all that the program does: reads the words after the program's name and the source to its end, does what the command
 /// asks over what it read, and writes what comes of it to `out`: the dump of a run or of a replay, when each watch fires, the lines
 /// of a text's instructions, or the text of such lines. With `gen` it reads nothing, runs the pairs that are made for so many
-/// workers by turns, and writes the summary. The clauses say what each status means.
+/// workers by turns, and writes the summary. The fields of `IsOutcome` say what each status means.
 pub fn tester<
     R: Threads + Wait + Sync + Clone + Drop + Send + 'static,
     S: Source,
@@ -66,58 +64,8 @@ pub fn tester<
     err: &mut N,
     gate: &G,
 ) -> Outcome
-    // 1: the words are no command. Nothing was read.
-    ensures usage { result.status ≡ usage → args_of args.now ≡ None }
-    ensures words { args_of args.now ≡ None → (result.status ≡ usage) ⊎ (result.status ≡ out_of_memory) }
-    ensures unread { result.status ≡ usage → source.new ≡ source.old }
-
-    // 2: a line has a fault or passes a limit, the order can't be followed, or a pair is no instruction, where the source tells
-    // its bytes; it was read to its end or its limit.
-    ensures input { result.status ≡ bad_input → IfSome (args_of args.now) (λ asked. IfSome (S.left source.old)
-        (λ bytes. (fault : InputFault) × HasFault asked bytes fault)) }
-    ensures judged { result.status ≡ bad_input → IsReadOut (S.left source.old) (S.left source.new) }
-
-    // 0 and 3: what the command answers was written, and the status is the one that it answers: the dump of the complete run of
-    // the order, and the status of that run; of `gen` the summary, and of the commands on text the text, and 0.
-    ensures finished { IsFinal result.status → IfSome (args_of args.now) (λ asked.
-        Finishes (S.left source.old) asked result.order result.status (K.written out.old) (K.written out.new)) }
-    ensures end { IsFinal result.status → IfSome (args_of args.now) (λ asked. reads_input asked ≡ true → IsAtEnd (S.left source.new)) }
-
-    // `gen` reads nothing, and has no other status than 0, 5 and 6.
-    ensures generated { IfSome (args_of args.now) (λ asked. reads_input asked ≡ false
-        → (source.new ≡ source.old) × IsGenStatus result.status) }
-
-    // In that run each transaction committed with a version would get the same ordinary reads run whole at its commit, unless
-    // a write with its conflict range switched off fell between.
-    ensures legal { IsFinal result.status → IfSome (args_of args.now) (λ asked. IsLegal asked result.order) }
-
-    // In that run the prefixes that one allocator gave to directories, in transactions that committed, are apart, where it alone
-    // wrote in its subspace.
-    ensures apart { IsFinal result.status → IfSome (args_of args.now) (λ asked. KeepsPrefixesApart asked result.order) }
-
-    // 4 and 5: the source, or out, has counted a fault in this call.
-    ensures read { result.status ≡ read_fault → Rose (S.faults source.old) (S.faults source.new) }
-    ensures write { result.status ≡ write_fault → Rose (K.faults out.old) (K.faults out.new) }
-    ensures front { result.status ≡ write_fault → IfSome (args_of args.now) (λ asked.
-        BreaksOff (S.left source.old) asked result.order (K.written out.old) (K.written out.new)) }
-
-    // 1, 2, 4 and 6: out is as it was, and there is no order. There is no other status.
-    ensures untouched { IsSilent result.status → out.new ≡ out.old }
-    ensures no_order { IsSilent result.status → result.order ≡ [] }
-    ensures statuses { result.status ≤ out_of_memory }
-
-    // Where the words and the input are lawful and nothing fails, the command is done, unless memory ran out.
-    ensures complete { IsLawful (args_of args.now) (S.left source.old) (S.faults source.old) (S.faults source.new)
-        (K.faults out.old) (K.faults out.new) → IsFinal result.status ⊎ (result.status ≡ out_of_memory) }
-
-    // At each status: no more was read than the limit.
-    ensures limit { result.status ≢ usage → ReadsWithin (S.left source.old) (S.left source.new) }
-
-    // 0 and 3: err is as it was. At each other status its line stands behind what err held, at 2 that of the fault; a front of
-    // the line where err has counted a fault in this call.
-    ensures quiet { IsFinal result.status → err.new ≡ err.old }
-    ensures told { Tells (args_of args.now) result.status (S.left source.old) (N.written err.old) (N.written err.new)
-        (N.faults err.old) (N.faults err.new) }
+    ensures { IsOutcome (args_of args.now) result.status result.order S.left S.faults source.old source.new
+        K.written K.faults out.old out.new N.written N.faults err.old err.new }
 {
     let asked = match read_args(alloc, args) {
         Ok(asked) => asked,

@@ -1,0 +1,9 @@
+-- The arguments of the run of `gen`.
+use Rattle.std.specs.Prelude.{None}
+use Rattle.database_rules.specs.declared.Api.TheVariants.{V630}
+use Rattle.command_rules.specs.declared.args.RunArgs.{RunArgs}
+use Rattle.generator.specs.Generated.{main_prefix}
+
+-- what `gen` makes is run under the prefix of main and API version 630, with seed 0
+abbrev pub gen_arguments : RunArgs
+gen_arguments = record { prefix = main_prefix; api = V630; seed = 0; polls = 10000; window = None }

@@ -1,7 +1,0 @@
-use Rattle.std.proofs.Common.{◌≡◌, ◌++◌, take}
-use Rattle.std.specs.List.{flat_map}
-use Rattle.tester_run.specs.Dumps.{suspended_stack}
-use Rattle.tester_run.proofs.dumping.add_stacks.Given as goal
-
-abbrev pub invariant-loop-suspended : goal.invariant-loop-suspended
-invariant-loop-suspended l = l.to.items ≡ l.fn.to.items ++ flat_map suspended_stack (take l.suspended-index l.suspended_machines)

@@ -1,6 +1,0 @@
-use Rattle.std.proofs.Common.{◌≡◌, take}
-use Rattle.tester_run.specs.Summaries.{total_at}
-use Rattle.tester_run.proofs.summing.total.Given as goal
-
-abbrev pub invariant-loop-suspended : goal.invariant-loop-suspended
-invariant-loop-suspended l = l.total ≡ total_at l.which (take l.suspended-index l.suspended_machines)
