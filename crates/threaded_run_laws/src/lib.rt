@@ -6,7 +6,7 @@
 //! (`specs/Gathering.antt`).
 //!
 //! That the order is a run is one law over all that came back, and no clause of a thread: a thread sees its own machine
-//! alone. `run_threaded` of `tester_run` calls it, where its premises are the clauses of `serve`, `run_machine` and
+//! alone. `run_threaded` of `threaded_runs` calls it, where its premises are the clauses of `serve`, `run_machine` and
 //! `settle_machines`.
 #![tactic(auto)]
 
