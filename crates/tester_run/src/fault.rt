@@ -9,7 +9,6 @@ use instr_text::DisFault;
 use machine_runs::OrderFault;
 use std::alloc::AllocError;
 use text_commands::TextFault;
-use threaded_runs::NoDump;
 
 /// Why a command has nothing to write.
 #[derive(Debug, Drop)]
@@ -30,14 +29,6 @@ impl From<AllocError> for Refusal {
     ghost from_gives = { λ _ e. e ≡ Memory };
 
     fn from(_e: AllocError) -> Refusal {
-        Refusal::Memory
-    }
-}
-
-impl From<NoDump> for Refusal {
-    ghost from_gives = { λ _ e. e ≡ Memory };
-
-    fn from(_e: NoDump) -> Refusal {
         Refusal::Memory
     }
 }

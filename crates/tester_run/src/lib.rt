@@ -12,8 +12,6 @@
 //!   nor `gate`. What it asks of the handle is what starting a thread asks.
 //! - Where there is no memory for the line of a fault, the status is 6 and not 2: each status but 0 and 3 has its line on
 //!   `err`.
-//! - `tester` answers status 6 where the replies of a run in threads don't fit together (`NoDump::Stray`), since its clauses know no
-//!   other refusal of a run.
 //! - What runs and renders stands in crates below, and this one stays small: its contract is proved, and each wrong body of `must-fail/`
 //!   refused, in little time.
 #![tactic(auto)]

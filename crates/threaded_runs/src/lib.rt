@@ -12,8 +12,8 @@
 //!   what the thread would have run (`start_network`). No test shows that, since to start a thread is a step of the
 //!   toolchain's own; the clause of `run_threaded` holds either way.
 //! - As many machines have to come back as `serve` saw started. That is compared at run time, since no thread sees both.
-//! - A run whose replies don't fit together, which no core brings about, is `NoDump::Stray`. It can't be proved away: a waiter that shows a
-//!   value says nothing of the setter until both are settled, and settling needs the machines to fit.
+//! - A run whose replies don't fit together, which no core brings about, is refused as for want of memory. It can't be proved away: a
+//!   waiter that shows a value says nothing of the setter until both are settled, and settling needs the machines to fit.
 //! - A machine that polls in vain rests before it polls again (`Gate::rest`): at once four times, then by growing sleeps of
 //!   up to 64 microseconds, some 130 with the timer. The gate brings the clock, and `rest` has no clause: time is no part of
 //!   any.
@@ -27,4 +27,4 @@
 
 mod threading;
 
-pub use threading::{NoDump, run_threaded};
+pub use threading::run_threaded;

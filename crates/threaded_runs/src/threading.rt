@@ -20,7 +20,7 @@ use client_core::Core;
 use command_words::RunArgs;
 use key_bytes::Pairs;
 use machine_runs::{Ended, Rendered, first_suspended, rendered_of, run_by_turns};
-use machine_threads::{Cause, Ran, ThreadedMachine, run_machine, settle_machines};
+use machine_threads::{ThreadedMachine, run_machine, settle_machines};
 use network::{Post, Served, serve};
 use outside::{Gate, PcgWords};
 use request_line::{Receiver, Sender, open};
@@ -74,41 +74,16 @@ enum Network {
     Refused(CoreService),
 }
 
-/// Why a run in threads comes to no dump.
-#[derive(Clone, Copy, Debug, PartialEq, Eq)]
-pub enum NoDump {
-    /// Memory was wanting.
-    NoMemory,
-    /// The replies that machines used don't fit together: a number that was not to be started, or more or fewer machines than the core
-    /// started. No core gives such replies. But a thread sees its own machine alone, and that a reply is the core's is known only once
-    /// its waiter was settled, for which the machines have to fit together.
-    Stray,
-}
-
-impl From<AllocError> for NoDump {
-    fn from(_e: AllocError) -> NoDump {
-        NoDump::NoMemory
-    }
-}
-
-impl From<Cause> for NoDump {
-    fn from(cause: Cause) -> NoDump {
-        match cause {
-            Cause::NoMemory => NoDump::NoMemory,
-            Cause::StrayStart | Cause::StrayNumbers => NoDump::Stray,
-        }
-    }
-}
-
 /// Runs machine 0 over these pairs as the arguments say, and each machine that is started, in threads beside one another, until all
-/// have ended, and renders the dump. Where the thread of the core can't be started they run by turns.
+/// have ended, and renders the dump. Where the thread of the core can't be started they run by turns. It is refused for want of memory;
+/// replies that don't fit one another, which no core gives, are dealt with alike.
 pub fn run_threaded<R: Threads + Wait + Sync + Clone + Drop + Send + 'static, G: Gate>(
     rt: &R,
     alloc: Global,
     gate: &G,
     arguments: &RunArgs,
     pairs: Pairs,
-) -> Result<Rendered, NoDump>
+) -> Result<Rendered, AllocError>
     ensures { IfOk result (Renders pairs arguments.now) }
 {
     let loaded = pairs.len();
@@ -133,7 +108,7 @@ fn run_all<R: Threads + Wait + Sync + Clone + Drop + Send + 'static, G: Gate>(
     gate: &G,
     service: CoreService,
     suspended: SuspendedMachine,
-) -> Result<Ended, NoDump>
+) -> Result<Ended, AllocError>
     requires is_suspended { IsSuspended suspended }
     requires begun { progress_of suspended ≡ begun_as suspended.machine.machine }
     requires unapplied { service.core.applied ≡ 0 }
@@ -160,7 +135,7 @@ fn run_beside<R: Threads + Wait + Sync, G: Gate>(
     child: PromisedHandle<Back, Serving>,
     suspended: SuspendedMachine,
     sender: Sender<Post>,
-) -> Result<Ended, NoDump>
+) -> Result<Ended, AllocError>
     requires fresh { IsFresh child.promise.0.value sender }
     requires is_suspended { IsSuspended suspended }
     requires begun { progress_of suspended ≡ begun_as suspended.machine.machine }
@@ -169,40 +144,26 @@ fn run_beside<R: Threads + Wait + Sync, G: Gate>(
     let machine = ThreadedMachine::new(alloc, suspended, sender);
     let ran = run_machine(rt, alloc, gate, machine, 0);
     let answered = answered_by(rt, alloc, child.join(rt));
-    if !is_whole(&ran) {
-        return Err(no_dump_by(ran.cut));
+    if ran.is_cut {
+        return Err(AllocError);
     }
     let team = ran.crew.listed(alloc)?;
     if answered.served.short {
-        return Err(NoDump::NoMemory);
+        return Err(AllocError);
     }
     if answered.served.machines != team.len() as u64 {
-        return Err(NoDump::Stray);
+        return Err(AllocError);
     }
     threads_gather_to_a_run();
     settled(alloc, answered, team)
 }
 
-// Whether each machine that was started ran to its end.
-fn is_whole(ran: &Ran) -> bool
-    ensures { result ≡ true → ran.now.cut ≡ None }
-{
-    match ran.cut {
-        Some(_) => false,
-        None => true,
-    }
-}
-
-// Why there is no dump, by what cut machines short.
-fn no_dump_by(cut: Option<Cause>) -> NoDump {
-    match cut {
-        Some(cause) => NoDump::from(cause),
-        None => NoDump::NoMemory,
-    }
-}
-
 // What came back, with the machines settled against it.
-fn settled(alloc: Global, answered: Answered, team: Vec<ThreadedMachine>) -> Result<Ended, NoDump>
+fn settled(
+    alloc: Global,
+    answered: Answered,
+    team: Vec<ThreadedMachine>,
+) -> Result<Ended, AllocError>
     requires none_closed { closed answered.receiver ≡ [] }
     requires one_line { All (λ one. client_line one.client ≡ receiver_line answered.receiver) team.items }
     requires cover { CoverAllNumbers (map history_of team.items) }

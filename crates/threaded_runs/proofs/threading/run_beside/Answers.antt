@@ -16,7 +16,7 @@ settled-requires g c =
     let first = c.new-machine.result in
     let ended = c.in_ok-team.team.items in
     let as_many = c.if-answered-len.false ∙ c.len.ensures ∙ c.in_ok-team.team.ok.0 in
-    let team = subst (IsTeamOf first) (sym c.in_ok-team.ensures) (c.run_machine-ran.ensures.team (c.is_whole.ensures c.if-not-is_whole.false)) in
+    let team = subst (IsTeamOf first) (sym c.in_ok-team.ensures) (c.run_machine-ran.ensures.team c.if-ran.false) in
     record {
       none_closed = none_closed receiver c.args.sender service answered c.requires.fresh served;
       one_line = same_line receiver c.args.sender service answered c.requires.fresh served first ended team c.new-machine.ensures.line;
@@ -34,7 +34,7 @@ returns g c =
     let served = c.answered_by-answered.ensures receiver service c.join.ensures in
     let as_many = c.if-answered-len.false ∙ c.len.ensures ∙ c.in_ok-team.team.ok.0 in
     let first = c.new-machine.result in
-    let team = subst (IsTeamOf first) (sym c.in_ok-team.ensures) (c.run_machine-ran.ensures.team (c.is_whole.ensures c.if-not-is_whole.false)) in
+    let team = subst (IsTeamOf first) (sym c.in_ok-team.ensures) (c.run_machine-ran.ensures.team c.if-ran.false) in
     subst (λ (suspended : SuspendedMachine). IfOk c.settled.result (EndsFrom service.core (words_from service.words) suspended)) c.new-machine.ensures.suspended
     (settled_ends receiver c.args.sender service c.answered_by-answered.result c.requires.fresh served first c.in_ok-team.team.items c.settled.result
     c.if-answered.false as_many team c.threads_gather_to_a_run.ensures c.settled.ensures.core c.settled.ensures.order c.settled.ensures.settled)
