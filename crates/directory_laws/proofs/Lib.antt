@@ -10,3 +10,7 @@ pub mod Keys
 pub mod Freeing
 pub mod Opening
 pub mod StayingInLayer
+pub mod Values
+pub mod Leaving
+pub mod Insides
+pub mod Rows

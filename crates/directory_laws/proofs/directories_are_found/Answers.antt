@@ -1,4 +1,5 @@
 use Rattle.directory_laws.proofs.Finding.{found_in_layer}
+use Rattle.directory_laws.proofs.Insides.{done_inside, moved_inside}
 use Rattle.directory_laws.proofs.Opening.{opened_is_found}
 use Rattle.directory_laws.proofs.Removing.{removed_is_gone}
 use Rattle.directory_laws.proofs.Staying.{all_else_stays}
@@ -15,3 +16,9 @@ returns-clause-removed c = removed_is_gone
 
 pub returns-clause-others : goal.returns-clause-others
 returns-clause-others c = all_else_stays
+
+pub returns-clause-inside : goal.returns-clause-inside
+returns-clause-inside c = done_inside
+
+pub returns-clause-moved : goal.returns-clause-moved
+returns-clause-moved c = moved_inside
