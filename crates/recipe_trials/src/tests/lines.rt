@@ -4,6 +4,7 @@ use database_rules::Code;
 use fdb_calls::Reply;
 use key_bytes::{Bytes, Pairs};
 use recipe_rules::{Count, Counts};
+use shell_laws::words_spell_tokens_and_numbers;
 use shell_rules::{Command, Recipe};
 use shell_text::{
     add_bytes, add_code, add_counts, add_error, add_item, add_line, add_range, add_size, add_value,
@@ -52,4 +53,11 @@ fn a_line_is_a_command(rt: HostRuntime) {
     assert!(rt; matches!(&command, Ok(Command::Get { key }) if key.as_slice() == b"k".as_slice()));
     let queue = Bytes::new(rt.alloc());
     assert!(rt; Recipe::Pop { queue }.is_writing());
+}
+
+// The law of the words of lines is called once.
+#[test]
+fn the_law_of_words_does_nothing(rt: HostRuntime) -> Result<(), Fail> {
+    words_spell_tokens_and_numbers();
+    Ok(())
 }
