@@ -23,7 +23,7 @@ late_script : (setting : Setting) (t : Transaction) (later : Option ℕ) (read :
 late_script setting t (Some code) read passed = absurd cc
 late_script setting t None read passed = refl
 
-read_script : (setting : Setting) (t : Transaction) (first : Option ℕ) (read : Read) → refusal (read_by first setting t false read).reply ≡ None
+pub read_script : (setting : Setting) (t : Transaction) (first : Option ℕ) (read : Read) → refusal (read_by first setting t false read).reply ≡ None
     → (read_by first setting t false read).transaction.script ≡ t.script ++ HasRead read (answer read (view setting t)) ∷ []
 read_script setting t (Some code) read passed = absurd cc
 read_script setting t None read passed =
@@ -34,7 +34,7 @@ write_script : (t : Transaction) (code : Option ℕ) (mutation : Mutation) → r
 write_script t (Some code) mutation passed = absurd cc
 write_script t None mutation passed = refl
 
-wrote_script : (setting : Setting) (t : Transaction) (mutation : Mutation) → refusal (act_called setting t (Writes mutation)).reply ≡ None
+pub wrote_script : (setting : Setting) (t : Transaction) (mutation : Mutation) → refusal (act_called setting t (Writes mutation)).reply ≡ None
     → (act_called setting t (Writes mutation)).transaction.script ≡ t.script ++ Wrote mutation (not t.skips_write_conflict) ∷ []
 wrote_script setting t (Set key value) passed = write_script t (set_code t.phase key value) (Set key value) passed
 wrote_script setting t (Clear key) passed = write_script t (clear_code t.phase key) (Clear key) passed
@@ -42,7 +42,7 @@ wrote_script setting t (ClearRange begin end) passed = write_script t (range_cod
 wrote_script setting t (Atomic op key operand) passed = write_script t (op_code t.phase op key operand) (Atomic op key operand) passed
 
 -- after a read alone
-read_alone : (setting : Setting) (t : Transaction) (read : Read) → (all_acted setting (Reads read false ∷ []) t).refused ≡ None
+pub read_alone : (setting : Setting) (t : Transaction) (read : Read) → (all_acted setting (Reads read false ∷ []) t).refused ≡ None
     → (all_acted setting (Reads read false ∷ []) t).transaction.script ≡ t.script ++ HasRead read (answer read (view setting t)) ∷ []
 read_alone setting t read none =
     let first = each_through setting (Reads read false) [] t none in
@@ -51,10 +51,10 @@ read_alone setting t read none =
     ∙ read_script setting t (read_code t.phase false read) read first.passed
 
 -- whether the write behind a read adds a write conflict range
-abbrev adds_behind : Setting → Transaction → Read → Bool
+abbrev pub adds_behind : Setting → Transaction → Read → Bool
 adds_behind setting t read = not (act_called setting t (Reads read false)).transaction.skips_write_conflict
 
-read_and_write : (setting : Setting) (t : Transaction) (read : Read) (mutation : Mutation)
+pub read_and_write : (setting : Setting) (t : Transaction) (read : Read) (mutation : Mutation)
     → (all_acted setting (Reads read false ∷ Writes mutation ∷ []) t).refused ≡ None
     → (all_acted setting (Reads read false ∷ Writes mutation ∷ []) t).transaction.script
     ≡ t.script ++ (HasRead read (answer read (view setting t)) ∷ Wrote mutation (adds_behind setting t read) ∷ [])

@@ -30,7 +30,7 @@ items_once space database commits pushed popped of_queue did whole = after_once 
 -- ---- commits of a legal history
 
 -- those behind some of them are legal too
-legal_behind : (version : ℕ) (before commits : List Commit) (database : Database) → AreLegal before database commits
+pub legal_behind : (version : ℕ) (before commits : List Commit) (database : Database) → AreLegal before database commits
     → AreLegal (before ++ take version commits) (after_commits (take version commits) database) (drop version commits)
 legal_behind zero before commits database legal = subst (λ done. AreLegal done database commits) (sym (append-nil before)) legal
 legal_behind (suc version) before [] database legal = tt
@@ -40,7 +40,7 @@ legal_behind (suc version) before (commit ∷ commits) database legal =
     (legal_behind version (before ++ commit ∷ []) commits (do_all commit.mutations database) legal.1)
 
 -- those of them into which nothing fell ran whole
-ran_whole : (count : ℕ) (before commits : List Commit) (database : Database) → AreLegal before database commits
+pub ran_whole : (count : ℕ) (before commits : List Commit) (database : Database) → AreLegal before database commits
     → NoneFell before (take count commits) → RunWhole database (take count commits)
 ran_whole zero before commits database legal none = tt
 ran_whole (suc count) before [] database legal none = tt
@@ -59,7 +59,7 @@ after_append [] second database = refl
 after_append (commit ∷ first) second database = after_append first second (do_all commit.mutations database)
 
 -- the database so many versions later is what the commits between make
-at_later : (history : History) (version count : ℕ)
+pub at_later : (history : History) (version count : ℕ)
     → at history (version + count) ≡ after_commits (commits_from version count history) (at history version)
 at_later history version count =
     ap (λ commits. after_commits commits finite.empty) (take-add version count history)

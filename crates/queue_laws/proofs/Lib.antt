@@ -4,3 +4,7 @@ pub mod Commits
 pub mod Runs
 pub mod Rows
 pub mod Calls
+pub mod Answered
+pub mod Counted
+pub mod Counting
+pub mod CountRows

@@ -35,14 +35,14 @@ all_dropped (suc count) (commit ∷ commits) did = all_dropped count commits did
 -- ---- what each step keeps
 
 -- nothing is asked of an open transaction
-abbrev IsHeld : History → Transaction → Type 0
+abbrev pub IsHeld : History → Transaction → Type 0
 IsHeld history transaction = ⊤
 
 has_more : (history : History) (commit : Commit) → HasScripts history → DidItsScript commit → HasScripts (history ++ commit ∷ [])
 has_more [] commit has did = absurd (let some = has.some in omega (arith, some))
 has_more (first ∷ later) commit has did = record { some = omega arith; did = all_more later commit has.did did }
 
-law_kept : IsKept HasScripts IsHeld
+pub law_kept : IsKept HasScripts IsHeld
 law_kept = record {
   calls = λ setting has. record {
     acts = record {
@@ -67,7 +67,7 @@ law_kept = record {
 pub scripts_begin : AreBegunWithScripts
 scripts_begin pairs arguments = record { some = omega arith; did = tt }
 
-holds : (world : World) → HasScripts world.setting.history → HoldsIn HasScripts IsHeld world
+pub holds : (world : World) → HasScripts world.setting.history → HoldsIn HasScripts IsHeld world
 holds world has = record { grown = has; held = λ name t found. tt }
 
 pub scripts_kept : AreScriptsKept
@@ -76,7 +76,7 @@ scripts_kept world given has = (request_keeps HasScripts IsHeld law_kept world g
 -- ---- the law
 
 -- each commit behind a version past the first did its script
-all_did : (history : History) (version count : ℕ) → HasScripts history → 1 ≤ version → AllByRecursion DidItsScript (commits_from version count history)
+pub all_did : (history : History) (version count : ℕ) → HasScripts history → 1 ≤ version → AllByRecursion DidItsScript (commits_from version count history)
 all_did history zero count has past = absurd (omega (arith, past))
 all_did [] (suc version) count has past = absurd (let some = has.some in omega (arith, some))
 all_did (first ∷ later) (suc version) count has past = all_taken count (drop version later) (all_dropped version later has.did)

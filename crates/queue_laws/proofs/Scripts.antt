@@ -34,7 +34,7 @@ hidden_more writes mutation q readable =
     ∙ or-false (covers (unreadable writes) q)
 
 -- what is seen of a key that a mutation leaves alone stays as it is
-seen_same : (writes : List Mutation) (mutation : Mutation) (database : Database) (q : List ℕ) → modifies q mutation ≡ false
+pub seen_same : (writes : List Mutation) (mutation : Mutation) (database : Database) (q : List ℕ) → modifies q mutation ≡ false
     → covers (unreadable_by mutation) q ≡ false
     → finite.get (seen (writes ++ mutation ∷ []) database) q ≡ finite.get (seen writes database) q
 seen_same writes mutation database q apart readable =
@@ -48,7 +48,7 @@ seen_same writes mutation database q apart readable =
     ∙ sym (get-seen writes database q)
 
 -- each key of the subspace can be read behind these writes
-abbrev AllReadable : (space : List ℕ) → List Mutation → Type 0
+abbrev pub AllReadable : (space : List ℕ) → List Mutation → Type 0
 AllReadable space writes = (q : List ℕ) → is_inside space q ≡ true → covers (unreadable writes) q ≡ false
 
 -- from these writes to those the queue had these values pushed, and these popped
@@ -56,7 +56,7 @@ record Leaves (space : List ℕ) (database : Database) (before after : List Muta
   once : ComeOnce space (seen before database) (seen after database) pushed popped
   readable : AllReadable space after
 
-readable_more : (space : List ℕ) (writes : List Mutation) (mutation : Mutation) → AllReadable space writes
+pub readable_more : (space : List ℕ) (writes : List Mutation) (mutation : Mutation) → AllReadable space writes
     → ((q : List ℕ) → is_inside space q ≡ true → covers (unreadable_by mutation) q ≡ false) → AllReadable space (writes ++ mutation ∷ [])
 readable_more space writes mutation readable none q inside = hidden_more writes mutation q (none q inside) ∙ readable q inside
 

@@ -1,2 +1,5 @@
 pub mod Scripts
 pub mod Laws
+pub mod Answered
+pub mod Counts
+pub mod Indexes

@@ -3,7 +3,10 @@ use history_laws::{runs_are_legal, steps_are_legal};
 use line_laws::bad_places_are_longest_fronts;
 use outside::{MemSink, MemSource, OpenGate};
 use prefix_laws::prefixes_are_apart;
-use queue_laws::{queue_items_come_once, scripts_tell_of_queues};
+use queue_laws::{
+    counts_follow_commits, keys_tell_their_indexes, layers_answer_at_their_commits,
+    queue_items_come_once, scripts_tell_of_queues,
+};
 use std::alloc::{AllocError, Global};
 use std::sync::Wait;
 use std::test::Fail;
@@ -113,7 +116,10 @@ fn runs_where_nothing_fails(rt: HostRuntime) -> Result<(), Fail> {
 #[test]
 fn laws_do_nothing(rt: HostRuntime) -> Result<(), Fail> {
     bad_places_are_longest_fronts();
+    counts_follow_commits();
     directories_are_found();
+    keys_tell_their_indexes();
+    layers_answer_at_their_commits();
     machines_weave_to_a_run();
     prefixes_are_apart();
     queue_items_come_once();
