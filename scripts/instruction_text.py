@@ -2,10 +2,13 @@
 
     python3 scripts/instruction_text.py asm < TEXT > LINES
     python3 scripts/instruction_text.py disasm < LINES > TEXT
+    python3 scripts/instruction_text.py strip < TEXT > TEXT
 
+`strip` takes out empty lines, and comments: lines that begin with `#`, spaces before it or not. The program reads neither.
 A fault is told as `fdbtester` tells it, on standard error, with status 2. With `--self-test` it reads known texts and compares.
 """
 
+import difflib
 import functools
 import sys
 import uuid
@@ -40,14 +43,22 @@ class TextFault(Exception):
 
     def __init__(self, line, what):
         super().__init__(f"line {line}: {what}")
+        self.line, self.what = line, what
 
 
 class BadAt(Exception):
-    """A byte of a line fits no rule."""
+    """A byte of a line fits no rule: the place, and what was wanted there."""
 
-    def __init__(self, place):
+    def __init__(self, place, wanted="the end of the line"):
         super().__init__(f"bad at {place}")
-        self.place = place
+        self.place, self.wanted = place, wanted
+
+
+DIGITS = "digits without a leading zero"
+HEXADECIMAL = "a lower-case hexadecimal digit"
+ESCAPE = r"`\\` for a backslash, or `\x` and two lower-case digits for a byte that doesn't stand for itself"
+UTF8 = "a Unicode string whose bytes are UTF-8"
+ELEMENT = "an element: null, true, false, a number, b'..', u'..', uuid:.., stamp:.. or a tuple in parentheses"
 
 
 # Writing.
@@ -107,7 +118,7 @@ class Line:
         """Reads this word, which is bad at its first other byte."""
         for byte in word:
             if self.next() != bytes([byte]):
-                raise BadAt(self.at)
+                raise BadAt(self.at, f"`{chr(byte)}`" + (f" of `{word.decode()}`" if len(word) > 1 else ""))
             self.at += 1
 
     def escape(self, plain):
@@ -117,10 +128,10 @@ class Line:
             return b"\\"
         digits = self.string[self.at + 2 : self.at + 4]
         if self.string[self.at + 1 : self.at + 2] != b"x" or len(digits) != 2 or digits.strip(b"0123456789abcdef"):
-            raise BadAt(self.at)
+            raise BadAt(self.at, ESCAPE)
         byte = bytes([int(digits, 16)])
         if byte in plain or byte == b"\\":
-            raise BadAt(self.at)
+            raise BadAt(self.at, ESCAPE)
         self.at += 4
         return byte
 
@@ -129,7 +140,7 @@ class Line:
         if self.next() == b"\\":
             return self.escape(plain)
         if not self.next() or self.next() not in plain:
-            raise BadAt(self.at)
+            raise BadAt(self.at, "a byte from 20 to 7E, or an escape" + ("" if b"'" in plain else ", and at the end a quote"))
         self.at += 1
         return self.string[self.at - 1 : self.at]
 
@@ -139,7 +150,7 @@ class Line:
         while self.next().isdigit() and (self.at == begin or self.string[begin] != ord("0")):
             self.at += 1
         if self.at == begin:
-            raise BadAt(begin)
+            raise BadAt(begin, DIGITS)
         return self.string[begin : self.at]
 
     def hexadecimal(self, count):
@@ -147,7 +158,7 @@ class Line:
         begin = self.at
         while self.at - begin < count:
             if not self.next() or self.next() not in b"0123456789abcdef":
-                raise BadAt(self.at)
+                raise BadAt(self.at, HEXADECIMAL)
             self.at += 1
         return bytes.fromhex(self.string[begin : self.at].decode())
 
@@ -162,10 +173,10 @@ def number_in(line, least, most):
     if least < 0 and line.next() == b"-":
         line.at += 1
         if line.next() == b"0":
-            raise BadAt(line.at)
+            raise BadAt(line.at, "a digit from 1 to 9")
     digits = line.digits()
     if len(digits) > 40 or not least <= int(line.string[begin : line.at]) <= most:
-        raise BadAt(begin)
+        raise BadAt(begin, f"a number from {least} to {most}")
     return int(line.string[begin : line.at])
 
 
@@ -200,9 +211,9 @@ def unicode_string(line):
         if is_utf8(character):
             found, character = found + character, b""
         elif not can_become_utf8(character):
-            raise BadAt(begin)
+            raise BadAt(begin, UTF8)
     if character:
-        raise BadAt(begin)
+        raise BadAt(begin, UTF8)
     line.at += 1
     return found.decode()
 
@@ -231,7 +242,7 @@ def versionstamp(line):
 
 def nested(line, depth):
     if depth == DEEPEST:
-        raise BadAt(line.at)
+        raise BadAt(line.at, f"an element that isn't nested deeper than {DEEPEST} tuples")
     line.walk(b"(")
     found = []
     while line.next() != b")":
@@ -259,6 +270,8 @@ def element_of(line, depth=0):
         return universally_unique(line) if line.string[line.at + 1 : line.at + 2] == b"u" else unicode_string(line)
     if line.next() in READERS:
         return READERS[line.next()](line)
+    if line.next() != b"-" and not line.next().isdigit():
+        raise BadAt(line.at, ELEMENT)
     return number_in(line, -(2**127), 2**127 - 1)
 
 
@@ -270,6 +283,17 @@ def alike(one, other):
     return count
 
 
+def wanted_name(name):
+    """Returns what a line wants that begins with no known name."""
+    if name == "PUSH":
+        return "a space and an element behind PUSH"
+    begun = name.split(" ")[0]
+    if begun in NAMES:
+        return f"the end of the line: {begun} takes what it needs from the stack"
+    near = difflib.get_close_matches(begun, [*NAMES, "PUSH"], 1, 0.6)
+    return "the name of an operation" + (f"; is {near[0]} meant?" if near else "")
+
+
 def instruction_of(line):
     """Reads an instruction: a name that is the rest of its line, or PUSH with an element."""
     if line.string.startswith(b"PUSH "):
@@ -277,7 +301,7 @@ def instruction_of(line):
         return "PUSH", element_of(line)
     name = line.string.decode("latin-1")
     if name not in NAMES:
-        raise BadAt(max(alike(known, name) for known in NAMES | {"PUSH"}))
+        raise BadAt(max(alike(known, name) for known in NAMES | {"PUSH"}), wanted_name(name))
     line.at = len(line.string)
     return (name,)
 
@@ -290,9 +314,9 @@ def prefix_of(line, taken):
         begin = line.at
         found += line.byte(PLAIN)
         if len(found) > LONGEST_PREFIX:
-            raise BadAt(begin)
+            raise BadAt(begin, f"a prefix of at most {LONGEST_PREFIX} bytes")
     if bytes(found) in taken:
-        raise BadAt(len(b"@ "))
+        raise BadAt(len(b"@ "), "a prefix that hasn't come before")
     return bytes(found)
 
 
@@ -326,12 +350,12 @@ class Sections:
         line = Line(string)
         if string.startswith(b"@"):
             if self.is_open():
-                raise BadAt(0)
+                raise BadAt(0, "an instruction: the section before has none")
             self.found.append((prefix_of(line, {prefix for prefix, _ in self.found}), []))
         elif self.found:
             self.found[-1][1].append(instruction_of(line))
         else:
-            raise BadAt(0)
+            raise BadAt(0, "`@ ` and the prefix of a machine, as a text begins")
         return line
 
 
@@ -345,14 +369,33 @@ def sections_of(text):
         try:
             line = sections.add(string)
             if line.at < len(string) or not has_feed:
-                raise BadAt(line.at)
+                raise BadAt(line.at, "the end of the line" if has_feed else "a line feed")
         except BadAt as fault:
             raise TextFault(number, fault) from fault
         if sections.found[-1][1] and len(pack(sections.found[-1][1][-1])) > LONGEST_VALUE:
             raise TextFault(number, "too long")
     if sections.is_open():
-        raise TextFault(number + 1, BadAt(0))
+        raise TextFault(number + 1, BadAt(0, "an instruction: the section before has none"))
     return sections.found
+
+
+def wanted_in_text(text, number, place):
+    """Returns what was wanted at the place of a line, where that is the first fault of the text; else None."""
+    try:
+        sections_of(text)
+    except TextFault as fault:
+        bad = fault.what
+        return bad.wanted if isinstance(bad, BadAt) and (fault.line, bad.place) == (number, place) else None
+    return None
+
+
+def stripped(text):
+    """Returns a text without its empty lines and its comments, and of each line that stays the number that it had."""
+    lines = text.split(b"\n")
+    kept = [(number, line) for number, line in enumerate(lines, 1) if line.strip(b" \t") and not line.lstrip(b" \t").startswith(b"#")]
+    ends_open = kept and kept[-1][0] == len(lines)
+    left = b"\n".join(line for _, line in kept) + (b"" if ends_open or not kept else b"\n")
+    return left, [number for number, _ in kept]
 
 
 def assembled(text):
@@ -466,9 +509,21 @@ BAD = [
 ]  # fmt: skip
 
 
+# Texts with comments and empty lines, what is left of them, and the numbers of the lines.
+COMMENTED = [
+    (b"", b"", []),
+    (b"@ p\nSET\n", b"@ p\nSET\n", [1, 2]),
+    (b"# one\n\n@ p\n  # two\n \nSET\n\n", b"@ p\nSET\n", [3, 6]),
+    (b"@ p\nSET\n# end", b"@ p\nSET\n", [1, 2]),
+    (b"\n@ p\nSET", b"@ p\nSET", [2, 3]),
+    (b"#\n\n", b"", []),
+    (b"@ p\nPUSH b'#'\n", b"@ p\nPUSH b'#'\n", [1, 2]),
+]
+
+
 def self_test():
     """Reads and writes the known texts, and returns what comes out otherwise."""
-    wrong = []
+    wrong = [repr(text) for text, left, numbers in COMMENTED if stripped(text) != (left, numbers)]
     for spelling, element in ELEMENTS:
         text = f"@ p\nPUSH {spelling}\nSET\n"
         if sections_of(text.encode()) != [(b"p", [("PUSH", element), ("SET",)])] or disassembled(assembled(text.encode()).encode()) != text:
@@ -484,6 +539,9 @@ def self_test():
 def main(words):
     if words == ["--self-test"]:
         sys.exit("\n".join(self_test()) or 0)
+    if words == ["strip"]:
+        sys.stdout.buffer.write(stripped(sys.stdin.buffer.read())[0])
+        return
     if words not in (["asm"], ["disasm"]):
         sys.exit(__doc__)
     given = sys.stdin.buffer.read(MOST_BYTES + 1)
