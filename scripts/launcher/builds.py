@@ -119,7 +119,7 @@ def is_tried():
 
 def are_requests_proved():
     """Whether the program that runs the cases of requests is proved, and no source of it is newer."""
-    return is_current("request_cases", built("crates", "request_cases", "out", "request_cases"), PROVED_PARTS)
+    return is_current("examples", built("crates", "examples", "out", "examples"), PROVED_PARTS)
 
 
 # Making a build.

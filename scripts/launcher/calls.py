@@ -29,15 +29,15 @@ def cases(program):
 
 
 def request_words():
-    """Returns how the cases of requests for the database are run, and where: by their proved program where it is up to date, or else by an
-    unproved build, which leaves out the files of large cases."""
-    folder = os.path.join(builds.CRATES, "request_cases")
+    """Returns how the cases of requests for the database are run, and where: by their proved program where it is up to date, which runs all
+    other cases too, or else by an unproved build, which is given these files alone and leaves out those of large cases."""
+    folder = os.path.join(builds.CRATES, "examples")
     data = os.path.join(folder, "data")
     if builds.are_requests_proved():
-        return [builds.built("crates", "request_cases", "out", "request_cases")], data
+        return [builds.built("crates", "examples", "out", "examples")], data
     files = sorted(it for it in os.listdir(data) if it.endswith(".requests") and not it.startswith("large"))
     given = [word for it in files for word in ("--data", f"{it}={os.path.join(data, it)}")]
-    return ["rt", "try", "--steps", "1", "--seconds", "600", *given], builds.built("crates", "request_cases")
+    return ["rt", "try", "--steps", "1", "--seconds", "600", *given], builds.built("crates", "examples")
 
 
 def try_all():
