@@ -1,0 +1,250 @@
+"""The command conformance/random: its words, and what it prints."""
+
+import argparse
+import os
+import shlex
+import signal
+import sys
+import time
+from concurrent.futures import ThreadPoolExecutor
+from functools import partial
+from itertools import islice
+from typing import Iterator, NamedTuple, Optional
+
+from instruction_text import pair_line
+
+from .comparison import Difference, compared, difference_lines, line_pairs, stack_lines
+from .coverage import SUBJECTS, Coverage
+from .scripts import Script
+from .shrinking import Limits, Shrinker
+from .testers import Answer, Tester, UserFault, command_of, program_at_hand
+from .tests_by_name import TESTS
+
+NAME = "conformance/random"
+MANY = 2**31
+
+
+def number_in(least: int, most: int):
+    """Returns the reader of a word that is a number within these bounds."""
+
+    def number(word: str) -> int:
+        if not (word.isascii() and word.isdigit() and least <= int(word) <= most):
+            raise argparse.ArgumentTypeError(f"{word!r} is no number from {least} to {most}")
+        return int(word)
+
+    return number
+
+
+class Parser(argparse.ArgumentParser):
+    """Tells a wrong word in one line."""
+
+    def error(self, message: str):  # type: ignore[override]
+        raise UserFault(f"{message}; --help has the words")
+
+
+def parser_of(about: str) -> Parser:
+    tests = "".join(f"\n  {name:<14} {make.__doc__}" for name, make in TESTS.items())
+    parser = Parser(prog=NAME, usage=f"{NAME} TEST [options]", description=about + tests, formatter_class=argparse.RawDescriptionHelpFormatter)
+    parser.add_argument("test", metavar="TEST", choices=TESTS, help="one of the tests above")
+    parser.add_argument("--seed", metavar="S", type=number_in(0, 2**64 - 1), default=0, help="the first seed; 0 where it isn't given")
+    parser.add_argument("--scripts", metavar="N", type=number_in(1, MANY), default=100, help="how many seeds from there on; 100 where it isn't given")
+    parser.add_argument("--ops", metavar="M", type=number_in(1, 1_000_000), default=100, help="about how many instructions a script has, pushes included; 100 where it isn't given")
+    parser.add_argument("--machines", metavar="K", type=number_in(1, 30), default=3, help="machines beside the first one, of directory_hca and threads; 3 where it isn't given")
+    parser.add_argument("--api", metavar="API", type=int, choices=[630, 500], default=630, help="the API version: 630, or 500")
+    parser.add_argument("--program", metavar="COMMAND", help="the tester that is compared")
+    parser.add_argument("--many", action="store_true", help="starts COMMAND once for each job, with the word --many behind the others: it takes scripts, each ended by a line `.`, and answers each by its pairs and a line `.`")
+    parser.add_argument("--own", action="store_true", help="has what no cluster shares as well: errors of writes where this program tells them, versions and versionstamps as they are; for a second program of this kind")
+    parser.add_argument("--write", metavar="DIR", help="writes each script there: NAME.fdbt, its text, NAME.kv, its K lines, and in hexadecimal digits NAME.load, the pairs to load, and NAME.left, those that must stand beside them")
+    parser.add_argument("--coverage", action="store_true", help="runs no tester; prints what the scripts meet")
+    parser.add_argument("--keep-going", action="store_true", help="names every script that differs, and shrinks the first")
+    parser.add_argument("--runs", metavar="N", type=number_in(0, MANY), default=200, help="runs that shrinking takes, at most; 200 where it isn't given")
+    parser.add_argument("--seconds", metavar="N", type=number_in(1, MANY), default=60, help="seconds that one script and that shrinking take, at most; 60 where it isn't given")
+    parser.add_argument("--save", metavar="FILE", help="writes the text of the smallest script that differs")
+    parser.add_argument("--jobs", metavar="N", type=number_in(1, 1000), default=os.cpu_count(), help="scripts at once; one a processor where it isn't given. 1 for a command that clears a shared cluster")
+    parser.add_argument("--reference", metavar="FILE", help="the program that says what must stand; where it isn't given, the one that ./fdbtester runs")
+    return parser
+
+
+class Found(NamedTuple):
+    """A script that differs."""
+
+    script: Script
+    difference: Difference
+
+
+class Runner:
+    """Makes the scripts of some seeds, and runs them by both testers."""
+
+    def __init__(self, args: argparse.Namespace):
+        self.args = args
+        self.reference = Tester([args.reference or program_at_hand()], args.api, seconds=args.seconds)
+        self.tester: Optional[Tester] = Tester(command_of(args.program), args.api, args.many, args.seconds) if args.program is not None else None
+
+    def script(self, seed: int) -> Script:
+        return TESTS[self.args.test](seed, self.args.ops, self.args.api, self.args.machines, self.args.own)
+
+    def seeds(self) -> range:
+        return range(self.args.seed, self.args.seed + self.args.scripts)
+
+    def expected(self, lines: bytes) -> Answer:
+        answer = self.reference.run(lines)
+        if answer.fault and not (self.args.own and answer.status == 3):
+            raise UserFault(f"the program that says what must stand: {answer.fault}")
+        return answer
+
+    def check(self, script: Script) -> Optional[Difference]:
+        """Returns in what the tester differs from the program."""
+        assert self.tester is not None
+        lines = lines_of(script)
+        wanted, found = self.expected(lines), self.tester.run(lines)
+        if self.args.own and wanted.status == 3 == found.status:
+            wanted, found = wanted._replace(fault=""), found._replace(fault="")
+        return compared(wanted, found)
+
+    def check_seed(self, seed: int) -> Optional[Found]:
+        script = self.script(seed)
+        difference = self.check(script)
+        return Found(script, difference) if difference else None
+
+    def differing(self) -> Iterator[tuple[int, Optional[Found]]]:
+        """Yields for each seed, in order, what was found."""
+        seeds = iter(self.seeds())
+        with ThreadPoolExecutor(self.args.jobs) as pool:
+            while some := list(islice(seeds, 8 * self.args.jobs)):
+                yield from zip(some, pool.map(self.check_seed, some))
+
+    def close(self) -> None:
+        if self.tester:
+            self.tester.close()
+
+
+def lines_of(script: Script) -> bytes:
+    return "".join(pair_line(*pair) + "\n" for pair in script.pairs()).encode("latin-1")
+
+
+def write(runner: Runner, folder: str) -> None:
+    """Writes the scripts, and the pairs that must stand."""
+    try:
+        os.makedirs(folder, exist_ok=True)
+        with ThreadPoolExecutor(runner.args.jobs) as pool:
+            list(pool.map(partial(write_one, runner, folder), runner.seeds()))
+    except OSError as fault:
+        raise UserFault(f"--write {folder}: {fault.strerror}: {fault.filename}") from fault
+
+
+def write_one(runner: Runner, folder: str, seed: int) -> None:
+    script = runner.script(seed)
+    lines = lines_of(script)
+    loaded = dict(script.pairs())
+    stands, _ = line_pairs(runner.expected(lines).lines)
+    left = [(key, value) for key, value in stands if loaded.get(key) != value]
+    files = {"fdbt": script.text(), "kv": lines.decode("latin-1"), "load": hexadecimal(script.pairs()), "left": hexadecimal(left)}
+    for kind, text in files.items():
+        with open(os.path.join(folder, f"{script.test}_{seed}.{kind}"), "w", encoding="latin-1", newline="\n") as file:
+            file.write(text)
+
+
+def hexadecimal(pairs: list[tuple[bytes, bytes]]) -> str:
+    return "".join(f"{key.hex()} {value.hex()}\n" for key, value in pairs)
+
+
+def command_again(args: argparse.Namespace, seed: int) -> str:
+    """Returns the command that shows the script of a seed again."""
+    words = [NAME, args.test, "--seed", str(seed), "--scripts", "1", "--ops", str(args.ops)]
+    words += ["--machines", str(args.machines)] * (args.test in ("directory_hca", "threads")) + ["--api", "500"] * (args.api == 500)
+    words += ["--own"] * args.own + ["--many"] * args.many + ["--program", args.program]
+    return shlex.join(words)
+
+
+def report(runner: Runner, found: Found) -> Iterator[str]:
+    """Shrinks a script that differs, and yields the lines that show it."""
+    args, size = runner.args, found.script.size()
+    yield f"seed {found.script.seed} of {args.test} differs, a script of {size} instructions:"
+    yield from (f"    {line}" for line in islice(difference_lines(found.difference), 20))
+    shrinker = Shrinker(found.script, found.difference, runner.check, Limits(args.runs, args.seconds))
+    shrinker.shrink()
+    smallest = shrinker.script
+    yield ""
+    yield f"cut down to {smallest.size()} instructions in {shrinker.runs} runs:"
+    yield from (f"    {line}" for line in smallest.text().splitlines())
+    yield from (f"  {line}" for line in difference_lines(shrinker.difference))
+    lines = lines_of(smallest)
+    assert runner.tester is not None
+    for title, tester in (("stack by the program:", runner.reference), ("stack by the command:", runner.tester)):
+        yield f"  {title}"
+        yield from (f"    {line}" for line in stack_lines(tester.run(lines)))
+    yield "again, from the whole script:"
+    yield f"    {command_again(args, found.script.seed)}"
+    if args.save:
+        save(args.save, smallest.text())
+
+
+def save(path: str, text: str) -> None:
+    try:
+        with open(path, "w", encoding="latin-1", newline="\n") as file:
+            file.write(text)
+    except OSError as fault:
+        raise UserFault(f"--save {path}: {fault.strerror}") from fault
+
+
+def compare(runner: Runner) -> int:
+    """Compares the scripts, and shows the first that differs."""
+    args, begun = runner.args, time.monotonic()
+    first: Optional[Found] = None
+    differing, count = [], 0
+    for seed, found in runner.differing():
+        count += 1
+        if found:
+            first = first or found
+            differing.append(seed)
+            if not args.keep_going:
+                break
+    seconds = time.monotonic() - begun
+    if first is None:
+        print(f"{args.test}: {count} scripts, none differs, in {seconds:.1f} seconds")
+        return 0
+    for line in report(runner, first):
+        print(line)
+    if args.keep_going:
+        print(f"{args.test}: {len(differing)} of {count} scripts differ, in {seconds:.1f} seconds: seeds {' '.join(map(str, differing))}")
+    else:
+        print(f"{args.test}: the {ordinal(count)} script differs, after {seconds:.1f} seconds; --keep-going tries the others too")
+    return 1
+
+
+def ordinal(count: int) -> str:
+    ending = {1: "st", 2: "nd", 3: "rd"}.get(count % 10, "th") if count % 100 not in (11, 12, 13) else "th"
+    return f"{count}{ending}"
+
+
+def cover(args: argparse.Namespace) -> int:
+    coverage = Coverage()
+    for seed in range(args.seed, args.seed + args.scripts):
+        coverage.add(TESTS[args.test](seed, args.ops, args.api, args.machines, args.own))
+    for line in coverage.lines(SUBJECTS[args.test]):
+        print(line)
+    return 0
+
+
+def run(words: list[str], about: str) -> int:
+    args = parser_of(about).parse_args(words)
+    if args.coverage:
+        return cover(args)
+    if args.program is None and args.write is None:
+        raise UserFault("--program COMMAND compares, --write DIR writes and --coverage counts: one of them must be there")
+    runner = Runner(args)
+    if args.write is not None:
+        write(runner, args.write)
+    try:
+        return compare(runner) if args.program is not None else 0
+    finally:
+        runner.close()
+
+
+def main(words: list[str], about: str) -> int:
+    signal.signal(signal.SIGPIPE, signal.SIG_DFL)
+    try:
+        return run(words, about)
+    except UserFault as fault:
+        print(f"{NAME}: {fault}", file=sys.stderr)
+        return 2
