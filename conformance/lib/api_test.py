@@ -6,7 +6,7 @@ import random
 from typing import Callable, Optional
 
 from . import atomics
-from .scripts import LOG, PREFIX, Group, Rules, Script, Writer, call, chosen, log, waited
+from .scripts import LOG, PREFIX, Group, Options, Rules, Script, Writer, call, chosen, log, waited
 from .transactions import EXACT, RETRIED
 from .values import Unstable, above
 
@@ -279,7 +279,9 @@ class KeysWriter(Writer):
     def faulty_write(self) -> Group:
         key, name = self.any([b"\xff", b"\xff\xff", bytes(10_001)]), self.any([b"NONE", b"ADD"])
         inverted = sorted([self.key(), self.key() + b"\x00"], reverse=True)
-        calls = [("SET", key, self.value()), ("SET", self.key(), bytes(100_001)), ("CLEAR", key), ("ATOMIC_OP", name, key, self.value()), ("CLEAR_RANGE", *inverted)]
+        if self.likely(0.1):
+            return [("PUSH", b"v" * 60_000), ("DUP",), ("CONCAT",), *call("SET", self.key())]
+        calls = [("SET", key, self.value()), ("CLEAR", key), ("ATOMIC_OP", name, key, self.value()), ("CLEAR_RANGE", *inverted)]
         operation, *operands = self.random.choice(calls)
         return self.write(str(operation), *operands)
 
@@ -326,40 +328,40 @@ class KeysWriter(Writer):
         self.add(log(log_prefix))
 
 
-def keys_script(test: str, weights: Weights, seed: int, operations: int, api: int, is_own: bool, key_count: Optional[int] = None) -> Script:
+def keys_script(test: str, weights: Weights, seed: int, options: Options, key_count: Optional[int] = None) -> Script:
     """Returns a script of one machine on a few keys."""
     words = random.Random(f"{test} {seed}")
-    rules = Rules(api, (b"k", b"l"), True, is_own)
-    writer = KeysWriter(PREFIX, rules, words, b"k", weights | (OWN if is_own else {}))
+    rules = Rules(options.api, (b"k", b"l"), True, options.is_own, options.without)
+    writer = KeysWriter(PREFIX, rules, words, b"k", weights | (OWN if options.is_own else {}))
     if key_count:
         writer.keys = writer.keys[:key_count]
-    writer.write_groups(operations)
+    writer.write_groups(options.operations)
     writer.finish(LOG)
-    return Script(test, seed, api, [(PREFIX, writer.groups)], {PREFIX: rules})
+    return Script(test, seed, options.api, [(PREFIX, writer.groups)], {PREFIX: rules})
 
 
-def api_script(seed: int, operations: int, api: int = 630, machines: int = 1, is_own: bool = False) -> Script:
+def api_script(seed: int, options: Options) -> Script:
     """Every operation on keys, by three transactions that overlap."""
-    return keys_script("api", API, seed, operations, api, is_own)
+    return keys_script("api", API, seed, options)
 
 
-def conflicts_script(seed: int, operations: int, api: int = 630, machines: int = 1, is_own: bool = False) -> Script:
+def conflicts_script(seed: int, options: Options) -> Script:
     """Transactions that read and write three keys by turns: which commits are refused."""
-    return keys_script("conflicts", CONFLICTS, seed, operations, api, is_own, 3)
+    return keys_script("conflicts", CONFLICTS, seed, options, 3)
 
 
-def threads_script(seed: int, operations: int, api: int = 630, machines: int = 3, is_own: bool = False) -> Script:
+def threads_script(seed: int, options: Options) -> Script:
     """Machines side by side, each on keys of its own."""
     words = random.Random(f"threads {seed}")
     sections, rules = [], {}
     started: list[Group] = []
-    for number in range(1, machines + 1):
+    for number in range(1, options.machines + 1):
         prefix, front, busy = b"w%d" % number, b"k%02d/" % number, b"busy/%d" % number
-        rules[prefix] = Rules(api, (front, above(front) or front), False, False)
+        rules[prefix] = Rules(options.api, (front, above(front) or front), False, False, options.without)
         writer = KeysWriter(prefix, rules[prefix], words, front, THREADS)
-        writer.write_groups(operations // machines)
+        writer.write_groups(options.operations // options.machines)
         writer.finish(b"log%d/" % number)
         sections.append((prefix, [*writer.groups, waited(call("CLEAR_DATABASE", busy), False)]))
         started += [waited(call("SET_DATABASE", busy, b""), False), call("START_THREAD", prefix)]
     main = [*started[::2], *started[1::2], call("WAIT_EMPTY", b"busy/"), log(LOG)]
-    return Script("threads", seed, api, [(PREFIX, main), *sections], {})
+    return Script("threads", seed, options.api, [(PREFIX, main), *sections], rules)

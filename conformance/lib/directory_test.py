@@ -5,7 +5,7 @@ from __future__ import annotations
 import random
 from .directory_layer import PARTITION, Layer
 from .directory_operations import Directory, Subspace
-from .scripts import LOG, PREFIX, Group, Rules, Script, Writer, call, log, waited
+from .scripts import LOG, PREFIX, Group, Options, Rules, Script, Writer, call, log, waited
 
 NAMES = ["a", "b", "c", "\u00e9", ""]
 LAYERS = [None, None, None, b"", b"x", b"y", PARTITION]
@@ -154,14 +154,14 @@ class DirectoryWriter(Writer):
             self.add(self.random.choices(list(weights), list(weights.values()))[0]())
 
 
-def directory_script(seed: int, operations: int, api: int = 630, machines: int = 1, is_own: bool = False) -> Script:
+def directory_script(seed: int, options: Options) -> Script:
     """Directories whose paths meet: layers, moves, removals, partitions, subspaces, and prefixes that are given."""
-    rules = Rules(api, REGION, True, False)
+    rules = Rules(options.api, REGION, True, False, options.without)
     writer = DirectoryWriter(PREFIX, rules, random.Random(f"directory {seed}"))
-    writer.write_groups(operations)
+    writer.write_groups(options.operations)
     writer.add(cleared())
     writer.add(log(LOG))
-    return Script("directory", seed, api, [(PREFIX, writer.groups)], {PREFIX: rules})
+    return Script("directory", seed, options.api, [(PREFIX, writer.groups)], {PREFIX: rules})
 
 
 class Created:
@@ -245,18 +245,18 @@ def ends_read(offset: int, or_equal: int, is_begin: bool) -> Group:
     return [*under, *call("DIRECTORY_RANGE", 0), *drop, ("GET_KEY_DATABASE",)]
 
 
-def hca_script(seed: int, operations: int, api: int = 630, machines: int = 3, is_own: bool = False) -> Script:
+def hca_script(seed: int, options: Options) -> Script:
     """Machines that create directories side by side: each has a prefix of its own, whoever came first."""
     words = random.Random(f"directory_hca {seed}")
     sections, started, last = [], [], []
     index = 1
-    for number in range(1, machines + 1):
+    for number in range(1, options.machines + 1):
         busy = b"busy/%d" % number
-        created = Created(words, f"w{number}", operations // machines)
+        created = Created(words, f"w{number}", options.operations // options.machines)
         end = [log(b"log%d/" % number), waited(call("CLEAR_DATABASE", busy), False)]
         sections.append((b"w%d" % number, [*created.groups, *end]))
         started.append((waited(call("SET_DATABASE", busy, b""), False), call("START_THREAD", b"w%d" % number)))
         groups, index = shown(created.parent, created.names, index)
         last += groups
     begin: list[Group] = [*(busy for busy, _ in started), *(start for _, start in started), call("WAIT_EMPTY", b"busy/")]
-    return Script("directory_hca", seed, api, [(PREFIX, [*begin, *last, cleared(), log(LOG)]), *sections], {})
+    return Script("directory_hca", seed, options.api, [(PREFIX, [*begin, *last, cleared(), log(LOG)]), *sections], {})

@@ -393,7 +393,13 @@ class Machine(Directories):
 
     def set(self) -> None:
         key, value = self.pop_bytes(), self.pop_bytes()
+        self.check_prefix(key)
         self.write(lambda transaction: transaction.set(key, value))
+
+    def check_prefix(self, key: bytes) -> None:
+        """A prefix of a directory that isn't committed may be given to another one, which must find no key there."""
+        given = [it for it in self.database.pairs.values() if isinstance(it, Allocated)] if isinstance(key, Allocated) else []
+        self.database.need(not isinstance(key, Allocated) or any(key.startswith(it) for it in given), "contents of a directory that isn't there")
 
     def clear(self) -> None:
         key = self.pop_bytes()

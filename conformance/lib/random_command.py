@@ -1,8 +1,10 @@
 """The command conformance/random: its words, and what it prints."""
 
 import argparse
+import multiprocessing
 import os
 import shlex
+import shutil
 import signal
 import sys
 import time
@@ -11,17 +13,18 @@ from functools import partial
 from itertools import islice
 from typing import Iterator, NamedTuple, Optional
 
-from instruction_text import pair_line
+from instruction_text import NAMES, pair_line
 
 from .comparison import Difference, compared, difference_lines, line_pairs, stack_lines
 from .coverage import SUBJECTS, Coverage
-from .scripts import Script
+from .scripts import Options, Script
 from .shrinking import Limits, Shrinker
 from .testers import Answer, Tester, UserFault, command_of, program_at_hand
 from .tests_by_name import TESTS
 
 NAME = "conformance/random"
 MANY = 2**31
+BATCH = 32  # scripts for each job that are handed out at a time
 
 
 def number_in(least: int, most: int):
@@ -54,6 +57,7 @@ def parser_of(about: str) -> Parser:
     parser.add_argument("--program", metavar="COMMAND", help="the tester that is compared")
     parser.add_argument("--many", action="store_true", help="starts COMMAND once for each job, with the word --many behind the others: it takes scripts, each ended by a line `.`, and answers each by its pairs and a line `.`")
     parser.add_argument("--own", action="store_true", help="has what no cluster shares as well: errors of writes where this program tells them, versions and versionstamps as they are; for a second program of this kind")
+    parser.add_argument("--without", metavar="OPERATION", action="append", default=[], choices=sorted(NAMES), help="leaves out an operation that the tester doesn't have; may come several times. `--without GET` leaves GET_SNAPSHOT in")
     parser.add_argument("--write", metavar="DIR", help="writes each script there: NAME.fdbt, its text, NAME.kv, its K lines, and in hexadecimal digits NAME.load, the pairs to load, and NAME.left, those that must stand beside them")
     parser.add_argument("--coverage", action="store_true", help="runs no tester; prints what the scripts meet")
     parser.add_argument("--keep-going", action="store_true", help="names every script that differs, and shrinks the first")
@@ -63,6 +67,10 @@ def parser_of(about: str) -> Parser:
     parser.add_argument("--jobs", metavar="N", type=number_in(1, 1000), default=os.cpu_count(), help="scripts at once; one a processor where it isn't given. 1 for a command that clears a shared cluster")
     parser.add_argument("--reference", metavar="FILE", help="the program that says what must stand; where it isn't given, the one that ./fdbtester runs")
     return parser
+
+
+def options_of(args: argparse.Namespace) -> Options:
+    return Options(args.ops, args.api, args.machines, args.own, frozenset(args.without))
 
 
 class Found(NamedTuple):
@@ -77,11 +85,11 @@ class Runner:
 
     def __init__(self, args: argparse.Namespace):
         self.args = args
-        self.reference = Tester([args.reference or program_at_hand()], args.api, seconds=args.seconds)
+        self.reference = Tester([args.reference], args.api, seconds=args.seconds)
         self.tester: Optional[Tester] = Tester(command_of(args.program), args.api, args.many, args.seconds) if args.program is not None else None
 
     def script(self, seed: int) -> Script:
-        return TESTS[self.args.test](seed, self.args.ops, self.args.api, self.args.machines, self.args.own)
+        return TESTS[self.args.test](seed, options_of(self.args))
 
     def seeds(self) -> range:
         return range(self.args.seed, self.args.seed + self.args.scripts)
@@ -109,13 +117,26 @@ class Runner:
     def differing(self) -> Iterator[tuple[int, Optional[Found]]]:
         """Yields for each seed, in order, what was found."""
         seeds = iter(self.seeds())
-        with ThreadPoolExecutor(self.args.jobs) as pool:
-            while some := list(islice(seeds, 8 * self.args.jobs)):
-                yield from zip(some, pool.map(self.check_seed, some))
+        with multiprocessing.Pool(self.args.jobs, begin, (self.args,)) as pool:
+            while some := list(islice(seeds, BATCH * self.args.jobs)):
+                yield from zip(some, pool.imap(check_seed, some, 4))
 
     def close(self) -> None:
         if self.tester:
             self.tester.close()
+
+
+# What each process compares by.
+here: dict[str, Runner] = {}
+
+
+def begin(args: argparse.Namespace) -> None:
+    signal.signal(signal.SIGINT, signal.SIG_IGN)
+    here["runner"] = Runner(args)
+
+
+def check_seed(seed: int) -> Optional[Found]:
+    return here["runner"].check_seed(seed)
 
 
 def lines_of(script: Script) -> bytes:
@@ -152,7 +173,7 @@ def command_again(args: argparse.Namespace, seed: int) -> str:
     """Returns the command that shows the script of a seed again."""
     words = [NAME, args.test, "--seed", str(seed), "--scripts", "1", "--ops", str(args.ops)]
     words += ["--machines", str(args.machines)] * (args.test in ("directory_hca", "threads")) + ["--api", "500"] * (args.api == 500)
-    words += ["--own"] * args.own + ["--many"] * args.many + ["--program", args.program]
+    words += ["--own"] * args.own + [it for name in args.without for it in ("--without", name)] + ["--many"] * args.many + ["--program", args.program]
     return shlex.join(words)
 
 
@@ -218,12 +239,19 @@ def ordinal(count: int) -> str:
 
 
 def cover(args: argparse.Namespace) -> int:
-    coverage = Coverage()
+    coverage, options = Coverage(), options_of(args)
     for seed in range(args.seed, args.seed + args.scripts):
-        coverage.add(TESTS[args.test](seed, args.ops, args.api, args.machines, args.own))
+        coverage.add(TESTS[args.test](seed, options))
     for line in coverage.lines(SUBJECTS[args.test]):
         print(line)
     return 0
+
+
+def reference_of(args: argparse.Namespace) -> str:
+    """Returns the program that says what must stand."""
+    if args.reference is not None and shutil.which(args.reference) is None:
+        raise UserFault(f"--reference: {args.reference} can't be run: there is no such program")
+    return args.reference or program_at_hand()
 
 
 def run(words: list[str], about: str) -> int:
@@ -232,6 +260,7 @@ def run(words: list[str], about: str) -> int:
         return cover(args)
     if args.program is None and args.write is None:
         raise UserFault("--program COMMAND compares, --write DIR writes and --coverage counts: one of them must be there")
+    args.reference = reference_of(args)
     runner = Runner(args)
     if args.write is not None:
         write(runner, args.write)

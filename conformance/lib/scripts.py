@@ -23,6 +23,7 @@ class Rules(NamedTuple):
     region: Optional[Range] = None
     is_alone: bool = True
     is_own: bool = False
+    without: frozenset[str] = frozenset()  # operations that are left out
 
 
 class Script(NamedTuple):
@@ -66,6 +67,16 @@ def log(prefix: bytes) -> Group:
     return call("LOG_STACK", prefix)
 
 
+class Options(NamedTuple):
+    """What the scripts of a test are made by."""
+
+    operations: int = 100
+    api: int = 630
+    machines: int = 3
+    is_own: bool = False
+    without: frozenset[str] = frozenset()
+
+
 class Writer:
     """Writes the groups of one section, and runs them on a machine of its own as it goes.
 
@@ -90,6 +101,9 @@ class Writer:
 
     def add(self, group: Group) -> bool:
         """Adds a group where it may stand, and says whether it did."""
+        if any(it[0] in self.rules.without for it in group):
+            self.refused += 1
+            return False
         try:
             self.run(group)
         except (NotShared, Stopped) as fault:

@@ -7,7 +7,7 @@ import uuid
 
 from tuple_layer import Versionstamp, pack, packed
 
-from .scripts import LOG, PREFIX, Group, Rules, Script, Writer, call, log
+from .scripts import LOG, PREFIX, Group, Options, Rules, Script, Writer, call, log
 
 BOUNDS = [0, 1, 2, 127, 128, 255, 256, 2**16, 2**24, 2**31, 2**32, 2**40, 2**48, 2**56, 2**63, 2**64, 2**72, 2**96, 2**120, 2**127]
 BYTES = [b"", b"\x00", b"\xff", b"\x00\xff", b"\xff\x00", b"a", b"a\x00", b"a\x00b", b"ab", b"\x00\x00", b"\x01\x02\x05"]
@@ -117,10 +117,10 @@ class TupleWriter(Writer):
                 self.add(group)
 
 
-def tuple_script(seed: int, operations: int, api: int = 630, machines: int = 1, is_own: bool = False) -> Script:
+def tuple_script(seed: int, options: Options) -> Script:
     """Tuples of all elements but floats: packing, unpacking, ranges, sorting, and versionstamps."""
-    rules = Rules(api, (b"k", b"l"), True, is_own)
+    rules = Rules(options.api, (b"k", b"l"), True, options.is_own, options.without)
     writer = TupleWriter(PREFIX, rules, random.Random(f"tuple {seed}"))
-    writer.write_groups(operations)
+    writer.write_groups(options.operations)
     writer.add(log(LOG))
-    return Script("tuple", seed, api, [(PREFIX, writer.groups)], {PREFIX: rules})
+    return Script("tuple", seed, options.api, [(PREFIX, writer.groups)], {PREFIX: rules})
