@@ -1,11 +1,12 @@
 #!/usr/bin/env python3
 """A small stack tester over a database in memory, as an example of a tester that the suite runs.
 
-    python3 conformance/small_tester.py run PREFIX API < LINES > LINES
+    python3 conformance/small_tester.py run PREFIX API [--many] < LINES > LINES
 
-It reads K lines, runs the instructions of the prefix, and prints the pairs that are there at the end as K lines. It has the
-operations of the subjects stack, tuples, reads, pending and atomic, and LOG_STACK. It leaves out conflicts, versions,
-versionstamps, threads, directories and the limits of keys and values: there it stops with status 3 and says at which instruction.
+It reads K lines, runs the instructions of the prefix, and prints the pairs that are there at the end as K lines. With `--many` it
+takes scripts one after the other, each ended by a line `.`, and answers each by its pairs and a line `.`. It has the operations
+of the subjects stack, tuples, reads, pending and atomic, and LOG_STACK. It leaves out errors, conflicts, versions, versionstamps,
+threads, directories and the limits of keys and values: at an operation of these it stops with status 3 and says at which instruction.
 """
 
 import os
@@ -13,7 +14,7 @@ import sys
 
 sys.path.insert(0, os.path.join(os.path.dirname(os.path.realpath(__file__)), "..", "scripts"))
 
-from instruction_text import pair_line, pairs_in  # noqa: E402
+from instruction_text import TextFault, pair_line, pairs_in  # noqa: E402
 from tuple_layer import INCOMPLETE, Versionstamp, pack, unpack  # noqa: E402
 
 ABSENT = b"RESULT_NOT_PRESENT"
@@ -337,20 +338,54 @@ def completed(elements):
     return tuple(completed(it) if is_nested(it) else Versionstamp(bytes(10), it.user) if is_incomplete(it) else it for it in elements)
 
 
-def main(words):
-    if len(words) != 3 or words[0] != "run":
-        sys.exit(__doc__)
-    database = dict(pairs_in(sys.stdin.buffer.read()))
-    front, prefix = pack((words[1].encode(),)), words[1].encode()
-    machine = Machine(database, prefix)
+class LeftOut(Exception):
+    """An operation that this tester doesn't have."""
+
+
+def run(prefix, lines):
+    """Runs the instructions of a prefix, and returns the pairs at the end as K lines."""
+    database = dict(pairs_in(lines))
+    front, machine = pack((prefix,)), Machine(database, prefix)
     instructions = sorted((key, value) for key, value in database.items() if front + b"\x00" <= key < front + b"\xff")
     for machine.number, (_, value) in enumerate(instructions):
         try:
             machine.run(*unpack(value))
         except NotImplementedError as cause:
-            print(f"small_tester: instruction {machine.number}: {cause} is left out", file=sys.stderr)
-            sys.exit(3)
-    print("".join(pair_line(*pair) + "\n" for pair in sorted(database.items())), end="")
+            raise LeftOut(f"instruction {machine.number}: {cause} is left out") from cause
+    return "".join(pair_line(*pair) + "\n" for pair in sorted(database.items()))
+
+
+def run_many(prefix):
+    """Answers scripts until the input ends. A line that begins with `!` says why a script has no answer."""
+    script = []
+    for line in sys.stdin.buffer:
+        if line != b".\n":
+            script.append(line)
+            continue
+        try:
+            told = run(prefix, b"".join(script))
+        except LeftOut as fault:
+            told = f"! {fault}\n"
+        print(told + ".", flush=True)
+        script = []
+
+
+def main(words):
+    if words == ["--help"]:
+        print(__doc__)
+        return
+    if len(words) not in (3, 4) or words[0] != "run" or words[3:] not in ([], ["--many"]):
+        print("small_tester: the words are `run PREFIX API`, and perhaps --many; --help says more", file=sys.stderr)
+        sys.exit(2)
+    prefix = words[1].encode()
+    if words[3:]:
+        run_many(prefix)
+        return
+    try:
+        print(run(prefix, sys.stdin.buffer.read()), end="")
+    except (LeftOut, TextFault) as fault:
+        print(f"small_tester: {fault}", file=sys.stderr)
+        sys.exit(2 if isinstance(fault, TextFault) else 3)
 
 
 if __name__ == "__main__":

@@ -26,7 +26,7 @@ API: Weights = {
     "set": 10, "clear": 6, "clear_range": 6, "clear_range_starts_with": 3, "atomic_op": 10,
     "get": 9, "get_key": 7, "get_range": 7, "get_range_starts_with": 3, "get_range_selector": 6,
     "conflict_key": 2, "conflict_range": 2, "silent_write": 3, "commit": 7, "use_transaction": 6, "new_transaction": 2, "reset": 2,
-    "cancel": 1, "on_error": 2, "read_version": 2, "set_read_version": 2, "committed_version": 1, "after_end": 2,
+    "cancel": 1, "on_error": 2, "read_version": 2, "set_read_version": 2, "committed_version": 1, "after_end": 2, "duel": 1,
     "stamped_value": 1, "stamped_key": 1, "unreadable": 1, "stamp_of_reads": 1, "read_outside": 1, "exact": 1, "sizes": 1,
     "dup": 1, "swap": 1, "pop": 1, "sub": 1, "concat": 1, "wait": 1, "empty_stack": 1, "read_into_write": 2,
 }  # fmt: skip
@@ -34,6 +34,7 @@ CONFLICTS: Weights = {
     "set": 10, "clear": 5, "clear_range": 4, "atomic_op": 5, "get": 10, "get_key": 4, "get_range": 8, "get_range_starts_with": 2,
     "get_range_selector": 2, "conflict_key": 4, "conflict_range": 4, "silent_write": 5, "commit": 16, "use_transaction": 18,
     "new_transaction": 1, "reset": 2, "on_error": 2, "read_version": 3, "set_read_version": 3, "committed_version": 3, "after_end": 1,
+    "duel": 14,
 }  # fmt: skip
 THREADS: Weights = API | {"stamped_value": 1, "stamped_key": 0, "get_range_selector": 4, "empty_stack": 0}
 
@@ -47,6 +48,7 @@ class KeysWriter(Writer):
     def __init__(self, prefix: bytes, rules: Rules, words: random.Random, front: bytes, weights: Weights, api_names: int = 3):
         super().__init__(prefix, rules, words)
         self.front = front
+        self.queue: list[Callable[[], Group]] = []  # groups that come next
         keys = self.random.sample(SUFFIXES, self.random.randint(3, 6))
         self.keys = [front + it for it in keys]
         self.names = [prefix, *(prefix + b"-t%d" % place for place in range(1, api_names))]
@@ -192,6 +194,38 @@ class KeysWriter(Writer):
         begun = [("NEW_TRANSACTION",), *call("SET", self.key(), self.value()), *waited([("COMMIT",)])]
         return [*begun, *waited(self.random.choice(asked)), ("RESET",)]
 
+    def duel(self) -> Group:
+        """Lets a transaction read, another one write and commit, and then the first one write and commit."""
+        one, other = self.random.sample(self.names, 2)
+        writes = [self.named_write, self.named_write, self.silent_write, self.conflict_key, self.conflict_range]
+        reads = [self.named_read] * 3 + [self.conflict_key, self.conflict_range, self.read_version]
+        self.queue = [
+            *([self.random.choice(writes)] if self.likely(0.4) else []),
+            *(self.random.choice(reads) for _ in range(self.random.randint(1, 2))),
+            lambda: [*call("USE_TRANSACTION", other), ("RESET",)],
+            *(self.random.choice(writes) for _ in range(self.random.randint(1, 2))),
+            self.commit,
+            lambda: call("USE_TRANSACTION", one),
+            *([self.named_read] if self.likely(0.2) else []),
+            self.named_write,
+            self.commit,
+        ]
+        return [*call("USE_TRANSACTION", one), ("RESET",)]
+
+    def named_write(self) -> Group:
+        """Writes by the current transaction, or ranges that may be empty by the database."""
+        if self.likely(0.2):
+            return waited(call("CLEAR_RANGE_DATABASE", *self.ends()), False)
+        writes = [("SET", self.key(), self.value()), ("CLEAR", self.key()), ("CLEAR_RANGE", *self.ends()), ("ATOMIC_OP", *self.atomic())]
+        name, *operands = self.random.choice(writes)
+        return call(str(name), *operands)
+
+    def named_read(self) -> Group:
+        endings = ["", "", "_SNAPSHOT"]
+        reads = [("GET", self.key()), ("GET_RANGE", *self.ends(), *self.options()), ("GET_KEY", *self.selector(), self.front)]
+        name, *operands = self.random.choices(reads, [3, 3, 1])[0]
+        return self.read(str(name), *operands, endings=endings)
+
     # Versionstamps: each group ends with nothing that a stamp is in.
 
     def place(self, string: bytes) -> bytes:
@@ -320,18 +354,18 @@ class KeysWriter(Writer):
         for _ in range(20 * operations):
             if self.machine.number - begun >= operations:
                 break
-            group = chosen(self.random, self.weights)()
+            group = self.queue.pop(0)() if self.queue else chosen(self.random, self.weights)()
             if not (group[0] in (("DUP",), ("POP",), ("WAIT_FUTURE",)) and not self.machine.stack):
                 self.add(group)
 
     def finish(self, log_prefix: bytes) -> None:
-        self.add(log(log_prefix))
+        self.add(log(log_prefix), True)
 
 
 def keys_script(test: str, weights: Weights, seed: int, options: Options, key_count: Optional[int] = None) -> Script:
     """Returns a script of one machine on a few keys."""
     words = random.Random(f"{test} {seed}")
-    rules = Rules(options.api, (b"k", b"l"), True, options.is_own, options.without)
+    rules = Rules(options.api, (b"k", b"l"), True, options.is_own, options.without, options.has_errors)
     writer = KeysWriter(PREFIX, rules, words, b"k", weights | (OWN if options.is_own else {}))
     if key_count:
         writer.keys = writer.keys[:key_count]
@@ -357,11 +391,12 @@ def threads_script(seed: int, options: Options) -> Script:
     started: list[Group] = []
     for number in range(1, options.machines + 1):
         prefix, front, busy = b"w%d" % number, b"k%02d/" % number, b"busy/%d" % number
-        rules[prefix] = Rules(options.api, (front, above(front) or front), False, False, options.without)
+        rules[prefix] = Rules(options.api, (front, above(front) or front), False, False, options.without, options.has_errors)
         writer = KeysWriter(prefix, rules[prefix], words, front, THREADS)
         writer.write_groups(options.operations // options.machines)
         writer.finish(b"log%d/" % number)
         sections.append((prefix, [*writer.groups, waited(call("CLEAR_DATABASE", busy), False)]))
         started += [waited(call("SET_DATABASE", busy, b""), False), call("START_THREAD", prefix)]
-    main = [*started[::2], *started[1::2], call("WAIT_EMPTY", b"busy/"), log(LOG)]
+    shown = [waited(call("GET_RANGE_STARTS_WITH_DATABASE", b"k%02d/" % number, 0, 0, -1)) for number in range(1, options.machines + 1)]
+    main = [*started[::2], *started[1::2], call("WAIT_EMPTY", b"busy/"), *shown, log(LOG)]
     return Script("threads", seed, options.api, [(PREFIX, main), *sections], rules)

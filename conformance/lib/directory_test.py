@@ -111,12 +111,19 @@ class DirectoryWriter(Writer):
         elements = self.random.choice(TUPLES)
         return call("DIRECTORY_RANGE", len(elements), *elements)
 
-    def is_subspace(self) -> bool:
-        current = self.machine.objects[self.machine.index]
-        return isinstance(current, Subspace) or isinstance(current, Directory) and current.name != PARTITION
+    def is_subspace(self, place: int = -1) -> bool:
+        found = self.machine.objects[self.machine.index if place < 0 else place]
+        return isinstance(found, Subspace) or isinstance(found, Directory) and found.name != PARTITION
+
+    def to_subspace(self) -> Group:
+        """Makes a directory the current object that is a subspace, mostly, where the current one is none."""
+        indices = [place for place in self.indices(Directory, Subspace) if self.is_subspace(place)]
+        return call("DIRECTORY_CHANGE", self.random.choice(indices)) if indices and self.random.random() < 0.8 else []
 
     def keys(self) -> Group:
         """Packs a key of the current object, and takes it apart again; where that is no subspace each step is a fault."""
+        if not self.is_subspace() and (change := self.to_subspace()):
+            return change
         name = self.random.choice(["DIRECTORY_STRIP_PREFIX", "DIRECTORY_UNPACK_KEY", "DIRECTORY_CONTAINS"])
         if self.is_subspace() and self.random.random() < 0.4:
             last = call("SWAP", 1)
@@ -129,9 +136,18 @@ class DirectoryWriter(Writer):
     def contents(self) -> Group:
         """Sets a key in the current directory, so that a removal has contents to clear, or reads it."""
         if not self.is_subspace():
-            return self.pack()
+            return self.to_subspace() or self.pack()
         write = [("PUSH", b"v"), *self.pack(), ("SET_DATABASE",), ("POP",)]
         return self.random.choice([write, [*self.pack(), *waited([("GET_DATABASE",)])]])
+
+    def lived(self) -> Group:
+        """Creates a directory with contents, removes it or the one above it, and looks for the contents."""
+        path = self.path()
+        begin = [*call("DIRECTORY_CREATE_OR_OPEN_DATABASE", *path_operands(path), None), *call("DIRECTORY_CHANGE", len(self.machine.objects))]
+        key = call("DIRECTORY_PACK_KEY", *self.random.choice([(0,), (1, "x")]))
+        write = [("PUSH", b"v"), *key, ("SET_DATABASE",), ("POP",)]
+        below = call("DIRECTORY_CREATE_DATABASE", 1, "below", self.any(LAYERS), None) if self.random.random() < 0.4 else []
+        return [*begin, *write, *below, *call("DIRECTORY_REMOVE_DATABASE", 0), *key, *waited([("GET_DATABASE",)])]
 
     def log_directory(self) -> Group:
         return [*call("DIRECTORY_LOG_DIRECTORY", b"log/d/"), *self.end()]
@@ -146,7 +162,7 @@ class DirectoryWriter(Writer):
         weights = {
             self.create_or_open: 16, self.create: 10, self.open: 8, self.move: 7, self.move_to: 4, self.remove: 6, self.list: 8, self.exists: 8,
             self.empty_path: 1, self.change: 12, self.set_error_index: 2, self.create_subspace: 2, self.create_layer: 2, self.open_subspace: 2,
-            self.keys: 6, self.key_of_another: 2, self.contents: 6, self.log_directory: 4, self.log_subspace: 1, self.use_transaction: 2,
+            self.keys: 6, self.key_of_another: 2, self.contents: 6, self.lived: 3, self.log_directory: 4, self.log_subspace: 1, self.use_transaction: 2,
         }  # fmt: skip
         for _ in range(20 * operations):
             if self.machine.number >= operations:
@@ -156,11 +172,11 @@ class DirectoryWriter(Writer):
 
 def directory_script(seed: int, options: Options) -> Script:
     """Directories whose paths meet: layers, moves, removals, partitions, subspaces, and prefixes that are given."""
-    rules = Rules(options.api, REGION, True, False, options.without)
+    rules = Rules(options.api, REGION, True, False, options.without, options.has_errors)
     writer = DirectoryWriter(PREFIX, rules, random.Random(f"directory {seed}"))
     writer.write_groups(options.operations)
-    writer.add(cleared())
-    writer.add(log(LOG))
+    writer.add(cleared(), True)
+    writer.add(log(LOG), True)
     return Script("directory", seed, options.api, [(PREFIX, writer.groups)], {PREFIX: rules})
 
 

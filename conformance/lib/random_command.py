@@ -38,6 +38,12 @@ def number_in(least: int, most: int):
     return number
 
 
+def operation(word: str) -> str:
+    if word not in NAMES:
+        raise argparse.ArgumentTypeError(f"{word!r} is no operation")
+    return word
+
+
 class Parser(argparse.ArgumentParser):
     """Tells a wrong word in one line."""
 
@@ -57,7 +63,8 @@ def parser_of(about: str) -> Parser:
     parser.add_argument("--program", metavar="COMMAND", help="the tester that is compared")
     parser.add_argument("--many", action="store_true", help="starts COMMAND once for each job, with the word --many behind the others: it takes scripts, each ended by a line `.`, and answers each by its pairs and a line `.`")
     parser.add_argument("--own", action="store_true", help="has what no cluster shares as well: errors of writes where this program tells them, versions and versionstamps as they are; for a second program of this kind")
-    parser.add_argument("--without", metavar="OPERATION", action="append", default=[], choices=sorted(NAMES), help="leaves out an operation that the tester doesn't have; may come several times. `--without GET` leaves GET_SNAPSHOT in")
+    parser.add_argument("--without", metavar="OPERATION", action="append", default=[], type=operation, help="leaves out an operation that the tester doesn't have; may come several times. `--without GET` leaves GET_SNAPSHOT in")
+    parser.add_argument("--no-errors", action="store_true", help="leaves out what is answered by an error, but for directory_hca")
     parser.add_argument("--write", metavar="DIR", help="writes each script there: NAME.fdbt, its text, NAME.kv, its K lines, and in hexadecimal digits NAME.load, the pairs to load, and NAME.left, those that must stand beside them")
     parser.add_argument("--coverage", action="store_true", help="runs no tester; prints what the scripts meet")
     parser.add_argument("--keep-going", action="store_true", help="names every script that differs, and shrinks the first")
@@ -70,7 +77,7 @@ def parser_of(about: str) -> Parser:
 
 
 def options_of(args: argparse.Namespace) -> Options:
-    return Options(args.ops, args.api, args.machines, args.own, frozenset(args.without))
+    return Options(args.ops, args.api, args.machines, args.own, frozenset(args.without), not args.no_errors)
 
 
 class Found(NamedTuple):
@@ -108,6 +115,20 @@ class Runner:
         if self.args.own and wanted.status == 3 == found.status:
             wanted, found = wanted._replace(fault=""), found._replace(fault="")
         return compared(wanted, found)
+
+    def check_smaller(self, script: Script) -> Optional[Difference]:
+        """Does the same of a script that was cut down, which the program may stop at."""
+        try:
+            return self.check(script)
+        except UserFault:
+            return None
+
+    def smaller_options(self) -> Iterator[Options]:
+        """Yields the options of smaller scripts of the same test, the smallest first."""
+        for operations in (10, 20, 40, 80):
+            for machines in range(1, self.args.machines + 1):
+                if operations * machines < self.args.ops:
+                    yield options_of(self.args)._replace(operations=operations * machines, machines=machines)
 
     def check_seed(self, seed: int) -> Optional[Found]:
         script = self.script(seed)
@@ -173,8 +194,26 @@ def command_again(args: argparse.Namespace, seed: int) -> str:
     """Returns the command that shows the script of a seed again."""
     words = [NAME, args.test, "--seed", str(seed), "--scripts", "1", "--ops", str(args.ops)]
     words += ["--machines", str(args.machines)] * (args.test in ("directory_hca", "threads")) + ["--api", "500"] * (args.api == 500)
-    words += ["--own"] * args.own + [it for name in args.without for it in ("--without", name)] + ["--many"] * args.many + ["--program", args.program]
+    words += ["--own"] * args.own + [it for name in args.without for it in ("--without", name)] + ["--no-errors"] * args.no_errors + ["--many"] * args.many + ["--program", args.program]
     return shlex.join(words)
+
+
+def shrunk(runner: Runner, found: Found) -> tuple[Script, Difference, int]:
+    """Cuts a script down."""
+    shrinker = Shrinker(found.script, found.difference, runner.check_smaller, Limits(runner.args.runs, runner.args.seconds))
+    shrinker.shrink()
+    return shrinker.script, shrinker.difference, shrinker.runs
+
+
+def remade(runner: Runner, found: Found) -> tuple[Script, Difference, int]:
+    """Makes smaller scripts by the same seed, and returns the smallest that differs."""
+    runs = 0
+    for options in runner.smaller_options():
+        script = TESTS[runner.args.test](found.script.seed, options)
+        runs += 1
+        if difference := runner.check_smaller(script):
+            return script, difference, runs
+    return found.script, found.difference, runs
 
 
 def report(runner: Runner, found: Found) -> Iterator[str]:
@@ -182,13 +221,11 @@ def report(runner: Runner, found: Found) -> Iterator[str]:
     args, size = runner.args, found.script.size()
     yield f"seed {found.script.seed} of {args.test} differs, a script of {size} instructions:"
     yield from (f"    {line}" for line in islice(difference_lines(found.difference), 20))
-    shrinker = Shrinker(found.script, found.difference, runner.check, Limits(args.runs, args.seconds))
-    shrinker.shrink()
-    smallest = shrinker.script
+    smallest, difference, runs = shrunk(runner, found) if found.script.rules else remade(runner, found)
     yield ""
-    yield f"cut down to {smallest.size()} instructions in {shrinker.runs} runs:"
+    yield f"cut down to {smallest.size()} instructions in {runs} runs:"
     yield from (f"    {line}" for line in smallest.text().splitlines())
-    yield from (f"  {line}" for line in difference_lines(shrinker.difference))
+    yield from (f"  {line}" for line in difference_lines(difference))
     lines = lines_of(smallest)
     assert runner.tester is not None
     for title, tester in (("stack by the program:", runner.reference), ("stack by the command:", runner.tester)):

@@ -24,6 +24,7 @@ class Rules(NamedTuple):
     is_alone: bool = True
     is_own: bool = False
     without: frozenset[str] = frozenset()  # operations that are left out
+    has_errors: bool = True  # whether an instruction may be answered by an error
 
 
 class Script(NamedTuple):
@@ -75,6 +76,7 @@ class Options(NamedTuple):
     machines: int = 3
     is_own: bool = False
     without: frozenset[str] = frozenset()
+    has_errors: bool = True
 
 
 class Writer:
@@ -99,13 +101,15 @@ class Writer:
             self.machine.run(instruction)
             self.machine.number += 1
 
-    def add(self, group: Group) -> bool:
-        """Adds a group where it may stand, and says whether it did."""
-        if any(it[0] in self.rules.without for it in group):
+    def add(self, group: Group, is_needed: bool = False) -> bool:
+        """Adds a group where it may stand, and says whether it did. One that is needed may have operations that are left out."""
+        if not is_needed and any(it[0] in self.rules.without for it in group):
             self.refused += 1
             return False
         try:
             self.run(group)
+            if self.machine.errors and not self.rules.has_errors:
+                raise NotShared("an error")
         except (NotShared, Stopped) as fault:
             self.why = str(fault)
             self.refused += 1
@@ -126,7 +130,7 @@ class Writer:
 
 def kept(prefix: bytes, rules: Rules, groups: list[Group]) -> Optional[list[Group]]:
     """Returns those of the groups that may stand, or None where what they leave may not."""
-    writer = Writer(prefix, rules)
+    writer = Writer(prefix, rules._replace(without=frozenset(), has_errors=True))
     for group in groups:
         writer.add(group)
     if writer.is_waiting() or not rules.is_own and writer.leaves_unstable():

@@ -9,6 +9,7 @@ from typing import Callable, Iterator, NamedTuple, Optional
 from tuple_layer import Versionstamp
 
 from .comparison import Difference
+from .directory_operations import APPENDING
 from .scripts import Group, Script, kept
 
 Check = Callable[[Script], Optional[Difference]]
@@ -138,11 +139,12 @@ class Shrinker:
         while at > 0 and not self.is_over():
             begin = max(at - size, 0)
             groups = self.groups(place)
-            self.takes(self.with_groups(place, groups[:begin] + groups[at:]))
+            self.takes(self.with_groups(place, dropped(groups, begin, at)))
             at = min(begin, len(self.groups(place)) - stays)
         groups = self.groups(place)
         if len(groups) > stays:
-            self.takes(self.with_groups(place, groups[:-1 - stays] + groups[len(groups) - stays :]))
+            last = len(groups) - stays
+            self.takes(self.with_groups(place, dropped(groups, last - 1, last)))
 
     def drop_instructions(self, place: int) -> None:
         """Drops single instructions of groups, a push with what it is pushed for where one alone doesn't go."""
@@ -172,18 +174,45 @@ class Shrinker:
                 return
 
 
+INDEXED = {"DIRECTORY_CHANGE": 1, "DIRECTORY_SET_ERROR_INDEX": 1, "DIRECTORY_CREATE_LAYER": 2}
+
+
+def appended(groups: list[Group]) -> int:
+    """Returns how many directories and the like the groups append to their machine's list."""
+    names = [name.removeprefix("DIRECTORY_").removesuffix("_DATABASE").removesuffix("_SNAPSHOT") for group in groups for name, *_ in group if name.startswith("DIRECTORY_")]
+    return sum(name in APPENDING for name in names)
+
+
+def dropped(groups: list[Group], begin: int, end: int) -> list[Group]:
+    """Returns the groups without some, where later ones name the same directories by their new indices."""
+    first, count = 1 + appended(groups[:begin]), appended(groups[begin:end])
+    return [*groups[:begin], *(renumbered(it, first, count) for it in groups[end:])] if count else groups[:begin] + groups[end:]
+
+
+def renumbered(group: Group, first: int, count: int) -> Group:
+    """Returns the group with other indices: so many objects from the first one on are gone."""
+    found = list(group)
+    for place, (name, *_) in enumerate(group):
+        for at in range(place - INDEXED.get(name, 0), place):
+            index = group[at][1]
+            found[at] = ("PUSH", index if index < first else max(index - count, 0) if index >= first + count else 0)
+    return found
+
+
 def named_in(group: Group) -> set[bytes]:
     """Returns the byte strings that a group pushes."""
     return {it[1] for it in group if it[0] == "PUSH" and isinstance(it[1], bytes) and it[1]}
 
 
 def smaller_groups(group: Group) -> Iterator[Group]:
-    """Yields the group without its front or its back operation, for groups of several operations."""
+    """Yields the group without its front or its back, and then without each operation and its pushes, the last one first."""
     ends = [place + 1 for place, it in enumerate(group) if it[0] != "PUSH"]
-    for end in ends[:-1]:
-        yield group[:end]
-    for end in ends[:-1]:
-        yield group[end:]
+    half = ends[len(ends) // 2 - 1] if len(ends) > 1 else 0
+    if half:
+        yield group[:half]
+        yield group[half:]
+    for begin, end in reversed(list(zip([0, *ends], ends)) if len(ends) > 1 else []):
+        yield group[:begin] + group[end:]
 
 
 def simpler_elements(element: object) -> Iterator[object]:

@@ -119,8 +119,8 @@ class TupleWriter(Writer):
 
 def tuple_script(seed: int, options: Options) -> Script:
     """Tuples of all elements but floats: packing, unpacking, ranges, sorting, and versionstamps."""
-    rules = Rules(options.api, (b"k", b"l"), True, options.is_own, options.without)
+    rules = Rules(options.api, (b"k", b"l"), True, options.is_own, options.without, options.has_errors)
     writer = TupleWriter(PREFIX, rules, random.Random(f"tuple {seed}"))
     writer.write_groups(options.operations)
-    writer.add(log(LOG))
+    writer.add(log(LOG), True)
     return Script("tuple", seed, options.api, [(PREFIX, writer.groups)], {PREFIX: rules})
