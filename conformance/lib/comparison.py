@@ -62,14 +62,20 @@ def compared(program: Answer, tester: Answer) -> Optional[Difference]:
     return Difference([] if faults else missing, [] if faults else left, faults)
 
 
-def item_of(key: bytes, value: bytes) -> Optional[tuple[bytes, int, int, object]]:
-    """Returns of a logged item the prefix of its log, its place, its instruction and the item."""
-    front = LOGGED.match(key)
+def item_behind(front: bytes, key: bytes, value: bytes) -> Optional[tuple[int, int, object]]:
+    """Returns of an item that was logged under a prefix its place, its instruction and the item."""
     try:
-        (place, number), (item,) = unpack(key[front.end() :]) if front else (), unpack(value)
+        (place, number), (item,) = unpack(key[len(front) :]) if key.startswith(front) else (), unpack(value)
     except (NotATuple, ValueError):
         return None
-    return key[: front.end()], place, number, item
+    return place, number, item
+
+
+def item_of(key: bytes, value: bytes) -> Optional[tuple[bytes, int, int, object]]:
+    """Returns of an item that a random script logged the prefix of its log, its place, its instruction and the item."""
+    front = LOGGED.match(key)
+    found = item_behind(front[0], key, value) if front else None
+    return (front[0], *found) if front and found else None
 
 
 def value_text(item: object) -> str:
