@@ -16,6 +16,7 @@ from lib.answers import serve  # the modules of scripts/ are on the path behind 
 from lib.machine import Machine, World
 from lib.transactions import Attempt, Database
 
+from command_words import Parser
 from instruction_text import TextFault, pair_line, pairs_in
 from tuple_layer import pack, printable
 
@@ -54,7 +55,7 @@ def run(lines: bytes, prefix: bytes, api: int, polls: int = POLLS) -> Outcome:
 
 
 def words_of(words: list[str]) -> argparse.Namespace:
-    parser = argparse.ArgumentParser(usage="full_tester.py run PREFIX API [options]", description=__doc__, formatter_class=argparse.RawDescriptionHelpFormatter)
+    parser = Parser("full_tester.py", "full_tester.py run PREFIX API [options]", __doc__)
     parser.add_argument("command", choices=["run"])
     parser.add_argument("prefix", metavar="PREFIX")
     parser.add_argument("api", metavar="API", type=int, choices=[630, 500])

@@ -1,4 +1,4 @@
-"""explain.py SCRIPT DUMP: prints what a script of the bindings tester did, as its dump tells it, for a person.
+"""Prints what a script of the bindings tester did, as its dump tells it, for a person.
 
 SCRIPT is what `fdbtester run` or `replay` read, or the instruction text that it was made of; DUMP is what it wrote. Instructions
 and elements are printed as instruction text spells them, docs/TEXT.md. Printed are each machine's instructions by number,
@@ -13,7 +13,8 @@ import signal
 import sys
 from typing import NamedTuple
 
-from instruction_text import assembled, element_text
+from command_words import Parser
+from instruction_text import TextFault, assembled, element_text
 from tuple_layer import NotATuple, pack, unpack, unprintable
 
 # The names of the API reference, "Error Codes".
@@ -51,6 +52,10 @@ ENDS = {
 WIDEST = 160
 
 
+class ReadFault(Exception):
+    """A file can't be read, or isn't what it is to be."""
+
+
 class Machine(NamedTuple):
     """What a dump says of a machine: how it ended, its prefix, its items and its errors by instruction."""
 
@@ -71,16 +76,39 @@ class Dump(NamedTuple):
 
 def pair_of(fields):
     """Splits the fields of a K line into key and value."""
-    key, _, value = re.match(r"((?:[^\\]|\\\\|\\x..)*)(\\=)(.*)", fields, re.S).groups()
-    return unprintable(key), unprintable(value)
+    found = re.fullmatch(r"((?:[^\\]|\\\\|\\x[0-9a-f]{2})*)\\=((?:[^\\]|\\\\|\\x[0-9a-f]{2})*)", fields, re.S)
+    if not found:
+        raise ReadFault(f"no K line: K {cut(fields)}")
+    return unprintable(found[1]), unprintable(found[2])
 
 
 def lines_of(path):
     """Returns the lines of a file; of instruction text those that it stands for."""
-    with open(path, "rb") as file:
-        string = file.read()
-    text = assembled(string) if string.startswith(b"@") else string.decode("latin-1")
+    try:
+        with open(path, "rb") as file:
+            string = file.read()
+        text = assembled(string) if string.startswith(b"@") else string.decode("latin-1")
+    except OSError as fault:
+        raise ReadFault(f"{path}: {fault.strerror}") from fault
+    except TextFault as fault:
+        raise ReadFault(f"{path}: {fault}") from fault
     return text.split("\n")
+
+
+def check_kinds(path, lines, kinds, what):
+    """Refuses a file that has a line of another kind."""
+    for number, line in enumerate(lines, 1):
+        if line and line[:2] not in kinds:
+            raise ReadFault(f"{path}: line {number} is none of {what}: {cut(line)}")
+
+
+def check_dump(path, lines):
+    """Refuses a file that no run wrote: a dump begins with its machines."""
+    if not any(lines):
+        raise ReadFault(f"{path}: no dump: it is empty, as what a run leaves that ends with status 2")
+    check_kinds(path, lines, ("M ", "S ", "E ", "O ", "K "), "a dump")
+    if not lines[0].startswith("M "):
+        raise ReadFault(f"{path}: no dump: it doesn't begin with an M line")
 
 
 def fields_of(lines):
@@ -98,21 +126,31 @@ def dump_of(fields_of_lines):
     """Returns the dump that these lines are."""
     dump = Dump([], [], {})
     for kind, fields in fields_of_lines:
-        if kind == "M":
-            _, end, number, prefix = fields.split(" ", 3)
-            dump.machines.append(Machine(end, int(number), unprintable(prefix), collections.defaultdict(list), collections.defaultdict(list)))
-        elif kind == "S":
-            machine, place, number, item = fields.split(" ", 3)
-            dump.machines[int(machine)].items[int(number)].append((int(place), unprintable(item)))
-        elif kind == "E":
-            machine, number, word = fields.split(" ", 2)
-            dump.machines[int(machine)].errors[int(number)].append(word)
-        elif kind == "O":
-            dump.order.append(int(fields))
-        elif kind == "K":
-            key, value = pair_of(fields)
-            dump.pairs[key] = value
+        try:
+            add_line(dump, kind, fields)
+        except (ValueError, IndexError) as fault:
+            raise ReadFault(f"no line of a dump: {kind} {cut(fields)}") from fault
     return dump
+
+
+def add_line(dump, kind, fields):
+    """Adds what one line says to a dump."""
+    if kind == "M":
+        _, end, number, prefix = fields.split(" ", 3)
+        if end not in ENDS:
+            raise ValueError(end)
+        dump.machines.append(Machine(end, int(number), unprintable(prefix), collections.defaultdict(list), collections.defaultdict(list)))
+    elif kind == "S":
+        machine, place, number, item = fields.split(" ", 3)
+        dump.machines[int(machine)].items[int(number)].append((int(place), unprintable(item)))
+    elif kind == "E":
+        machine, number, word = fields.split(" ", 2)
+        dump.machines[int(machine)].errors[int(number)].append(word)
+    elif kind == "O":
+        dump.order.append(int(fields))
+    elif kind == "K":
+        key, value = pair_of(fields)
+        dump.pairs[key] = value
 
 
 def cut(text):
@@ -227,13 +265,23 @@ def explained(pairs, dump):
 
 
 def main(words):
-    if len(words) != 2:
-        sys.exit(__doc__)
+    parser = Parser("explain.py", "explain.py SCRIPT DUMP", __doc__)
+    parser.add_argument("script", metavar="SCRIPT", help="what `fdbtester run` or `replay` read, or the instruction text that it was made of")
+    parser.add_argument("dump", metavar="DUMP", help="what it wrote")
+    args = parser.parse_args(words)
     signal.signal(signal.SIGPIPE, signal.SIG_DFL)
-    script, dump = (fields_of(lines_of(path)) for path in words)
-    for line in explained(pairs_of(script), dump_of(dump)):
+    try:
+        script, dump = lines_of(args.script), lines_of(args.dump)
+        check_kinds(args.script, script, ("O ", "K "), "a script")
+        check_dump(args.dump, dump)
+        lines = list(explained(pairs_of(fields_of(script)), dump_of(fields_of(dump))))
+    except (ReadFault, NotATuple, IndexError) as fault:
+        print(f"explain.py: {fault}", file=sys.stderr)
+        return 2
+    for line in lines:
         print(line)
+    return 0
 
 
 if __name__ == "__main__":
-    main(sys.argv[1:])
+    sys.exit(main(sys.argv[1:]))

@@ -1,4 +1,4 @@
-"""explore.py PREFIX SCRIPT: finds the outcomes that a script of several machines can have, by the orders of its requests.
+"""Finds the outcomes that a script of several machines can have, by the orders of its requests.
 
 Each order is replayed by `fdbtester`, so each outcome is what the serial machine gives for the order that is printed with it.
 An outcome is the dump without its order: how the machines ended, their stacks and errors, and the pairs of the database. A switch is
@@ -13,9 +13,12 @@ import shlex
 import signal
 import subprocess
 import sys
+import tempfile
 from typing import NamedTuple
 
-from explain import ENDS, bytes_text, dump_of, fields_of, instruction_text, instructions_of, notes_of, pairs_of
+from command_words import Parser
+from explain import ENDS, ReadFault, bytes_text, dump_of, fields_of, instruction_text, instructions_of, notes_of, pairs_of
+from instruction_text import TextFault, assembled
 from orders import MACHINES, Exploration, ReplayFault, Replays, outcome_of, processes
 
 TOP = os.path.join(os.path.dirname(os.path.realpath(__file__)), "..")
@@ -44,10 +47,11 @@ def number_in(least, most):
 
 def words_of(words):
     """Reads the words of the command line."""
-    parser = argparse.ArgumentParser(usage="explore.py [options] PREFIX SCRIPT", description=__doc__, formatter_class=argparse.RawDescriptionHelpFormatter)
+    parser = Parser("explore.py", "explore.py [options] PREFIX SCRIPT", __doc__)
     many = number_in(1, 2**31)
     parser.add_argument("prefix", metavar="PREFIX", help="the prefix of the first machine")
-    parser.add_argument("script", metavar="SCRIPT", help="a script as `fdbtester run` reads it; an order before it is left out")
+    parser.add_argument("script", metavar="SCRIPT", help="a script as `fdbtester run` reads it, where an order before it is left out; or its instruction text")
+    parser.add_argument("--api", metavar="API", choices=["630", "500"], default="630", help="the API version: 630, or 500; 630 where it isn't given")
     parser.add_argument("--switches", metavar="N", type=number_in(0, 2**31), default=2, help="switches of an order, at most; 2 where it isn't given")
     parser.add_argument("--orders", metavar="N", type=many, default=20_000, help="orders that are tried, at most; 20000 where it isn't given")
     parser.add_argument("--polls", metavar="N", type=number_in(1, 100_000), default=1, help="polls of a wait in vain; 1 where it isn't given")
@@ -69,11 +73,25 @@ def program_at_hand():
 
 
 def read_script(path):
-    """Reads a script, and returns it without the order that may stand before it."""
+    """Reads a script, and returns its K lines, without the order that may stand before them; of instruction text those that it stands for."""
     with open(path, "rb") as file:
-        lines = file.read().split(b"\n")
+        string = file.read()
+    if string.startswith(b"@"):
+        return assembled(string).encode("latin-1")
+    lines = string.split(b"\n")
     first = next(place for place, line in enumerate(lines) if not line.startswith(b"O "))
     return b"\n".join(lines[first:])
+
+
+def check_places(words):
+    """Looks at what is read and written at the end, before the search."""
+    if words.expect is not None:
+        with open(words.expect, "rb"):
+            pass
+    if words.save is not None:
+        os.makedirs(words.save, exist_ok=True)
+        with tempfile.TemporaryFile(dir=words.save):
+            pass
 
 
 def outcomes_of(exploration, words, replays):
@@ -133,7 +151,8 @@ def bounds_line(exploration, words, vain):
 def replay_line(outcome, words):
     """Returns the command that replays an outcome's order."""
     with open(words.script, "rb") as file:
-        reads = "grep -v '^O '" if file.read(2) == b"O " else "cat"
+        front = file.read(2)
+    reads = "grep -v '^O '" if front == b"O " else "./fdbtester asm <" if front[:1] == b"@" else "cat"
     order = f"printf 'O %d\\n' {' '.join(map(str, outcome.order))}; " if outcome.order else ""
     options = outcome.words + ["--"] * words.prefix.startswith("-")
     return f"    ({order}{reads} {shlex.quote(words.script)}) | ./fdbtester {shlex.join(['replay', *options, words.prefix, '630'])}"
@@ -175,7 +194,8 @@ def unexpected(path, outcomes):
 
 def main(words):
     signal.signal(signal.SIGPIPE, signal.SIG_DFL)
-    replays = Replays(words.program or program_at_hand(), os.fsencode(words.prefix), words.seed, read_script(words.script))
+    check_places(words)
+    replays = Replays(words.program or program_at_hand(), os.fsencode(words.prefix), words.seed, read_script(words.script), words.api)
     with processes(words.jobs, replays, words.database) as pool:
         exploration = Exploration(pool, words.switches, words.orders)
         outcomes, vain = outcomes_of(exploration, words, replays)
@@ -193,6 +213,12 @@ def main(words):
 if __name__ == "__main__":
     try:
         sys.exit(main(words_of(sys.argv[1:])))
-    except (OSError, ReplayFault) as fault:
+    except OSError as fault:
+        print(f"explore.py: {fault.filename or 'the program'}: {fault.strerror}", file=sys.stderr)
+        sys.exit(2)
+    except TextFault as fault:
+        print(f"explore.py: {sys.argv[-1]}: {fault}", file=sys.stderr)
+        sys.exit(2)
+    except (ReadFault, ReplayFault) as fault:
         print(f"explore.py: {fault}", file=sys.stderr)
         sys.exit(2)

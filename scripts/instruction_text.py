@@ -542,8 +542,12 @@ def main(words):
     if words == ["strip"]:
         sys.stdout.buffer.write(stripped(sys.stdin.buffer.read())[0])
         return
+    if words in (["--help"], ["-h"]):
+        print(__doc__)
+        return
     if words not in (["asm"], ["disasm"]):
-        sys.exit(__doc__)
+        print("instruction_text.py: the one word is asm, disasm, strip, --self-test or --help", file=sys.stderr)
+        sys.exit(2)
     given = sys.stdin.buffer.read(MOST_BYTES + 1)
     try:
         sys.stdout.write(assembled(given) if words == ["asm"] else disassembled(given))

@@ -37,14 +37,14 @@ class Answer(NamedTuple):
 class Replays:
     """Replays a script by its orders."""
 
-    def __init__(self, program, prefix, seed, script):
+    def __init__(self, program, prefix, seed, script, api="630"):
         self.words = [program, "replay", "--seed", str(seed), "--polls"]
-        self.prefix, self.script = prefix, script
+        self.prefix, self.script, self.api = prefix, script, api
 
     def ask(self, places, polls=1):
         """Replays the script by an order."""
         given = b"".join(b"O %d\n" % machine for machine in places) + self.script
-        ran = subprocess.run([*self.words, str(polls), "--", self.prefix, "630"], input=given, capture_output=True, check=False)
+        ran = subprocess.run([*self.words, str(polls), "--", self.prefix, self.api], input=given, capture_output=True, check=False)
         if ran.returncode in (0, 3):
             return Answer(dump=ran.stdout)
         told = ran.stderr.decode(errors="replace").strip()
@@ -321,3 +321,7 @@ class Exploration:
 def processes(jobs, replays, by_pairs):
     """Returns a pool of so many processes that follow branches."""
     return multiprocessing.Pool(jobs, begin, (replays, by_pairs))
+
+
+if __name__ == "__main__":
+    print("orders.py is a module and no command: explore.py finds the orders of a script by it. `python3 -m pydoc scripts/orders.py` has its calls")

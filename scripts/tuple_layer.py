@@ -157,3 +157,7 @@ def unprintable(text):
     """Returns the bytes of a printable form."""
     parts = re.findall(r"\\x([0-9a-f]{2})|\\(\\)|([^\\])", text)
     return b"".join(bytes([int(digits, 16)]) if digits else (slash or plain).encode("latin-1") for digits, slash, plain in parts)
+
+
+if __name__ == "__main__":
+    print("tuple_layer.py is a module and no command: the other scripts pack and unpack by it. `python3 -m pydoc scripts/tuple_layer.py` has its calls")

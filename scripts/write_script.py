@@ -8,6 +8,7 @@ tuples and compares.
 import sys
 import uuid
 
+from command_words import Parser
 from instruction_text import pair_line, pairs_of, section_lines
 from tuple_layer import NotATuple, Versionstamp, pack, unpack
 
@@ -63,7 +64,19 @@ def self_test():
     return wrong
 
 
+def main(words):
+    parser = Parser("write_script.py", "write_script.py [--text | --self-test]", __doc__)
+    some = parser.add_mutually_exclusive_group()
+    some.add_argument("--text", action="store_true", help="prints the machines as instruction text")
+    some.add_argument("--self-test", action="store_true", help="packs known tuples and compares")
+    args = parser.parse_args(words)
+    if args.self_test:
+        wrong = self_test()
+        print("\n".join(wrong), end="\n" if wrong else "", file=sys.stderr)
+        return 1 if wrong else 0
+    print("\n".join(text_lines(MACHINES) if args.text else script_lines(MACHINES, PAIRS)))
+    return 0
+
+
 if __name__ == "__main__":
-    if sys.argv[1:] == ["--self-test"]:
-        sys.exit("\n".join(self_test()) or 0)
-    print("\n".join(text_lines(MACHINES) if sys.argv[1:] == ["--text"] else script_lines(MACHINES, PAIRS)))
+    sys.exit(main(sys.argv[1:]))

@@ -41,6 +41,9 @@ class Coverage:
     def lacking(self, names: Iterable[str]) -> list[str]:
         return sorted(set(names) - set(self.operations) - LEFT_OUT)
 
+    def empty_neighbours(self) -> list[str]:
+        return [f"{first} and {kind}" for first in KINDS for kind in KINDS if not self.neighbours[first, kind]]
+
     def lines(self, names: Iterable[str]) -> Iterator[str]:
         yield f"{self.scripts} scripts, {self.instructions} instructions"
         yield ""
@@ -51,14 +54,13 @@ class Coverage:
         yield ""
         yield "errors, and how often each came:"
         yield from table(sorted(self.codes.items()))
-        if self.neighbours:
+        if self.neighbours["set", "clear"]:  # directories have neighbours by the way
             yield ""
             yield "operations that are neighbours on one key in one transaction, the first one down, the next one across:"
             yield "  " + " " * 12 + "".join(f"{kind:>12}" for kind in KINDS)
             for first in KINDS:
                 yield f"  {first:<12}" + "".join(f"{self.neighbours[first, kind]:>12}" for kind in KINDS)
-            empty = [f"{first} and {kind}" for first in KINDS for kind in KINDS if not self.neighbours[first, kind]]
-            yield f"  without any: {', '.join(empty) or 'none'}"
+            yield f"  without any: {', '.join(self.empty_neighbours()) or 'none'}"
 
 
 def table(rows: list[tuple[str, int]]) -> Iterator[str]:

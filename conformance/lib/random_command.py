@@ -297,6 +297,8 @@ def run(words: list[str], about: str) -> int:
         return cover(args)
     if args.program is None and args.write is None:
         raise UserFault("--program COMMAND compares, --write DIR writes and --coverage counts: one of them must be there")
+    if args.program is not None:
+        command_of(args.program)
     args.reference = reference_of(args)
     runner = Runner(args)
     if args.write is not None:
