@@ -34,7 +34,7 @@ CONFLICTS: Weights = {
     "set": 10, "clear": 5, "clear_range": 4, "atomic_op": 5, "get": 10, "get_key": 4, "get_range": 8, "get_range_starts_with": 2,
     "get_range_selector": 2, "conflict_key": 4, "conflict_range": 4, "silent_write": 5, "commit": 16, "use_transaction": 18,
     "new_transaction": 1, "reset": 2, "on_error": 2, "read_version": 3, "set_read_version": 3, "committed_version": 3, "after_end": 1,
-    "duel": 14,
+    "duel": 60,
 }  # fmt: skip
 THREADS: Weights = API | {"stamped_value": 1, "stamped_key": 0, "get_range_selector": 4, "empty_stack": 0}
 

@@ -7,7 +7,7 @@ from .directory_layer import PARTITION, Layer
 from .directory_operations import Directory, Subspace
 from .scripts import LOG, PREFIX, Group, Options, Rules, Script, Writer, call, log, waited
 
-NAMES = ["a", "b", "c", "\u00e9", ""]
+NAMES = ["a", "b", "c", "\u00e9"]
 LAYERS = [None, None, None, b"", b"x", b"y", PARTITION]
 GIVEN = [None, None, None, b"g1", b"g1a", b"g2"]
 TUPLES: list[tuple] = [(), ("x",), (1, b"y"), (None, 2**40)]
@@ -31,7 +31,7 @@ class DirectoryWriter(Writer):
         return self.random.choice(some)
 
     def path(self, least: int = 1) -> tuple[str, ...]:
-        return tuple(self.random.choice(NAMES[:4] if self.random.random() < 0.97 else NAMES) for _ in range(self.random.choice([least, 1, 1, 2, 2, 3])))
+        return tuple(self.random.choice(NAMES) for _ in range(self.random.choice([least, 1, 1, 2, 2, 3])))
 
     def optional_path(self) -> list[object]:
         return [0] if self.random.random() < 0.3 else [1, *path_operands(self.path())]

@@ -299,7 +299,7 @@ class Machine(Directories):
 
     def get_estimated_range_size(self) -> None:
         begin, end = self.pop_bytes(), self.pop_bytes()
-        self.database.need(begin <= end <= END and self.current().phase == "active", "the size of no range")
+        self.database.need(begin < end <= END and self.current().phase == "active", "the size of no range")
         self.push(b"GOT_ESTIMATED_RANGE_SIZE")
 
     def unit_tests(self) -> None:
