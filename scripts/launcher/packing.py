@@ -64,20 +64,12 @@ def last_line(told):
 
 
 def gate_line():
-    """Returns what the last whole gate, .ci/run, said of this very commit at its end; where there was none, that of the gate over the program's
-    crates, which is run then."""
+    """Returns what the last whole gate, .ci/run, said of this very commit at its end; where there was none, what --build said of its proofs."""
     noted = text_of(os.path.join(HERE, "out", "gate")).splitlines()
     if len(noted) == 2 and noted[0] == builds.commit() and not noted[0].endswith("-dirty") and last_line(noted[1]):
         return noted[1]
-    log = builds.built("out", "gate.log")
-    progress = builds.Progress()
-    say("running rt ci fdbtester, the gate over the program and the crates below it")
-    with open(log, "w", encoding="utf-8") as file:
-        status = builds.run_logged(["rt", "ci", "fdbtester"], builds.place(), file, progress, "running the gate over the program's crates")
-    line = last_line(text_of(log))
-    if status or not line:
-        fail(f"the gate failed, with status {status}; {log} has what it said")
-    return line
+    proved = [it for it in text_of(builds.log_path()).splitlines() if it.startswith("proved fdbtester")]
+    return f"none was run of this commit; --build {proved[-1]}" if proved else "none was run of this commit"
 
 
 def toolchain_folder():
