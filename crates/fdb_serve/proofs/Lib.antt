@@ -1,0 +1,4 @@
+pub mod Served
+pub mod Framing
+pub mod Steps
+pub mod Tops

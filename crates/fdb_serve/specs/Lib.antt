@@ -1,0 +1,4 @@
+pub mod Serving
+pub mod Standing
+pub mod Outcomes
+pub mod Endings
