@@ -439,19 +439,21 @@ moved_inside layer args setting words t partition same name new_name names new_n
     let words_left = behind words first.words in
     let next = moves_from (length args.path) layer args.path args.new_path in
     let one_more : length args.path + 1 ≡ suc (length args.path) = omega arith in
-    let way = finds_moved (length rest + 1) (inside partition.prefix) rest new_rest in
-    (before, left.1.1,
-    ap (λ bound. run setting words (finds_moved bound layer args.path args.new_path >>= moves_at args.new_path) t) one_more
-    ∙ ap (λ found. run setting words (found >>= moves_at args.new_path) t) (finds_in_two (length args.path) layer args.path args.new_path)
-    ∙ ap (λ call. run setting words call t) (in_three both next (moves_at args.new_path))
-    ∙ behind_first setting words both (λ found. next found >>= moves_at args.new_path) t
-    (Some (found_at partition rest), Some (found_at same new_rest)) ends
-    ∙ ap (λ found. drawing first.words (run setting words_left (found >>= moves_at args.new_path) first.transaction))
-    (goes_inside (length args.path) layer args.path args.new_path partition same name new_name names new_names prefix
-    ∙ moved-enough (length args.path) (length rest + 1) (inside partition.prefix) rest new_rest fewer (omega arith))
-    ∙ ap (λ path. drawing first.words (run setting words_left (way >>= moves_at path) first.transaction)) left.1.1
-    ∙ ap (λ (then : Move → Course DirReply). drawing first.words (run setting words_left (way >>= then) first.transaction))
-    (fun_ext (moves_in_front before new_rest))
-    ∙ ap (λ call. drawing first.words (run setting words_left call first.transaction))
-    (sym (in_three way (moves_at new_rest) (fronted before)))
-    ∙ ap (drawing first.words) (run_in_front setting words_left before (way >>= moves_at new_rest) first.transaction))
+    let way = finds_moved (length rest + 1) (inside partition.prefix) rest new_rest in (
+      before,
+      left.1.1,
+      ap (λ bound. run setting words (finds_moved bound layer args.path args.new_path >>= moves_at args.new_path) t) one_more
+          ∙ ap (λ found. run setting words (found >>= moves_at args.new_path) t) (finds_in_two (length args.path) layer args.path args.new_path)
+          ∙ ap (λ call. run setting words call t) (in_three both next (moves_at args.new_path))
+          ∙ behind_first setting words both (λ found. next found >>= moves_at args.new_path) t
+          (Some (found_at partition rest), Some (found_at same new_rest)) ends
+          ∙ ap (λ found. drawing first.words (run setting words_left (found >>= moves_at args.new_path) first.transaction))
+          (goes_inside (length args.path) layer args.path args.new_path partition same name new_name names new_names prefix
+          ∙ moved-enough (length args.path) (length rest + 1) (inside partition.prefix) rest new_rest fewer (omega arith))
+          ∙ ap (λ path. drawing first.words (run setting words_left (way >>= moves_at path) first.transaction)) left.1.1
+          ∙ ap (λ (then : Move → Course DirReply). drawing first.words (run setting words_left (way >>= then) first.transaction))
+          (fun_ext (moves_in_front before new_rest))
+          ∙ ap (λ call. drawing first.words (run setting words_left call first.transaction))
+          (sym (in_three way (moves_at new_rest) (fronted before)))
+          ∙ ap (drawing first.words) (run_in_front setting words_left before (way >>= moves_at new_rest) first.transaction),
+    )

@@ -32,8 +32,7 @@ writes_script setting (mutation ∷ mutations) t none =
     let first = each_through setting (Writes mutation) (turns.written mutations) t none in
     let after = (act_called setting t (Writes mutation)).transaction in
     let later = writes_script setting mutations after first.others in
-    let entry = Wrote mutation (not t.skips_write_conflict) in
-    (
+    let entry = Wrote mutation (not t.skips_write_conflict) in (
       entry ∷ later.0,
       ap (λ (u : Transaction). u.script) first.left ∙ later.1
           ∙ ap (λ (script : Script). script ++ later.0) (wrote_script setting t mutation first.passed)
@@ -53,8 +52,7 @@ read_first setting call t none =
     let first = each_through setting (Reads call.read false) (acts_behind call.turn) t none in
     let after = (act_called setting t (Reads call.read false)).transaction in
     let later = behind_script setting call.turn after first.others in
-    let entry = HasRead call.read (answer call.read (view setting t)) in
-    (
+    let entry = HasRead call.read (answer call.read (view setting t)) in (
       later.0,
       ap (λ (u : Transaction). u.script) first.left ∙ later.1
           ∙ ap (λ (script : Script). script ++ later.0) (read_script setting t (read_code t.phase false call.read) call.read first.passed)
