@@ -1,11 +1,10 @@
 -- Where Find leaves names, a call does what was done before, and then the same call on the partition's layer.
 use Rattle.std.proofs.Common.{◌≡◌, ◌⊎◌, inl, inr, ℕ, zero, suc, ◌+◌, ◌<◌, ◌≤◌, Bool, true, false, cond, List, [], ◌∷◌, ◌++◌, length, map, Option, Some, None, Result, Ok, Err, refl, sym, ap, subst, ◌∙◌, arith}
-use Rattle.std.specs.Prelude.{⊤, is_some, bytes_eq, unwrap_or}
-use Rattle.std.specs.FinMap as finite
+use Rattle.std.specs.Prelude.{is_some, bytes_eq}
 use Rattle.std.proofs.Math.Path.{fun_ext}
 use Rattle.std.proofs.lemmas.List.{length-append, length-map}
 use Rattle.database_rules.specs.Histories.{Setting}
-use Rattle.database_rules.specs.Transactions.{Transaction, view}
+use Rattle.database_rules.specs.Transactions.{Transaction}
 use Rattle.allocator_rules.proofs.Viewing.{itself}
 use Rattle.directory_types.specs.declared.Layer.{Layer}
 use Rattle.directory_types.specs.declared.DirArgs.{DirArgs}
@@ -19,15 +18,15 @@ use Rattle.directory_rules.specs.declared.Child.{Child}
 use Rattle.directory_rules.specs.declared.Directory.{Directory}
 use Rattle.directory_rules.specs.declared.Lookup.{Lookup}
 use Rattle.directory_rules.specs.declared.OpenOptions.{OpenOptions}
-use Rattle.directory_rules.specs.Courses.{Course, Gives, Refuses, ◌>>=◌, Done, given, Reached, drawing, run}
+use Rattle.directory_rules.specs.Courses.{Course, Gives, ◌>>=◌, Done, given, Reached, drawing, run}
 use Rattle.directory_rules.specs.Steps.{there, Found, found_at, find, inside, admits, Place, place, or_inside, arrives, front, last_name}
-use Rattle.directory_rules.specs.Calls.{opened, to_create, to_create_or_open, to_open, judged, to_look, looks, makes, opening, moving, Move, moves_on, moves_in, finds_moved, enters_moved, leaves, clears_one, clears_all, removes_one, removes_found, to_remove, removing, to_see, lists, names_below, is_there, course, effect}
+use Rattle.directory_rules.specs.Calls.{opened, to_create, to_create_or_open, to_open, judged, to_look, looks, makes, opening, moving, Move, moves_in, finds_moved, enters_moved, leaves, clears_one, clears_all, removes_one, removes_found, to_remove, removing, to_see, lists, names_below, is_there, course, effect}
 use Rattle.directory.proofs.Counting.{seen_keys}
 use Rattle.directory.proofs.Emptying.{keys_cleared}
-use Rattle.directory.proofs.Following.{behind, and_then, followed, run-then}
+use Rattle.directory_nodes.proofs.Following.{behind, and_then, followed, run-then}
 use Rattle.directory_laws.specs.Remaining.{lookup_of, looks_for, looks_for_both, in_front, all_in_front, both_done, AreDoneInside, AreMovedInside}
 use Rattle.directory_laws.proofs.Values.{Every, every-behind, every_ended, same-then, in_three, Sets, sets-behind, keys_set}
-use Rattle.directory_laws.proofs.Leaving.{AreLast, AreFewer, AreLeft, find_left, arrives-enough, IsNoLonger, arrives_no_longer, admits_sets, find_sets, arrives_sets, made_at, same_made, makes-enough, moves_from, finds_in_two, AreBothLeft, both_left, moved-enough}
+use Rattle.directory_laws.proofs.Leaving.{AreLeft, find_left, arrives-enough, IsNoLonger, arrives_no_longer, admits_sets, find_sets, arrives_sets, made_at, same_made, makes-enough, moves_from, finds_in_two, AreBothLeft, both_left, moved-enough}
 
 -- ---- names in front of an answer
 

@@ -10,8 +10,8 @@ use Rattle.directory_types.specs.declared.fault.DirFault.TheVariants as fault
 use Rattle.directory_rules.specs.declared.Directory.{Directory}
 use Rattle.directory_rules.specs.declared.Lookup.{Lookup}
 use Rattle.directory_rules.specs.declared.OpenOptions.{OpenOptions}
-use Rattle.directory_rules.specs.Courses.{Course, Gives, Refuses, Asks, ◌>>=◌, Done, given, does, value_in, value_of}
-use Rattle.directory_rules.specs.Nodes.{node_of, entry_of, layer_key, version_key, is_partition}
+use Rattle.directory_rules.specs.Courses.{Course, Gives, ◌>>=◌, Done, given, does, value_in, value_of}
+use Rattle.directory_rules.specs.Nodes.{version_key, is_partition}
 use Rattle.directory_rules.specs.Steps.{refuse_where, version_read, version_checked, there, check, root, below, directory_at, child_of, Found, found_at, find_from, find, inside, admits, Place, or_inside, arrives, front, last_name}
 use Rattle.directory_rules.specs.Calls.{to_create_or_open, to_look, judged, looks, takes_prefix, enters, or_else, or_root, makes, Move, moves_on, moves_in, finds_moved}
 use Rattle.directory_laws.specs.Remaining.{looks_for_both}

@@ -1,5 +1,5 @@
 -- The rule on names that remain, on answers that were worked out by hand: names stand in front of a path, and nothing else changes.
-use Rattle.std.proofs.Common.{◌≡◌, true, false, List, [], ◌∷◌, Some, None, Ok, Err, refl}
+use Rattle.std.proofs.Common.{◌≡◌, [], ◌∷◌, Some, None, Ok, Err, refl}
 use Rattle.std.specs.Prelude.{codes}
 use Rattle.directory_types.specs.declared.DirArgs.{DirArgs}
 use Rattle.directory_types.specs.declared.DirKind.TheVariants as kind

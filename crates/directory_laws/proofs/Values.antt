@@ -1,9 +1,9 @@
 -- What the values of a course are like, said of its tree, and courses that go on alike behind such values; and how many keys a course sets.
-use Rattle.std.proofs.Common.{◌≡◌, ℕ, ◌+◌, ◌-◌, ◌≤◌, Option, Some, None, Result, Ok, Err, refl, sym, ap, subst, ◌∙◌, arith, length}
+use Rattle.std.proofs.Common.{◌≡◌, ℕ, ◌+◌, ◌-◌, ◌≤◌, Option, Some, None, Ok, refl, ap, subst, arith, length}
 use Rattle.std.specs.Prelude.{⊤}
 use Rattle.std.proofs.Math.Path.{fun_ext}
 use Rattle.database_rules.specs.declared.Code.{Code}
-use Rattle.database_rules.specs.Databases.{Mutation, Set, Clear, ClearRange, Atomic}
+use Rattle.database_rules.specs.Databases.{Set, Clear, ClearRange, Atomic}
 use Rattle.database_rules.specs.Histories.{Setting}
 use Rattle.database_rules.specs.Reads.{Answer, answer}
 use Rattle.database_rules.specs.Transactions.{Transaction, view}

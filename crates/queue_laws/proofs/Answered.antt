@@ -1,5 +1,5 @@
 -- A call is, at its commit, the one that it would be on the database that the commits before left.
-use Rattle.std.proofs.Common.{◌≡◌, ℕ, List, [], ◌∷◌, ◌++◌, take, Option, Some, None, Result, Ok, Err, refl, sym, ap, ◌∙◌, subst, append_assoc}
+use Rattle.std.proofs.Common.{◌≡◌, ℕ, List, [], ◌∷◌, ◌++◌, take, Option, None, Result, Ok, Err, refl, sym, ap, ◌∙◌, subst, append_assoc}
 use Rattle.std.specs.Prelude.{not, false, true, length, map}
 use Rattle.std.specs.FinMap as finite
 use Rattle.std.proofs.lemmas.List.{append-nil}
@@ -14,7 +14,7 @@ use Rattle.history_laws.specs.Whole.{EachRead, RunsWhole}
 use Rattle.recipe_rules.specs.declared.fault.RecipeFault.{RecipeFault}
 use Rattle.recipe_rules.specs.Turns as turns
 use Rattle.recipe_rules.specs.Turns.{Turn, Call, acts_behind, ending, first_pair, pairs_of, space_begin, space_end, turned_by, writing, replying}
-use Rattle.recipe_rules.specs.Queues.{next_key, popping, push_call, pop_call, queue_of}
+use Rattle.recipe_rules.specs.Queues.{next_key, popping, push_call, pop_call}
 use Rattle.recipe_rules.specs.Multimaps.{pair_key, count_at, one_more, sets_count, add_call, there, lowers, subtract_call, key_space, counts_in, values_call}
 use Rattle.recipe_rules.specs.Blobs.{reads_all, bytes_in, part, put_in, sets_piece, size_call, read_call, write_call}
 use Rattle.recipe_rules.proofs.Calling.{each_through, none_acted}

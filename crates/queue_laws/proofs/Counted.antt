@@ -1,5 +1,5 @@
 -- The counts after scripts of adds and subtracts, after commits that ran whole, and over a legal history and every run.
-use Rattle.std.proofs.Common.{◌≡◌, ℕ, zero, suc, ◌+◌, ◌-◌, ◌<◌, ◌≤◌, ◌^◌, Bool, true, false, cond, List, [], ◌∷◌, ◌++◌, length, take, drop, Option, Some, None, Result, Ok, Err, refl, sym, ap, ◌∙◌, subst, append_assoc, arith}
+use Rattle.std.proofs.Common.{◌≡◌, ℕ, suc, ◌+◌, ◌<◌, ◌≤◌, ◌^◌, Bool, true, false, cond, List, [], ◌∷◌, ◌++◌, length, take, drop, Option, Some, None, Result, Ok, Err, refl, sym, ap, ◌∙◌, subst, append_assoc, arith}
 use Rattle.std.specs.Prelude.{not, ◌&&◌, ◌==◌, bytes_eq, nat_lt}
 use Rattle.std.specs.Int.{w64, to_le_bytes, from_le_bytes}
 use Rattle.std.specs.Option.{option_map}
@@ -21,10 +21,10 @@ use Rattle.fdb_tuple.specs.Reading.{read_tuple}
 use Rattle.fdb_tuple.specs.Spelling.{spelling}
 use Rattle.fdb_tuple.proofs.ReadLaws.{read_tuple_again}
 use Rattle.database_rules.specs.Databases.{Database, Mutation, Set, Clear, do_all}
-use Rattle.database_rules.specs.Histories.{Script, Wrote, HasRead, Granted, Commit, History, after_commits, at, stamp_of, written}
+use Rattle.database_rules.specs.Histories.{Script, Wrote, HasRead, Granted, Commit, after_commits, at, stamp_of, written}
 use Rattle.database_rules.specs.KeyByKey.{at_key, at_keys}
 use Rattle.database_rules.specs.Reads.{Get, ValueIs, answer}
-use Rattle.database_rules.specs.States.{all_filled, filled, covers, seen, unreadable, unreadable_by}
+use Rattle.database_rules.specs.States.{all_filled, filled, seen}
 use Rattle.database_rules.proofs.KeyByKey.{get-do_all}
 use Rattle.allocator_rules.proofs.Viewing.{get-seen, get-seen_more, itself}
 use Rattle.machine_rules.specs.Runs.{start}
@@ -32,13 +32,12 @@ use Rattle.machine_rules.specs.Worlds.{begun}
 use Rattle.machine_rules.proofs.Runs.{run_keeps}
 use Rattle.history_laws.specs.Whole.{EachRead, RunsWhole}
 use Rattle.history_laws.proofs.Legal.{runs_legal}
-use Rattle.recipe_rules.specs.declared.fault.RecipeFault.{RecipeFault}
 use Rattle.recipe_rules.specs.declared.fault.RecipeFault.TheVariants as fault
 use Rattle.recipe_rules.specs.declared.TheConstants.{GREATEST_COUNT}
 use Rattle.recipe_rules.specs.Turns.{is_inside}
 use Rattle.recipe_rules.specs.Multimaps.{pair_key, count_said, count_at, count_of, one_more}
 use Rattle.recipe_rules.proofs.Counting.{pair_inside, said_again}
-use Rattle.queue_laws.specs.Laws.{DidItsScript, HasScripts, NoneFell, RunWhole, commits_from}
+use Rattle.queue_laws.specs.Laws.{DidItsScript, HasScripts, RunWhole, commits_from}
 use Rattle.queue_laws.specs.Scripts.{LeavesAlone}
 use Rattle.queue_laws.specs.Counts.{Change, add_of, subtract_of, changed, counted, AreCounted, lowered, IsOfCounts, AreOfCounts, CountsFollow, LegalCountsFollow, RunsCountsFollow}
 use Rattle.queue_laws.proofs.Stamps.{unmodified, filled_unmodified}

@@ -1,20 +1,20 @@
 -- Calls of add, subtract and values leave scripts of counts.
-use Rattle.std.proofs.Common.{◌≡◌, ℕ, zero, suc, Bool, true, false, cond, List, [], ◌∷◌, ◌++◌, Option, Some, None, Result, Ok, Err, refl, sym, ap, ◌∙◌, subst}
+use Rattle.std.proofs.Common.{◌≡◌, ℕ, zero, suc, Bool, true, false, cond, List, [], ◌∷◌, ◌++◌, Option, Some, None, Result, Ok, Err, refl, sym, subst}
 use Rattle.std.specs.Prelude.{◌==◌}
 use Rattle.std.specs.Int.{w64, to_le_bytes}
 use Rattle.std.specs.FinMap as finite
 use Rattle.std.proofs.lemmas.List.{append-nil}
 use Rattle.key_bytes.specs.Keys.{IsByteString}
 use Rattle.database_rules.specs.Databases.{Set, Clear}
-use Rattle.database_rules.specs.Histories.{Script, Entry, Wrote, HasRead, Setting}
+use Rattle.database_rules.specs.Histories.{Script, Wrote, HasRead, Setting}
 use Rattle.database_rules.specs.Reads.{Get, GetKeyRange, ValueIs, answer}
 use Rattle.database_rules.specs.Transactions.{Transaction, view}
 use Rattle.recipe_rules.specs.declared.Count.{Count}
 use Rattle.recipe_rules.specs.declared.fault.RecipeFault.{RecipeFault}
 use Rattle.recipe_rules.specs.Turns.{Call, ending, space_begin, space_end, turned_by, replying, writing}
 use Rattle.recipe_rules.specs.Multimaps.{pair_key, count_at, one_more, sets_count, add_call, there, lowers, subtract_call, key_space, counts_in, values_call}
-use Rattle.queue_laws.specs.Scripts.{IsElsewhere, IsLetThrough, script_after}
-use Rattle.queue_laws.specs.Counts.{Change, add_of, subtract_of, lowered, change_by, IsOfCounts, CountCallsGoOn}
+use Rattle.queue_laws.specs.Scripts.{IsLetThrough, script_after}
+use Rattle.queue_laws.specs.Counts.{Change, add_of, subtract_of, change_by, IsOfCounts, CountCallsGoOn}
 use Rattle.queue_laws.proofs.Calls.{read_alone, read_and_write, adds_behind}
 
 -- one script behind another

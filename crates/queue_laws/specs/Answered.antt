@@ -1,6 +1,6 @@
 -- What calls of the layers answered, over the commits: where a transaction that made one runs whole at its commit, the call is the one
 -- that it would be on the database that the commits before it left.
-use Rattle.std.specs.Prelude.{◌≡◌, ℕ, List, [], ◌++◌, Option, None, Ok}
+use Rattle.std.specs.Prelude.{◌≡◌, ℕ, List, [], ◌++◌, None, Ok}
 use Rattle.database_rules.specs.Databases.{Database}
 use Rattle.database_rules.specs.Histories.{Script, Setting, written}
 use Rattle.database_rules.specs.States.{seen}

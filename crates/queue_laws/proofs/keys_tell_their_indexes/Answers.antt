@@ -1,5 +1,5 @@
 use Rattle.recipe_rules.proofs.Indexes.{index_in_is, index_in_again}
-use Rattle.std.proofs.Common.{sym, ap, ◌∙◌}
+use Rattle.std.proofs.Common.{ap, ◌∙◌}
 use Rattle.recipe_rules.specs.Queues.{index_in}
 use Rattle.queue_laws.proofs.keys_tell_their_indexes.Goals as goal
 
