@@ -322,7 +322,8 @@ impl Store {
 
     /// Makes the versions below `oldest` unreadable, and leaves the others as they are. It drops the values that no readable
     /// version needs: of a store that notes changes by one step for each change up to `oldest` and one for each value that goes,
-    /// of another in a walk over all keys. What was reserved must be reserved again.
+    /// of another in a walk over all keys. It does nothing where `oldest` is no later than the oldest version. What was reserved must be
+    /// reserved again.
     pub fn prune(&mut self, oldest: u64)
         requires { oldest ≤ last_of self.old }
         ensures oldest { oldest_of self.new ≡ max (oldest_of self.old) oldest }
@@ -331,6 +332,9 @@ impl Store {
         ensures later { (version : ℕ) → later_of self.new version ≤ later_of self.old version }
         ensures few { HasFew self.new }
     {
+        if oldest <= self.oldest {
+            return;
+        }
         self.oldest = self.oldest.max(oldest);
         prune_values(&mut self.tree, &mut self.nodes, &mut self.dues, self.oldest);
     }

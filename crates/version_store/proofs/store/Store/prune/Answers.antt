@@ -1,4 +1,4 @@
-use Rattle.std.proofs.Common.{◌+◌, length, max, sym, ap, ◌∙◌, arith}
+use Rattle.std.proofs.Common.{◌+◌, length, max, sym, ap, subst, ◌∙◌, arith}
 use Rattle.version_store.specs.Versions.{at, last_of, later, later_of, nodes_of, oldest_of, HasFew}
 use Rattle.version_store.proofs.Bounds.{IsWeight-later, IsWeight-length}
 use Rattle.version_store.proofs.store.Store.prune.Goals as goal
@@ -43,3 +43,13 @@ unfolding at later_of nodes_of oldest_of HasFew
 returns-clause-few c =
     let store = c.self.inside in
     c.prune_values.ensures.few (store.oldest + 1) store.last (store.last + 1) c.self.invariant.0 c.self.invariant.5
+
+-- nothing is later than the oldest version that there is
+pub returns-then-oldest-self-clause-oldest : goal.returns-then-oldest-self-clause-oldest
+unfolding oldest_of
+returns-then-oldest-self-clause-oldest c =
+    let same = ap oldest_of c.self.view_is in grind (arith, same, c.if-oldest-self.true)
+
+pub returns-then-oldest-self-clause-few : goal.returns-then-oldest-self-clause-few
+unfolding at later_of nodes_of oldest_of HasFew
+returns-then-oldest-self-clause-few c = subst HasFew c.self.view_is c.self.invariant.6
