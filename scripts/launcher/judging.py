@@ -1,6 +1,6 @@
 """Judges the words of a call as the program does, before anything is built: which command they are, or what is wrong with them.
 
-`crates/command_rules/specs/Grammar.antt` has the grammar. `tests/launcher` compares the two on many lists of words.
+`crates/model_commands/specs/Grammar.antt` has the grammar. `tests/launcher` compares the two on many lists of words.
 """
 
 import difflib

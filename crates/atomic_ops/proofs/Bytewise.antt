@@ -3,7 +3,7 @@ use Rattle.std.proofs.Common.{◌≡◌, ℕ, ◌+◌, ◌<◌, ◌≤◌, List,
 use Rattle.std.specs.List.{zip}
 use Rattle.std.proofs.lemmas.List.{get_or-map, take_more, take_all, length-map}
 use Rattle.std.proofs.lemmas.Slice.Zip.{get_or-zip, length-zip}
-use Rattle.database_rules.specs.Atomics.{bytewise, fitted}
+use Rattle.model_database.specs.Atomics.{bytewise, fitted}
 use Rattle.atomic_ops.proofs.Fitted.{length-fitted, get_or-fitted}
 
 length-bytewise : (joined : ℕ → ℕ → ℕ) (old operand : List ℕ) → length (bytewise joined (fitted old operand) operand) ≡ length operand

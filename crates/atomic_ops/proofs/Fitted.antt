@@ -4,7 +4,7 @@ use Rattle.std.proofs.Math.Nat.{min_comm}
 use Rattle.std.proofs.lemmas.List.{take-take, take_min, take_all, get_or-replicate, length-replicate}
 use Rattle.std.proofs.lemmas.List.Elements.{All-take, All-append, All-replicate}
 use Rattle.key_bytes.specs.Keys.{IsByteString}
-use Rattle.database_rules.specs.Atomics.{fitted}
+use Rattle.model_database.specs.Atomics.{fitted}
 
 fitted-nil : (operand : List ℕ) → fitted [] operand ≡ replicate (length operand) 0
 unfolding fitted

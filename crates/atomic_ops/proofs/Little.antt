@@ -7,7 +7,7 @@ use Rattle.std.proofs.lemmas.Bool.{cases_order, lt-ltb, le-ltb}
 use Rattle.std.proofs.lemmas.List.Elements.{All-head, All-tail}
 use Rattle.key_bytes.specs.Keys.{IsByteString}
 use Rattle.key_bytes.specs.Numbers.{number_low}
-use Rattle.database_rules.specs.Atomics.{little_bytes, little_sum}
+use Rattle.model_database.specs.Atomics.{little_bytes, little_sum}
 
 pow_256_pos : (k : ℕ) → 0 < 256 ^ k
 pow_256_pos zero = omega arith

@@ -2,9 +2,9 @@
 use Rattle.std.proofs.Common.{◌≡◌, ◌≤◌, ℕ, zero, suc, ◌+◌, ◌-◌, ◌*◌, List, [], ◌∷◌, length, take, drop, refl, ap, ◌∙◌, length-drop, arith}
 use Rattle.std.proofs.lemmas.List.{take_all}
 use Rattle.key_bytes.specs.Numbers.{number_low}
-use Rattle.database_rules.specs.declared.StampForm.{StampForm}
-use Rattle.database_rules.specs.Atomics.{offset_size}
-use Rattle.database_rules.specs.States.{stamp_place}
+use Rattle.model_database.specs.declared.StampForm.{StampForm}
+use Rattle.model_database.specs.Atomics.{offset_size}
+use Rattle.model_database.specs.States.{stamp_place}
 use Rattle.byteorder.specs.Endian.{little_number}
 use Rattle.byteorder.specs.Numbers.{little_from-cons}
 

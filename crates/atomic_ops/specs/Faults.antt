@@ -1,7 +1,7 @@
 -- Why bytes got no versionstamp.
 use Rattle.std.specs.Prelude.{◌≡◌, ℕ, true, false, List}
-use Rattle.database_rules.specs.declared.StampForm.{StampForm}
-use Rattle.database_rules.specs.States.{has_room}
+use Rattle.model_database.specs.declared.StampForm.{StampForm}
+use Rattle.model_database.specs.States.{has_room}
 use Rattle.atomic_ops.specs.declared.fault.StampFault.{StampFault}
 use Rattle.atomic_ops.specs.declared.fault.StampFault.TheVariants.{NoRoom, NoMemory}
 

@@ -2,12 +2,12 @@
 
 ghost use Rattle.std.specs.Prelude.{◌≡◌, false, replicate, IfOk, option_map};
 ghost use Rattle.key_bytes.specs.Keys.{lesser, greater};
-ghost use Rattle.database_rules.specs.Atomics.{atom, atom_of_value, is_versionstamped, appended, cleared_where_equal};
+ghost use Rattle.model_database.specs.Atomics.{atom, atom_of_value, is_versionstamped, appended, cleared_where_equal};
 
 use crate::bits::{Joining, bytewise};
 use crate::numbers;
-use database_rules::{AtomicOp, VALUE_LIMIT};
 use key_bytes::{Bytes, is_below};
+use model_database::{AtomicOp, VALUE_LIMIT};
 use std::alloc::{AllocError, Global};
 
 /// Returns what an operation makes of the old value with its operand; None is no value.
@@ -15,7 +15,7 @@ use std::alloc::{AllocError, Global};
 /// Which it is stands in the API reference of release 6.3 ("fdb_transaction_atomic_op"); the two operations of API version
 /// 500 alone take an absent value for bytes of 00. The four operations with a versionstamp are no functions of the old
 /// value, and are not asked here. Memory is taken for the new value alone; the one error is that there is none.
-#[tactic(auto, unfolding(database_rules::specs::Atomics::atom))]
+#[tactic(auto, unfolding(model_database::specs::Atomics::atom))]
 pub fn apply(
     alloc: Global,
     op: AtomicOp,
@@ -86,7 +86,7 @@ fn greater<'a>(old: &'a [u8], operand: &'a [u8]) -> &'a [u8]
 }
 
 // The operand behind the old value, or the old value alone where the two have too many bytes.
-#[tactic(auto, unfolding(database_rules::specs::Atomics::appended))]
+#[tactic(auto, unfolding(model_database::specs::Atomics::appended))]
 fn appended(alloc: Global, old: &[u8], operand: &[u8]) -> Result<Bytes, AllocError>
     ensures { IfOk result (λ value. value ≡ appended old.now operand.now) }
 {
@@ -100,7 +100,7 @@ fn appended(alloc: Global, old: &[u8], operand: &[u8]) -> Result<Bytes, AllocErr
 }
 
 // No value where the old one is the operand, else the old one.
-#[tactic(auto, unfolding(database_rules::specs::Atomics::cleared_where_equal))]
+#[tactic(auto, unfolding(model_database::specs::Atomics::cleared_where_equal))]
 fn cleared_where_equal(
     alloc: Global,
     old: &[u8],

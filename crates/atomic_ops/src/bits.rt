@@ -1,7 +1,7 @@
 //! Old value and operand byte by byte.
 
 ghost use Rattle.std.specs.Prelude.{◌≡◌, IfOk};
-ghost use Rattle.database_rules.specs.Atomics.{fitted, bytewise};
+ghost use Rattle.model_database.specs.Atomics.{fitted, bytewise};
 ghost use Rattle.atomic_ops.specs.Joinings.{joined};
 
 use crate::fitting::byte_at;

@@ -1,7 +1,7 @@
 //! The old value as wide as the operand.
 
 ghost use Rattle.std.specs.Prelude.{◌≡◌, IfOk, slice_index};
-ghost use Rattle.database_rules.specs.Atomics.{fitted};
+ghost use Rattle.model_database.specs.Atomics.{fitted};
 
 use key_bytes::Bytes;
 use std::alloc::{AllocError, Global};

@@ -1,15 +1,15 @@
 //! The names of operations.
 
 ghost use Rattle.std.specs.Prelude.{◌≡◌};
-ghost use Rattle.database_rules.specs.Atomics.{atomic_named, named};
+ghost use Rattle.model_database.specs.Atomics.{atomic_named, named};
 
-use database_rules::{Api, AtomicOp};
+use model_database::{Api, AtomicOp};
 
 /// Returns the operation that a name of ATOMIC_OP (bindingApiTester.md) means under an API version.
 ///
 /// None exactly where the name is no operation's: AND, OR and XOR are names beside BIT_AND, BIT_OR and BIT_XOR. Under 500 five
 /// names mean the older form of their operation: BIT_AND, AND, MIN, SET_VERSIONSTAMPED_KEY and SET_VERSIONSTAMPED_VALUE.
-#[tactic(auto, unfolding(database_rules::specs::Atomics::atomic_named))]
+#[tactic(auto, unfolding(model_database::specs::Atomics::atomic_named))]
 pub fn from_name(name: &[u8], api: Api) -> Option<AtomicOp>
     ensures { result ≡ atomic_named api name.now }
 {
@@ -23,7 +23,7 @@ pub fn from_name(name: &[u8], api: Api) -> Option<AtomicOp>
 }
 
 // The operation of a name under API version 630.
-#[tactic(auto, unfolding(database_rules::specs::Atomics::named))]
+#[tactic(auto, unfolding(model_database::specs::Atomics::named))]
 fn named(name: &[u8]) -> Option<AtomicOp>
     ensures { result ≡ named name.now }
 {

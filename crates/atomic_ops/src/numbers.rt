@@ -2,7 +2,7 @@
 
 ghost use Rattle.std.specs.Prelude.{◌≡◌, IfOk, nat_lt};
 ghost use Rattle.key_bytes.specs.Numbers.{number_low};
-ghost use Rattle.database_rules.specs.Atomics.{fitted, little_sum, little_max, little_min};
+ghost use Rattle.model_database.specs.Atomics.{fitted, little_sum, little_max, little_min};
 
 use crate::fitting::{byte_at, fitted};
 use key_bytes::Bytes;
@@ -36,7 +36,7 @@ fn is_less(old: &[u8], operand: &[u8]) -> bool
 }
 
 // The greater of the two.
-#[tactic(auto, unfolding(database_rules::specs::Atomics::little_max))]
+#[tactic(auto, unfolding(model_database::specs::Atomics::little_max))]
 pub(crate) fn greater(alloc: Global, old: &[u8], operand: &[u8]) -> Result<Bytes, AllocError>
     ensures { IfOk result (λ value. value ≡ little_max (fitted old.now operand.now) operand.now) }
 {
@@ -48,7 +48,7 @@ pub(crate) fn greater(alloc: Global, old: &[u8], operand: &[u8]) -> Result<Bytes
 }
 
 // The lesser of the two.
-#[tactic(auto, unfolding(database_rules::specs::Atomics::little_min))]
+#[tactic(auto, unfolding(model_database::specs::Atomics::little_min))]
 pub(crate) fn lesser(alloc: Global, old: &[u8], operand: &[u8]) -> Result<Bytes, AllocError>
     ensures { IfOk result (λ value. value ≡ little_min (fitted old.now operand.now) operand.now) }
 {

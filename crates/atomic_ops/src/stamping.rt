@@ -1,14 +1,14 @@
 //! Bytes that get a versionstamp.
 
 ghost use Rattle.std.specs.Prelude.{◌≡◌, ◌^◌, ◌<◌, ◌≤◌, true, length, IfOk, IfErr};
-ghost use Rattle.database_rules.specs.Atomics.{offset_size};
-ghost use Rattle.database_rules.specs.States.{has_room, stamp_place, stamped};
+ghost use Rattle.model_database.specs.Atomics.{offset_size};
+ghost use Rattle.model_database.specs.States.{has_room, stamp_place, stamped};
 ghost use Rattle.atomic_ops.specs.Faults.{IsUnstamped};
 
 use crate::fault::StampFault;
 use byteorder::{ByteOrder, LittleEndian};
-use database_rules::StampForm;
 use key_bytes::Bytes;
+use model_database::StampForm;
 use std::alloc::{AllocError, Global};
 
 // The place that stamped bytes of a form give: the offset in which they end, the lowest byte first, or the front.
@@ -36,7 +36,7 @@ pub fn has_room(form: StampForm, bytes: &[u8]) -> bool
 
 /// Fills a versionstamp into stamped bytes that have room for one: returns what stands before their offset, with
 /// the ten bytes at the offset replaced by the stamp (API reference, "fdb_transaction_atomic_op").
-#[tactic(auto, unfolding(database_rules::specs::States::stamped))]
+#[tactic(auto, unfolding(model_database::specs::States::stamped))]
 pub fn stamped(
     alloc: Global,
     form: StampForm,

@@ -1,20 +1,20 @@
 -- How many commits a call makes.
 use Rattle.std.proofs.Common.{◌≡◌, ℕ, ◌≤◌, ◌⊎◌, inl, inr, Bool, true, false, cond, List, [], ◌∷◌, ◌++◌, length, Option, Some, None, refl, sym, ap, subst, ◌∙◌, arith}
-use Rattle.database_rules.specs.declared.Code.{Code}
+use Rattle.model_database.specs.declared.Code.{Code}
 use Rattle.fdb_calls.specs.declared.Reply.{Reply}
 use Rattle.fdb_calls.specs.declared.Reply.TheVariants as reply
 use Rattle.fdb_calls.specs.declared.TxnCall.{TxnCall}
 use Rattle.fdb_calls.specs.declared.TxnCall.TheVariants as call
-use Rattle.database_rules.specs.declared.AtomicOp.{AtomicOp}
-use Rattle.database_rules.specs.declared.Phase.{Phase}
-use Rattle.database_rules.specs.declared.Phase.TheVariants as phase
-use Rattle.database_rules.specs.Atomics.{atomic_named}
-use Rattle.database_rules.specs.Databases.{Mutation, Set, Clear, ClearRange}
-use Rattle.database_rules.specs.Histories.{Setting, Commit}
-use Rattle.database_rules.specs.Reads.{Read}
-use Rattle.database_rules.specs.Reads as read
-use Rattle.database_rules.specs.Modes.{lacks_limit}
-use Rattle.database_rules.specs.Transactions.{Transaction, fresh, first_failing, read_code, set_code, clear_code, range_code, atomic_code, phase_code, set_version_code, commit_code, conflict_checks, is_read_only, is_cancelled, is_retryable, with_version, late_checks}
+use Rattle.model_database.specs.declared.AtomicOp.{AtomicOp}
+use Rattle.model_database.specs.declared.Phase.{Phase}
+use Rattle.model_database.specs.declared.Phase.TheVariants as phase
+use Rattle.model_database.specs.Atomics.{atomic_named}
+use Rattle.model_database.specs.Databases.{Mutation, Set, Clear, ClearRange}
+use Rattle.model_database.specs.Histories.{Setting, Commit}
+use Rattle.model_database.specs.Reads.{Read}
+use Rattle.model_database.specs.Reads as read
+use Rattle.model_database.specs.Modes.{lacks_limit}
+use Rattle.model_database.specs.Transactions.{Transaction, fresh, first_failing, read_code, set_code, clear_code, range_code, atomic_code, phase_code, set_version_code, commit_code, conflict_checks, is_read_only, is_cancelled, is_retryable, with_version, late_checks}
 use Rattle.fdb_calls.specs.Calling.{Called, called, is_fault, in_turn, logs, set_called, read_by, read_at_version, read_called, write_by, atomic_by, does_by, commit_by, commit_allowed, commit_at_version, commit_refused, on_error_by, error_handled}
 
 -- it makes no commit

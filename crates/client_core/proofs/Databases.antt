@@ -6,11 +6,11 @@ use Rattle.fdb_calls.specs.declared.Outcome.{Outcome}
 use Rattle.fdb_calls.specs.declared.Reply.{Reply}
 use Rattle.fdb_calls.specs.declared.TxnCall.{TxnCall}
 use Rattle.fdb_calls.specs.declared.TxnCall.TheVariants as call
-use Rattle.database_rules.specs.Histories.{History, Setting, grown_by, last}
-use Rattle.database_rules.specs.Transactions.{Transaction, fresh, with_version}
+use Rattle.model_database.specs.Histories.{History, Setting, grown_by, last}
+use Rattle.model_database.specs.Transactions.{Transaction, fresh, with_version}
 use Rattle.fdb_calls.specs.Calling.{Called, called, is_fault}
 use Rattle.conflict_ranges.specs.Writes.{Index}
-use Rattle.machine_rules.specs.Worlds.{World, next_life, decide, with_lives, called_apart, commit_made, database_by, fresh_at_last}
+use Rattle.model_machine.specs.Worlds.{World, next_life, decide, with_lives, called_apart, commit_made, database_by, fresh_at_last}
 use Rattle.version_store.specs.Versions.{Versions, last_of}
 use Rattle.txn_core.specs.Stands as txn
 use Rattle.client_core.specs.Lives.{drawn_in, outcome_by}

@@ -2,12 +2,12 @@
 use Rattle.std.proofs.Common.{◌≡◌, ℕ, ◌≤◌, true, cond, List, [], ◌++◌, Some, sym, ap, subst, ◌∙◌}
 use Rattle.std.proofs.lemmas.List.{append-nil}
 use Rattle.std.specs.FinMap as finite
-use Rattle.database_rules.specs.Histories.{Commit, History, Setting, grown_by, last, low}
-use Rattle.database_rules.specs.Transactions.{fresh}
+use Rattle.model_database.specs.Histories.{Commit, History, Setting, grown_by, last, low}
+use Rattle.model_database.specs.Transactions.{fresh}
 use Rattle.fdb_calls.specs.Calling.{Called}
 use Rattle.conflict_ranges.specs.Writes.{above, newest_at, Index}
 use Rattle.version_store.specs.Versions.{Versions}
-use Rattle.machine_rules.specs.Worlds.{World, next_life, transaction_of}
+use Rattle.model_machine.specs.Worlds.{World, next_life, transaction_of}
 use Rattle.txn_core.specs.declared.answer.Answer.{Answer}
 use Rattle.txn_core.specs.Stands as txn
 use Rattle.client_core.specs.Sound.{IsSound, StillKeeps, StillKeepsOf}

@@ -3,21 +3,21 @@ use Rattle.std.proofs.Common.{◌≡◌, ℕ, true, false, cond, List, [], ◌++
 use Rattle.std.proofs.lemmas.List.{append-nil}
 use Rattle.std.specs.Prelude.{is_some}
 use Rattle.std.specs.FinMap as finite
-use Rattle.database_rules.specs.Histories.{History, Setting}
-use Rattle.database_rules.specs.Transactions.{Transaction, fresh}
+use Rattle.model_database.specs.Histories.{History, Setting}
+use Rattle.model_database.specs.Transactions.{Transaction, fresh}
 use Rattle.directory_types.specs.declared.DirArgs.{DirArgs}
 use Rattle.directory_types.specs.declared.DirKind.{DirKind}
 use Rattle.directory_types.specs.declared.DirReply.{DirReply}
 use Rattle.directory_types.specs.declared.fault.DirFault.{DirFault}
 use Rattle.directory_types.specs.declared.Layer.{Layer}
-use Rattle.directory_rules.specs.Calls.{effect}
-use Rattle.directory_rules.specs.Courses.{Reached}
+use Rattle.model_directory.specs.Calls.{effect}
+use Rattle.model_directory.specs.Courses.{Reached}
 use Rattle.directory.specs.Runs.{AnswersBy, IsAnswered}
 use Rattle.fdb_calls.specs.declared.Outcome.{Outcome}
 use Rattle.fdb_calls.specs.declared.Reply.{Reply}
 use Rattle.conflict_ranges.specs.Writes.{Index}
-use Rattle.machine_rules.specs.Worlds.{World, HasWords, decide, with_lives, transaction_of, fresh_at_last, next_life, with_new, with_named, called_apart, commit_made}
-use Rattle.machine_rules.specs.Worlds.{with_drawn, directory_called, directory_reply, directory_named, directory_alone, refusing}
+use Rattle.model_machine.specs.Worlds.{World, HasWords, decide, with_lives, transaction_of, fresh_at_last, next_life, with_new, with_named, called_apart, commit_made}
+use Rattle.model_machine.specs.Worlds.{with_drawn, directory_called, directory_reply, directory_named, directory_alone, refusing}
 use Rattle.version_store.specs.Versions.{Versions}
 use Rattle.txn_core.specs.Stands as txn
 use Rattle.client_core.specs.Directories.{Reaches, RepliesTo}

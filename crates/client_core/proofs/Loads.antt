@@ -2,14 +2,14 @@
 use Rattle.std.proofs.Common.{◌≡◌, ℕ, zero, suc, ◌≤◌, List, [], ◌∷◌, Option, None, sym, ap, subst, arith}
 use Rattle.std.specs.FinMap as finite
 use Rattle.key_bytes.specs.Keys.{key_cmp}
-use Rattle.database_rules.specs.Databases.{do_all}
-use Rattle.database_rules.specs.Histories.{loaded, lowest, at}
+use Rattle.model_database.specs.Databases.{do_all}
+use Rattle.model_database.specs.Histories.{loaded, lowest, at}
 use Rattle.conflict_ranges.specs.Writes.{above, newest_at, Index}
 use Rattle.version_store.specs.Versions as versions
 use Rattle.version_store.specs.Versions.{Versions, last_of, oldest_of}
-use Rattle.database_rules.specs.Transactions.{Transaction}
-use Rattle.command_rules.specs.declared.args.RunArgs.{RunArgs}
-use Rattle.machine_rules.specs.Worlds.{begun, database_options, setting_of}
+use Rattle.model_database.specs.Transactions.{Transaction}
+use Rattle.model_commands.specs.declared.args.RunArgs.{RunArgs}
+use Rattle.model_machine.specs.Worlds.{begun, database_options, setting_of}
 use Rattle.txn_core.specs.Stands.{Kept, Keeps}
 use Rattle.client_core.specs.Stands.{ContentsModel, KeptTransactions, KeepsWorld, AreAlike}
 

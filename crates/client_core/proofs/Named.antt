@@ -8,10 +8,10 @@ use Rattle.std.specs.Cmp.Lexicographic.{nat_list_cmp_total}
 use Rattle.fdb_calls.specs.declared.Reply.{Reply}
 use Rattle.fdb_calls.specs.declared.TxnCall.{TxnCall}
 use Rattle.key_bytes.specs.Keys.{key_cmp}
-use Rattle.database_rules.specs.Transactions.{Transaction, fresh}
+use Rattle.model_database.specs.Transactions.{Transaction, fresh}
 use Rattle.fdb_calls.specs.declared.Outcome.{Outcome}
 use Rattle.fdb_calls.specs.Calling.{called}
-use Rattle.machine_rules.specs.Worlds.{World, Transactions, next_life, decide, with_lives, transaction_of, call_named, with_new, with_named}
+use Rattle.model_machine.specs.Worlds.{World, Transactions, next_life, decide, with_lives, transaction_of, call_named, with_new, with_named}
 use Rattle.conflict_ranges.specs.Writes.{Index}
 use Rattle.version_store.specs.Versions.{Versions}
 use Rattle.txn_core.specs.Stands as txn

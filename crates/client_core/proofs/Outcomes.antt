@@ -1,9 +1,9 @@
 -- What became of lives.
 use Rattle.std.proofs.Common.{◌≡◌, ℕ, List, Option, Some, None, ap, ◌∙◌}
 use Rattle.std.specs.Prelude.{option_map, unwrap_or}
-use Rattle.database_rules.specs.Transactions.{Transaction, fresh}
+use Rattle.model_database.specs.Transactions.{Transaction, fresh}
 use Rattle.fdb_calls.specs.declared.Outcome.{Outcome}
-use Rattle.machine_rules.specs.Worlds.{decide, with_lives, lives_after}
+use Rattle.model_machine.specs.Worlds.{decide, with_lives, lives_after}
 use Rattle.txn_core.specs.Stands as txn
 use Rattle.client_core.specs.Stands.{AreAlike}
 use Rattle.client_core.specs.Lives.{outcome_by}

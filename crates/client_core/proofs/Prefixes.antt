@@ -7,9 +7,9 @@ use Rattle.std.proofs.lemmas.Bool.Decides.{nat_tests}
 use Rattle.key_bytes.specs.Keys.{begins_with, key_cmp, key_le, key_lt}
 use Rattle.key_bytes.proofs.Orders.{above_not_below, head_ge, lt_rest}
 use Rattle.key_map.specs.Ends.{first}
-use Rattle.database_rules.specs.Databases.{Database}
-use Rattle.database_rules.specs.Slices.{Entries}
-use Rattle.machine_rules.specs.Worlds.{has_key_with}
+use Rattle.model_database.specs.Databases.{Database}
+use Rattle.model_database.specs.Slices.{Entries}
+use Rattle.model_machine.specs.Worlds.{has_key_with}
 use Rattle.version_store.specs.Versions.{Versions, IsFaultAt, last_of, oldest_of}
 use Rattle.version_store.specs.declared.fault.VersionFault.{VersionFault}
 use Rattle.version_store.specs.declared.fault.VersionFault.TheVariants.{TooOld, Future}

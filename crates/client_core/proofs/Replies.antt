@@ -1,23 +1,23 @@
 -- The reply of each step fits its request, and none says that memory ran out.
 use Rattle.std.proofs.Common.{◌≡◌, ℕ, Bool, true, false, cond, List, [], ◌∷◌, ◌++◌, length, Option, Some, None, Result, Ok, Err, refl, slice_index_or}
 use Rattle.std.specs.Prelude.{nat_lt}
-use Rattle.database_rules.specs.declared.Code.{Code}
-use Rattle.database_rules.specs.declared.AtomicOp.{AtomicOp}
-use Rattle.database_rules.specs.declared.Phase.{Phase}
-use Rattle.database_rules.specs.declared.Phase.TheVariants as phase
-use Rattle.database_rules.specs.Atomics.{atomic_named}
-use Rattle.database_rules.specs.Databases.{Database, Mutation, Set, Clear, ClearRange}
-use Rattle.database_rules.specs.Histories.{Setting}
-use Rattle.database_rules.specs.Modes.{lacks_limit}
-use Rattle.database_rules.specs.Reads.{Read, Answer, answer}
-use Rattle.database_rules.specs.Reads as read
-use Rattle.database_rules.specs.Transactions.{Transaction, first_failing, read_code, set_code, clear_code, range_code, atomic_code, phase_code, set_version_code, commit_code, conflict_checks, is_read_only, is_cancelled, is_retryable, with_version, late_checks, view}
+use Rattle.model_database.specs.declared.Code.{Code}
+use Rattle.model_database.specs.declared.AtomicOp.{AtomicOp}
+use Rattle.model_database.specs.declared.Phase.{Phase}
+use Rattle.model_database.specs.declared.Phase.TheVariants as phase
+use Rattle.model_database.specs.Atomics.{atomic_named}
+use Rattle.model_database.specs.Databases.{Database, Mutation, Set, Clear, ClearRange}
+use Rattle.model_database.specs.Histories.{Setting}
+use Rattle.model_database.specs.Modes.{lacks_limit}
+use Rattle.model_database.specs.Reads.{Read, Answer, answer}
+use Rattle.model_database.specs.Reads as read
+use Rattle.model_database.specs.Transactions.{Transaction, first_failing, read_code, set_code, clear_code, range_code, atomic_code, phase_code, set_version_code, commit_code, conflict_checks, is_read_only, is_cancelled, is_retryable, with_version, late_checks, view}
 use Rattle.directory_types.specs.declared.DirArgs.{DirArgs}
 use Rattle.directory_types.specs.declared.DirKind.{DirKind}
 use Rattle.directory_types.specs.declared.DirReply.{DirReply}
 use Rattle.directory_types.specs.declared.fault.DirFault.{DirFault}
 use Rattle.directory_types.specs.declared.Layer.{Layer}
-use Rattle.directory_rules.specs.Calls.{effect}
+use Rattle.model_directory.specs.Calls.{effect}
 use Rattle.fdb_calls.specs.declared.Outcome.{Outcome}
 use Rattle.fdb_calls.specs.declared.Outcome.TheVariants as outcome
 use Rattle.fdb_calls.specs.declared.Reply.{Reply}
@@ -27,8 +27,8 @@ use Rattle.fdb_calls.specs.declared.Request.TheVariants as request
 use Rattle.fdb_calls.specs.declared.TxnCall.{TxnCall}
 use Rattle.fdb_calls.specs.declared.TxnCall.TheVariants as call
 use Rattle.fdb_calls.specs.Calling.{Called, called, code_of, is_fault, in_turn, logs, set_called, reply_of, read_by, read_at_version, read_called, write_by, atomic_by, does_by, commit_by, commit_allowed, commit_at_version, commit_refused, on_error_by, error_handled}
-use Rattle.machine_rules.specs.declared.TheConstants.{MACHINES}
-use Rattle.machine_rules.specs.Worlds.{World, next_life, newest, has_key_with, transaction_of, with_named, fresh_at_last, called_apart, database_by, and_commit, directory_reply, directory_called, directory_step, refusing, with_drawn, promised, start_by, step}
+use Rattle.model_machine.specs.declared.TheConstants.{MACHINES}
+use Rattle.model_machine.specs.Worlds.{World, next_life, newest, has_key_with, transaction_of, with_named, fresh_at_last, called_apart, database_by, and_commit, directory_reply, directory_called, directory_step, refusing, with_drawn, promised, start_by, step}
 use Rattle.client_core.specs.Lives.{drawn_in}
 use Rattle.client_core.specs.Kinds.{tells_value, tells_pairs, fits_call, fits}
 use Rattle.client_core.specs.Stands.{is_no_memory}

@@ -8,24 +8,24 @@ use Rattle.fdb_calls.specs.declared.Reply.TheVariants as reply
 use Rattle.fdb_calls.specs.declared.Request.{Request}
 use Rattle.fdb_calls.specs.declared.Request.TheVariants as request
 use Rattle.fdb_calls.specs.declared.TxnCall.TheVariants as call
-use Rattle.database_rules.specs.Histories.{Commit, last}
-use Rattle.database_rules.specs.Transactions.{Transaction}
+use Rattle.model_database.specs.Histories.{Commit, last}
+use Rattle.model_database.specs.Transactions.{Transaction}
 use Rattle.fdb_calls.specs.Calling.{Called, called, is_fault, in_turn, logs}
 use Rattle.version_store.specs.Versions as versions
 use Rattle.version_store.specs.Versions.{last_of}
-use Rattle.machine_rules.specs.Worlds.{World, HasWords, newest, Stepped, next_life, with_new, transaction_of, call_named, fresh_at_last, called_apart, database_by, and_commit, start_by, step}
-use Rattle.machine_rules.specs.Worlds.{with_drawn, directory_called, directory_named, directory_step}
+use Rattle.model_machine.specs.Worlds.{World, HasWords, newest, Stepped, next_life, with_new, transaction_of, call_named, fresh_at_last, called_apart, database_by, and_commit, start_by, step}
+use Rattle.model_machine.specs.Worlds.{with_drawn, directory_called, directory_named, directory_step}
 use Rattle.directory_types.specs.declared.DirArgs.{DirArgs}
 use Rattle.directory_types.specs.declared.DirKind.{DirKind}
 use Rattle.directory_types.specs.declared.Layer.{Layer}
-use Rattle.directory_rules.specs.Calls.{effect}
+use Rattle.model_directory.specs.Calls.{effect}
 use Rattle.txn_calls.proofs.Stored.{low_inside}
 use Rattle.client_core.specs.Stands.{ContentsModel, CoreModel, HasStarted, KeepsWorld, StandsFor, Answers, contents_in, is_no_memory}
 use Rattle.client_core.specs.Sound.{IsSound, Took, TookDrawing, TookWhole}
 use Rattle.client_core.specs.Lives.{drawn_in}
 use Rattle.client_core.specs.Contents.{IsOnDatabase, TookStart}
-use Rattle.machine_rules.specs.Runs.{start_prefix}
-use Rattle.machine_rules.specs.declared.TheConstants.{MACHINES}
+use Rattle.model_machine.specs.Runs.{start_prefix}
+use Rattle.model_machine.specs.declared.TheConstants.{MACHINES}
 use Rattle.client_core.proofs.Calls.{few_commits, first_commits, commit_commits, logs_in_place}
 use Rattle.client_core.specs.Kinds.{fits}
 use Rattle.client_core.proofs.Replies.{step_fits, step_speaks}

@@ -4,8 +4,8 @@ use Rattle.key_bytes.specs.Keys.{begins_with}
 use Rattle.fdb_calls.specs.declared.Request.{Request}
 use Rattle.fdb_calls.specs.declared.Request.TheVariants as request
 use Rattle.fdb_calls.specs.declared.Reply.{Reply}
-use Rattle.machine_rules.specs.declared.TheConstants.{MACHINES}
-use Rattle.machine_rules.specs.Worlds.{Stepped}
+use Rattle.model_machine.specs.declared.TheConstants.{MACHINES}
+use Rattle.model_machine.specs.Worlds.{Stepped}
 use Rattle.client_core.specs.declared.contents.Contents.{Contents}
 use Rattle.client_core.specs.Stands.{ContentsModel, CoreModel}
 

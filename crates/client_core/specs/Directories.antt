@@ -2,11 +2,11 @@
 use Rattle.std.specs.Prelude.{◌≡◌, ℕ, ◌+◌, false, Result, Ok, Err}
 use Rattle.directory_types.specs.declared.DirReply.{DirReply}
 use Rattle.directory_types.specs.declared.fault.DirFault.{DirFault}
-use Rattle.directory_rules.specs.Courses.{Reached}
+use Rattle.model_directory.specs.Courses.{Reached}
 use Rattle.directory.specs.Runs.{is_short}
 use Rattle.fdb_calls.specs.declared.Reply.{Reply}
 use Rattle.fdb_calls.specs.declared.Reply.TheVariants as reply
-use Rattle.machine_rules.specs.Worlds.{directory_reply}
+use Rattle.model_machine.specs.Worlds.{directory_reply}
 use Rattle.txn_core.specs.Stands as txn
 
 -- a call is replied to as it was answered; want of memory has no reply

@@ -1,13 +1,13 @@
 -- What becomes of a life, by what the code keeps.
 use Rattle.std.specs.Prelude.{ℕ, ◌==◌, if◌then◌else◌, List, Option, Some, option_map, unwrap_or}
 use Rattle.std.specs.FinMap as finite
-use Rattle.database_rules.specs.declared.Phase.{Phase}
-use Rattle.database_rules.specs.declared.TheConstants.{TRANSACTION_CANCELLED}
+use Rattle.model_database.specs.declared.Phase.{Phase}
+use Rattle.model_database.specs.declared.TheConstants.{TRANSACTION_CANCELLED}
 use Rattle.fdb_calls.specs.Calling.{code_of}
 use Rattle.fdb_calls.specs.declared.Outcome.{Outcome}
 use Rattle.fdb_calls.specs.declared.Outcome.TheVariants as outcome
 use Rattle.fdb_calls.specs.Outcomes.{outcome_of}
-use Rattle.machine_rules.specs.Worlds.{World, with_lives}
+use Rattle.model_machine.specs.Worlds.{World, with_lives}
 use Rattle.client_core.specs.Stands.{KeptTransactions}
 
 -- by the number and the phase of the life that stands in its place

@@ -6,11 +6,11 @@ use Rattle.fdb_calls.specs.declared.Reply.{Reply}
 use Rattle.fdb_calls.specs.declared.Reply.TheVariants as reply
 use Rattle.fdb_calls.specs.declared.TxnCall.{TxnCall}
 use Rattle.fdb_calls.specs.declared.Outcome.{Outcome}
-use Rattle.database_rules.specs.declared.options.DatabaseOptions.{DatabaseOptions}
-use Rattle.database_rules.specs.Histories.{Setting, last}
-use Rattle.database_rules.specs.Transactions.{Transaction}
+use Rattle.model_database.specs.declared.options.DatabaseOptions.{DatabaseOptions}
+use Rattle.model_database.specs.Histories.{Setting, last}
+use Rattle.model_database.specs.Transactions.{Transaction}
 use Rattle.fdb_calls.specs.Calling.{Called, called}
-use Rattle.machine_rules.specs.Worlds.{World, Stepped, HasWords, called_apart, decide, with_lives}
+use Rattle.model_machine.specs.Worlds.{World, Stepped, HasWords, called_apart, decide, with_lives}
 use Rattle.conflict_ranges.specs.Writes.{Index}
 use Rattle.version_store.specs.Versions.{Versions}
 use Rattle.txn_core.specs.Stands as txn

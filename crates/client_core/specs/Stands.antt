@@ -5,11 +5,11 @@ use Rattle.fdb_calls.specs.declared.Outcome.{Outcome}
 use Rattle.fdb_calls.specs.declared.Reply.{Reply}
 use Rattle.fdb_calls.specs.declared.Reply.TheVariants as reply
 use Rattle.key_bytes.specs.Keys.{key_cmp}
-use Rattle.database_rules.specs.declared.options.DatabaseOptions.{DatabaseOptions}
-use Rattle.database_rules.specs.Histories.{Setting}
-use Rattle.database_rules.specs.Transactions.{Transaction}
-use Rattle.machine_rules.specs.Worlds.{World, Stepped, HasWords}
-use Rattle.machine_rules.specs.declared.TheConstants.{MACHINES}
+use Rattle.model_database.specs.declared.options.DatabaseOptions.{DatabaseOptions}
+use Rattle.model_database.specs.Histories.{Setting}
+use Rattle.model_database.specs.Transactions.{Transaction}
+use Rattle.model_machine.specs.Worlds.{World, Stepped, HasWords}
+use Rattle.model_machine.specs.declared.TheConstants.{MACHINES}
 use Rattle.conflict_ranges.specs.Writes.{Index}
 use Rattle.version_store.specs.Versions.{Versions}
 use Rattle.txn_core.specs.Stands as txn

@@ -3,11 +3,11 @@
 ghost use Rattle.std.specs.Prelude.{◌≡◌, ◌+◌, ◌<◌, ◌^◌, ◌∷◌, [], None, unwrap_or, option_map, if◌then◌else◌, length, slice_index_or, IsSome, IfOk, OnOk, OnErr};
 ghost use Rattle.std.specs.FinMap as finite;
 ghost use Rattle.std.specs.Map.Iter.{deref_pair};
-ghost use Rattle.database_rules.specs.Transactions.{Transaction};
+ghost use Rattle.model_database.specs.Transactions.{Transaction};
 ghost use Rattle.fdb_calls.specs.declared.Request.TheVariants.{Database, Log};
 ghost use Rattle.fdb_calls.specs.declared.Reply.TheVariants.{Done, Empty, NotYet};
 ghost use Rattle.fdb_calls.specs.Calling.{Called, called, is_fault};
-ghost use Rattle.machine_rules.specs.Worlds.{World, with_new, with_named, call_named, commit_made, fresh_at_last, has_key_with, next_life, promised, step};
+ghost use Rattle.model_machine.specs.Worlds.{World, with_new, with_named, call_named, commit_made, fresh_at_last, has_key_with, next_life, promised, step};
 ghost use Rattle.client_core.specs.Lives.{drawn_in, life_of};
 ghost use Rattle.version_store.specs.Versions.{at, last_of};
 ghost use Rattle.client_core.specs.Stands.{KeepsWorld};
@@ -17,10 +17,10 @@ ghost use Rattle.client_core.specs.Contents.{first_begins, model_of};
 
 use crate::lives::{Lives, outcome_after};
 use conflict_ranges::WriteIndex;
-use database_rules::DatabaseOptions;
 use fdb_calls::{Outcome, Reply, TrFault, TxnCall};
 use key_bytes::{Bytes, Key, Pairs};
 use key_map::KeyMap;
+use model_database::DatabaseOptions;
 use std::alloc::{AllocError, Global};
 use txn_core::Txn;
 use version_store::Store;

@@ -2,11 +2,11 @@
 
 ghost use Rattle.std.specs.Prelude.{◌≡◌, ◌^◌, IfOk, OnErr, IsSome};
 ghost use Rattle.std.specs.FinMap as finite;
-ghost use Rattle.database_rules.specs.Histories.{Setting};
-ghost use Rattle.database_rules.specs.Transactions.{Transaction};
-ghost use Rattle.directory_rules.specs.Calls.{effect};
+ghost use Rattle.model_database.specs.Histories.{Setting};
+ghost use Rattle.model_database.specs.Transactions.{Transaction};
+ghost use Rattle.model_directory.specs.Calls.{effect};
 ghost use Rattle.directory.specs.Runs.{IsAnswered};
-ghost use Rattle.machine_rules.specs.Worlds.{World, HasWords, directory_alone, directory_named, directory_step, refusing, with_named};
+ghost use Rattle.model_machine.specs.Worlds.{World, HasWords, directory_alone, directory_named, directory_step, refusing, with_named};
 ghost use Rattle.txn_core.specs.Stands.{StandsFor, Keeps};
 ghost use Rattle.client_core.specs.Contents.{model_of};
 ghost use Rattle.client_core.specs.Directories.{Reaches, RepliesTo};

@@ -1,11 +1,11 @@
 //! What became of each life that was drawn.
 
 ghost use Rattle.std.specs.Prelude.{◌≡◌, [], List, None, Option, length, slice_index_or, true, if◌then◌else◌, OnOk, OnErr};
-ghost use Rattle.machine_rules.specs.Worlds.{decide, with_lives};
+ghost use Rattle.model_machine.specs.Worlds.{decide, with_lives};
 ghost use Rattle.client_core.specs.Lives.{outcome_by};
 
-use database_rules::{Code, TRANSACTION_CANCELLED};
 use fdb_calls::Outcome;
+use model_database::{Code, TRANSACTION_CANCELLED};
 use std::alloc::{AllocError, Global};
 use std::marker::Model;
 use txn_core::Txn;

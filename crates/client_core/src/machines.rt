@@ -1,8 +1,8 @@
 //! The machines that were started.
 
 ghost use Rattle.std.specs.Prelude.{◌≡◌, ◌∷◌, ◌++◌, [], Some, length, nat_lt, IfOk};
-ghost use Rattle.machine_rules.specs.declared.TheConstants.{MACHINES as MOST};
-ghost use Rattle.machine_rules.specs.Worlds.{World, instruction_pairs, packed_prefix, start_by};
+ghost use Rattle.model_machine.specs.declared.TheConstants.{MACHINES as MOST};
+ghost use Rattle.model_machine.specs.Worlds.{World, instruction_pairs, packed_prefix, start_by};
 ghost use Rattle.std.specs.Map.{values_of};
 ghost use Rattle.version_store.specs.Versions.{at, last_of};
 ghost use Rattle.client_core.specs.Contents.{model_of, Starts, TookStart};
@@ -12,7 +12,7 @@ use crate::contents::Contents;
 use fdb_calls::Reply;
 use fdb_tuple::{Elem, pack_element};
 use key_bytes::{Bytes, Key, Pairs};
-use machine_rules::MACHINES;
+use model_machine::MACHINES;
 use std::alloc::{AllocError, Global};
 use std::marker::Model;
 use version_store::{PairsLeft, Store};

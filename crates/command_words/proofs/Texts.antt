@@ -1,7 +1,7 @@
 -- One word more as a text.
 use Rattle.std.proofs.Common.{◌≡◌, ◌∙◌, ◌<◌, ℕ, ◌+◌, List, [], ◌∷◌, ◌++◌, map, length, get_or, take, Bor, IsUtf8, ap, ap₂, sym, subst}
 use Rattle.std.proofs.lemmas.List.{map-append, take_more}
-use Rattle.command_laws.specs.Found.{EachUtf8}
+use Rattle.laws_commands.specs.Found.{EachUtf8}
 
 abbrev texts_of : List (Bor (List ℕ)) → List (List ℕ)
 texts_of = map (λ text. text.now)

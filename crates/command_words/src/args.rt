@@ -1,7 +1,7 @@
 //! The words of the command line.
 
 ghost use Rattle.std.specs.Prelude.{◌≡◌, ◌==◌, ◌<◌, [], ◌∷◌, ◌++◌, Some, length, map, slice_get, IfOk, OnOk, OnErr};
-ghost use Rattle.command_laws.specs.Found.{EachUtf8};
+ghost use Rattle.laws_commands.specs.Found.{EachUtf8};
 
 use fdb_tuple::Text;
 use std::alloc::{AllocError, Global};

@@ -4,7 +4,7 @@ ghost use Rattle.std.specs.Prelude.{◌≡◌, IfOk, Some, false};
 ghost use Rattle.clap.specs.Walk.{rule_of};
 ghost use Rattle.clap.specs.Simple.{app_of, new_rule};
 ghost use Rattle.clap.specs.declared.Command.TheViews.{out-Command};
-ghost use Rattle.command_laws.specs.Program.{bare_app, gen_app, positional_app, positional_rule, program, run_app, run_program, watch_program};
+ghost use Rattle.laws_commands.specs.Program.{bare_app, gen_app, positional_app, positional_rule, program, run_app, run_program, watch_program};
 
 use clap::{Arg, Command};
 use std::alloc::{AllocError, Global};

@@ -6,17 +6,17 @@ ghost use Rattle.clap.specs.Matches.{found_of};
 ghost use Rattle.clap.specs.Walk.{rows_of};
 ghost use Rattle.clap.specs.Simple.{subcommand_rows_of};
 ghost use Rattle.clap.specs.declared.error.kind.ErrorKind.TheVariants.{OutOfMemory};
-ghost use Rattle.command_rules.specs.Grammar.{api_in, args_of, number_given, number_in, prefix_and_api_in, window_given};
-ghost use Rattle.command_laws.specs.Found.{asked_by, asked_in, is_marked, listed, workers_asked_in};
+ghost use Rattle.model_commands.specs.Grammar.{api_in, args_of, number_given, number_in, prefix_and_api_in, window_given};
+ghost use Rattle.laws_commands.specs.Found.{asked_by, asked_in, is_marked, listed, workers_asked_in};
 
 use crate::args::ArgWords;
 use crate::command::program;
 use crate::fault::ArgFault;
 use clap::error::ErrorKind;
 use clap::{ArgMatches, Error};
-use command_rules::{Args, RunArgs};
-use database_rules::Api;
 use key_bytes::Bytes;
+use model_commands::{Args, RunArgs};
+use model_database::Api;
 use std::alloc::Global;
 
 // The longest prefix, in bytes.

@@ -5,7 +5,7 @@ use Rattle.std.specs.Result.{OnOk, OnErr}
 use Rattle.std.specs.declared.result.Result.{Result}
 use Rattle.std.specs.declared.result.Result.TheVariants.{Ok, Err}
 use Rattle.key_bytes.specs.declared.range.KeyRange.{KeyRange}
-use Rattle.database_rules.specs.States.{covers}
+use Rattle.model_database.specs.States.{covers}
 use Rattle.range_map.specs.Boundaries.{Boundaries, held}
 use Rattle.conflict_ranges.specs.declared.membership.Membership.{Membership}
 use Rattle.conflict_ranges.specs.Segments.{ranges_of, IsSound}

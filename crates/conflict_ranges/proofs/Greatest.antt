@@ -4,7 +4,7 @@ use Rattle.std.proofs.lemmas.Bool.{cases_lt}
 use Rattle.std.specs.List.{filter}
 use Rattle.key_bytes.specs.Keys.{key_lt, within}
 use Rattle.key_bytes.proofs.Orders.{above_not_below, irreflexive, le_lt}
-use Rattle.database_rules.specs.States.{range_from}
+use Rattle.model_database.specs.States.{range_from}
 use Rattle.range_map.specs.Boundaries.{Boundaries, held, held_from}
 use Rattle.range_map.proofs.Held.{IsBelow, IsRising, below_lower, held_past, rising_below, rising_rest}
 use Rattle.conflict_ranges.proofs.Between.{from_within, is_within}

@@ -6,7 +6,7 @@ use Rattle.key_bytes.specs.declared.range.KeyRange.{KeyRange}
 use Rattle.key_bytes.specs.Keys.{key_lt, lesser, greater}
 use Rattle.key_bytes.specs.Ranges.{has, meets}
 use Rattle.key_bytes.proofs.Orders.{irreflexive, above_not_below, le_lt, lt_le, lt_trans}
-use Rattle.database_rules.specs.States.{covers}
+use Rattle.model_database.specs.States.{covers}
 use Rattle.conflict_ranges.proofs.Between.{from_within, is_within}
 
 -- two tests of which each passes where the other does

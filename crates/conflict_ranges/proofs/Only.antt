@@ -4,7 +4,7 @@ use Rattle.key_bytes.specs.declared.range.KeyRange.{KeyRange}
 use Rattle.key_bytes.specs.Ranges.{has}
 use Rattle.key_bytes.specs.Keys.{key_lt}
 use Rattle.key_bytes.proofs.Orders.{lt_le}
-use Rattle.database_rules.specs.States.{covers}
+use Rattle.model_database.specs.States.{covers}
 use Rattle.conflict_ranges.specs.Only.{only_or}
 use Rattle.conflict_ranges.proofs.Between.{from_within, is_within, le_le}
 

@@ -4,7 +4,7 @@ use Rattle.std.specs.FinMap as finite
 use Rattle.key_bytes.specs.declared.range.KeyRange.{KeyRange}
 use Rattle.key_bytes.specs.Keys.{within}
 use Rattle.key_bytes.specs.Ranges.{has}
-use Rattle.database_rules.specs.States.{covers, range_from}
+use Rattle.model_database.specs.States.{covers, range_from}
 use Rattle.range_map.specs.Boundaries.{Boundaries}
 use Rattle.conflict_ranges.specs.Ends.{IsSplitAt}
 use Rattle.conflict_ranges.specs.Generations.{version_at, version_in, LastWrites, IsBounded, Keeps, KeepsRoom, GoesAlone, GoesAsRange, HasRoomFor, IsReadyFor, with_version}

@@ -11,7 +11,7 @@ use Rattle.std.specs.Map.{keys_of, lookup}
 use Rattle.key_bytes.specs.Keys.{key_cmp, key_lt, key_le, within}
 use Rattle.key_bytes.proofs.Orders.{irreflexive, above_not_below, le_lt, lt_le, lt_trans}
 use Rattle.key_map.specs.Ends.{first}
-use Rattle.database_rules.specs.States.{covers, range_from}
+use Rattle.model_database.specs.States.{covers, range_from}
 use Rattle.range_map.specs.Boundaries.{Boundaries, held, held_from, boundaries_of}
 use Rattle.range_map.proofs.Held.{IsBelow, IsRising, is_among, rising_below, rising_rest, below_lower}
 use Rattle.conflict_ranges.specs.declared.membership.Membership.{Membership}

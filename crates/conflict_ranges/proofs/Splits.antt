@@ -9,7 +9,7 @@ use Rattle.std.specs.declared.cmp.Ordering.TheVariants.{Less, Equal, Greater}
 use Rattle.key_bytes.specs.declared.range.KeyRange.{KeyRange}
 use Rattle.key_bytes.specs.Keys.{key_cmp, within}
 use Rattle.key_bytes.specs.Ranges.{has}
-use Rattle.database_rules.specs.States.{covers}
+use Rattle.model_database.specs.States.{covers}
 use Rattle.range_map.specs.Boundaries.{Boundaries, held, boundaries_of, is_boundary, with_boundary, split_at, split_both, changed, changed_entries}
 use Rattle.range_map.proofs.Bounded.{begin_made, end_made, boundary_kept, boundary_changed}
 use Rattle.range_map.proofs.Held.{IsRising, held-with_boundary, held-changed}

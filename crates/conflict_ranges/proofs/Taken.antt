@@ -7,7 +7,7 @@ use Rattle.std.specs.Map.Iter.{TakesFirst}
 use denote.Bor.{Bor}
 use Rattle.key_bytes.specs.declared.range.KeyRange.{KeyRange}
 use Rattle.key_bytes.specs.Ranges.{has}
-use Rattle.database_rules.specs.States.{covers}
+use Rattle.model_database.specs.States.{covers}
 use Rattle.conflict_ranges.specs.Segments.{range_between, AreApart}
 use Rattle.conflict_ranges.proofs.Walks.{begin_within}
 

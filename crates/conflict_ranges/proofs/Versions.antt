@@ -9,7 +9,7 @@ use Rattle.std.specs.Cmp.Lexicographic.{nat_list_cmp_total, texts_ties}
 use Rattle.std.specs.Option.{unwrap_or}
 use Rattle.std.specs.Ordering.{eq_by_cmp, is_eq}
 use Rattle.key_bytes.specs.Keys.{key_cmp, after, within}
-use Rattle.database_rules.proofs.Ranges.{has_one}
+use Rattle.model_database.proofs.Ranges.{has_one}
 use Rattle.range_map.specs.Boundaries.{Boundaries, held, is_boundary, changed}
 use Rattle.range_map.proofs.Held.{IsRising, held-changed}
 use Rattle.conflict_ranges.specs.Generations.{version_in, version_at, LastWrites, IsBounded, GoesAlone, KeepsRoom}

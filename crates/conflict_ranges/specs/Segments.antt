@@ -5,7 +5,7 @@ use Rattle.std.specs.List.Sorted.{IsStrictlySortedBy}
 use Rattle.std.specs.Borrow.{Bor}
 use Rattle.key_bytes.specs.declared.range.KeyRange.{KeyRange}
 use Rattle.key_bytes.specs.Keys.{key_cmp, key_lt, key_le}
-use Rattle.database_rules.specs.States.{range_from}
+use Rattle.model_database.specs.States.{range_from}
 use Rattle.range_map.specs.Boundaries.{Boundaries, held, boundaries_of, is_boundary}
 use Rattle.conflict_ranges.specs.declared.membership.Membership.{Membership}
 

@@ -3,7 +3,7 @@
 ghost use Rattle.std.specs.Prelude.{◌≡◌, ◌==◌, ◌+◌, ◌*◌, ◌^◌, ◌<◌, ◌↔◌, ◌&&◌, ◌||◌, ℕ, List, [], false, not, length, slice_get, Some, IsTrue, IfOk, OnOk, OnErr};
 ghost use Rattle.std.specs.List.{list_any};
 ghost use Rattle.key_bytes.specs.Ranges.{has, meets};
-ghost use Rattle.database_rules.specs.States.{covers};
+ghost use Rattle.model_database.specs.States.{covers};
 
 use crate::boundary_ranges_left::BoundaryRangesLeft;
 use crate::members::{any_in, put, put_all, split_all};

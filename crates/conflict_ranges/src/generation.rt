@@ -3,7 +3,7 @@
 ghost use Rattle.std.specs.Prelude.{◌≡◌, ◌≤◌, ◌⊎◌, ℕ, List, [], true, max, if◌then◌else◌, MatchBool, OnOk, OnErr};
 ghost use Rattle.std.specs.FinMap as finite;
 ghost use Rattle.key_bytes.specs.Keys.{after, within};
-ghost use Rattle.database_rules.specs.States.{covers, range_from};
+ghost use Rattle.model_database.specs.States.{covers, range_from};
 ghost use Rattle.range_map.specs.Boundaries.{is_boundary};
 ghost use Rattle.conflict_ranges.specs.Generations.{version_at, GoesAlone, GoesAsRange, HasRoomFor, IsReadyFor, Keeps, KeepsRoom, with_version};
 

@@ -4,7 +4,7 @@ ghost use Rattle.std.specs.Prelude.{◌≡◌, ◌+◌, ◌*◌, ◌≤◌, ◌�
 ghost use Rattle.std.specs.List.Sorted.{IsStrictlySortedBy};
 ghost use Rattle.key_bytes.specs.Keys.{key_cmp, within};
 ghost use Rattle.key_bytes.specs.Ranges.{has};
-ghost use Rattle.database_rules.specs.States.{covers};
+ghost use Rattle.model_database.specs.States.{covers};
 ghost use Rattle.range_map.specs.Boundaries.{changed, boundaries_of, held};
 ghost use Rattle.conflict_ranges.specs.Ends.{HasRoom, IsSplitAt};
 ghost use Rattle.conflict_ranges.specs.Segments.{IsSound};

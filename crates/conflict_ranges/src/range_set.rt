@@ -3,7 +3,7 @@
 ghost use Rattle.std.specs.Prelude.{◌≡◌, ◌==◌, ◌<◌, ◌↔◌, ◌&&◌, ◌||◌, ℕ, List, [], true, false, not, length, slice_get, Some, IsTrue, IfOk, OnOk, OnErr};
 ghost use Rattle.std.specs.List.{list_any};
 ghost use Rattle.key_bytes.specs.Ranges.{has, meets};
-ghost use Rattle.database_rules.specs.States.{covers};
+ghost use Rattle.model_database.specs.States.{covers};
 
 use crate::boundary_ranges::BoundaryRanges;
 use crate::ranges_left::RangesLeft;

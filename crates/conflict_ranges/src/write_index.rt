@@ -3,7 +3,7 @@
 ghost use Rattle.std.specs.Prelude.{◌≡◌, ◌≤◌, ◌⊎◌, ℕ, List, true, max, if◌then◌else◌, OnOk, OnErr};
 ghost use Rattle.key_bytes.specs.Keys.{after, within};
 ghost use Rattle.key_bytes.specs.Ranges.{has};
-ghost use Rattle.database_rules.specs.States.{covers};
+ghost use Rattle.model_database.specs.States.{covers};
 ghost use Rattle.conflict_ranges.specs.Writes.{above, newest_at, IsReadyFor};
 
 use crate::generation::Generation;

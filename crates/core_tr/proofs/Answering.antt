@@ -1,9 +1,9 @@
 -- What a named transaction of a core answers.
 use Rattle.std.proofs.Common.{◌≡◌, ℕ, ◌⊎◌, inl, inr, Bool, true, false, List, Some, None, Result, Ok, Err, refl, sym, ap, subst, ◌∙◌}
 use Rattle.std.specs.FinMap as finite
-use Rattle.database_rules.specs.Histories.{Setting}
-use Rattle.database_rules.specs.Transactions.{Transaction}
-use Rattle.allocator_rules.specs.Acts.{refusal}
+use Rattle.model_database.specs.Histories.{Setting}
+use Rattle.model_database.specs.Transactions.{Transaction}
+use Rattle.model_allocator.specs.Acts.{refusal}
 use Rattle.fdb_calls.specs.declared.fault.TrFault.{TrFault}
 use Rattle.fdb_calls.specs.declared.fault.TrFault.TheVariants as fault
 use Rattle.fdb_calls.specs.declared.Reply.{Reply}
@@ -12,7 +12,7 @@ use Rattle.fdb_calls.specs.declared.Request.TheVariants as request
 use Rattle.fdb_calls.specs.declared.TxnCall.{TxnCall}
 use Rattle.fdb_calls.specs.Answers.{Answered}
 use Rattle.fdb_calls.specs.Calling.{Called, called}
-use Rattle.machine_rules.specs.Worlds.{World, Stepped, HasWords, next_life, stepped, step}
+use Rattle.model_machine.specs.Worlds.{World, Stepped, HasWords, next_life, stepped, step}
 use Rattle.client_core.specs.Stands as core
 use Rattle.client_core.specs.Stands.{CoreModel, StandsFor, is_no_memory}
 use Rattle.core_tr.specs.Standing.{Splits, Makes, MakesSilently, IsSettled, StandsIn, Stands, Stays, KeepsRest}

@@ -2,19 +2,19 @@
 use Rattle.std.proofs.Common.{◌≡◌, ℕ, Bool, true, false, List, [], Option, Some, None, refl, ap, ◌∙◌}
 use Rattle.key_bytes.specs.Keys.{after}
 use Rattle.key_bytes.specs.declared.range.KeyRange.{KeyRange}
-use Rattle.database_rules.specs.Intervals.{one}
-use Rattle.database_rules.specs.declared.Api.{Api}
-use Rattle.database_rules.specs.declared.AtomicOp.{AtomicOp}
-use Rattle.database_rules.specs.declared.options.RangeOptions.{RangeOptions}
-use Rattle.database_rules.specs.declared.mode.Mode.TheVariants.{WantAll}
-use Rattle.database_rules.specs.Atomics.{atomic_named}
-use Rattle.database_rules.specs.Databases.{Mutation, Set, Clear, ClearRange, Atomic}
-use Rattle.database_rules.specs.Modes.{lacks_limit}
-use Rattle.database_rules.specs.Histories.{Setting}
-use Rattle.database_rules.specs.Reads.{Read}
-use Rattle.database_rules.specs.Reads as read
-use Rattle.database_rules.specs.Transactions.{Transaction, first_failing, late_checks, read_code, with_version, op_code, atomic_code, set_code, clear_code, range_code, phase_code, with_write_conflict_disabled, with_write_range}
-use Rattle.allocator_rules.specs.Acts.{refusal}
+use Rattle.model_database.specs.Intervals.{one}
+use Rattle.model_database.specs.declared.Api.{Api}
+use Rattle.model_database.specs.declared.AtomicOp.{AtomicOp}
+use Rattle.model_database.specs.declared.options.RangeOptions.{RangeOptions}
+use Rattle.model_database.specs.declared.mode.Mode.TheVariants.{WantAll}
+use Rattle.model_database.specs.Atomics.{atomic_named}
+use Rattle.model_database.specs.Databases.{Mutation, Set, Clear, ClearRange, Atomic}
+use Rattle.model_database.specs.Modes.{lacks_limit}
+use Rattle.model_database.specs.Histories.{Setting}
+use Rattle.model_database.specs.Reads.{Read}
+use Rattle.model_database.specs.Reads as read
+use Rattle.model_database.specs.Transactions.{Transaction, first_failing, late_checks, read_code, with_version, op_code, atomic_code, set_code, clear_code, range_code, phase_code, with_write_conflict_disabled, with_write_range}
+use Rattle.model_allocator.specs.Acts.{refusal}
 use Rattle.fdb_calls.specs.declared.Reply.{Reply}
 use Rattle.fdb_calls.specs.declared.Reply.TheVariants as reply
 use Rattle.fdb_calls.specs.declared.TxnCall.{TxnCall}

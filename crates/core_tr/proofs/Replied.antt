@@ -1,7 +1,7 @@
 -- A reply that is neither a code nor want of memory is of the kind that its call has.
 use Rattle.std.proofs.Common.{◌≡◌, true, false, None, Result, Ok, Err, refl, subst}
-use Rattle.allocator_rules.specs.Acts.{refusal}
-use Rattle.database_rules.specs.declared.Code.{Code}
+use Rattle.model_allocator.specs.Acts.{refusal}
+use Rattle.model_database.specs.declared.Code.{Code}
 use Rattle.fdb_calls.specs.declared.fault.TrFault.{TrFault}
 use Rattle.fdb_calls.specs.declared.fault.TrFault.TheVariants as fault
 use Rattle.fdb_calls.specs.declared.Reply.{Reply}

@@ -4,16 +4,16 @@ use Rattle.std.specs.Prelude.{unwrap_or, is_some}
 use Rattle.std.specs.Cmp.{nat_eq_equiv}
 use Rattle.std.proofs.lemmas.List.{append-nil}
 use Rattle.std.specs.FinMap as finite
-use Rattle.database_rules.specs.Histories.{History, grown_by}
-use Rattle.database_rules.specs.Transactions.{Transaction, fresh}
+use Rattle.model_database.specs.Histories.{History, grown_by}
+use Rattle.model_database.specs.Transactions.{Transaction, fresh}
 use Rattle.fdb_calls.specs.declared.Outcome.{Outcome}
 use Rattle.fdb_calls.specs.declared.Outcome.TheVariants as outcome
 use Rattle.fdb_calls.specs.declared.Request.TheVariants as request
 use Rattle.fdb_calls.specs.declared.TxnCall.{TxnCall}
 use Rattle.fdb_calls.specs.Calling.{Called, called, code_of}
 use Rattle.fdb_calls.specs.Outcomes.{outcome_of}
-use Rattle.database_rules.specs.declared.TheConstants.{TRANSACTION_CANCELLED}
-use Rattle.machine_rules.specs.Worlds.{World, decide, lives_after, next_life, transaction_of, with_named, with_new, call_named, stepped, step}
+use Rattle.model_database.specs.declared.TheConstants.{TRANSACTION_CANCELLED}
+use Rattle.model_machine.specs.Worlds.{World, decide, lives_after, next_life, transaction_of, with_named, with_new, call_named, stepped, step}
 use Rattle.core_tr.specs.Standing.{IsSettled, settled, AreAlikeElse}
 use Rattle.core_tr.specs.StandLaws.{there_inserted, other_inserted, decide_again}
 use Rattle.core_tr.proofs.Calls.{IsPlain}

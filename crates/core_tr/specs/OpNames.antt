@@ -1,7 +1,7 @@
 -- The atomic operations that have one name under every API version.
 use Rattle.std.specs.Prelude.{Bool, true, false}
-use Rattle.database_rules.specs.declared.AtomicOp.{AtomicOp}
-use Rattle.database_rules.specs.declared.AtomicOp.TheVariants as atomic
+use Rattle.model_database.specs.declared.AtomicOp.{AtomicOp}
+use Rattle.model_database.specs.declared.AtomicOp.TheVariants as atomic
 
 abbrev pub is_named : AtomicOp → Bool
 is_named atomic.Add = true

@@ -8,11 +8,11 @@ use Rattle.std.specs.Cmp.{eq_by_cmp_equiv}
 use Rattle.std.specs.Cmp.Lexicographic.{nat_list_cmp_total}
 use Rattle.std.specs.FinMap as finite
 use Rattle.key_bytes.specs.Keys.{key_cmp}
-use Rattle.database_rules.specs.Histories.{Setting}
-use Rattle.database_rules.specs.Transactions.{Transaction, with_granted}
+use Rattle.model_database.specs.Histories.{Setting}
+use Rattle.model_database.specs.Transactions.{Transaction, with_granted}
 use Rattle.fdb_calls.specs.declared.Outcome.{Outcome}
 use Rattle.fdb_calls.specs.Outcomes.{outcome_of}
-use Rattle.machine_rules.specs.Worlds.{World, Transactions, decide, first_of, with_transaction}
+use Rattle.model_machine.specs.Worlds.{World, Transactions, decide, first_of, with_transaction}
 use Rattle.txn_core.specs.Stands as txn
 use Rattle.txn_calls.specs.StandLaws as txn_laws
 use Rattle.client_core.specs.Stands.{CoreModel, StandsFor, AreAlike}

@@ -3,8 +3,8 @@ use Rattle.std.specs.Prelude.{◌≡◌, ◌⊎◌, ℕ, Bool, true, false, List
 use Rattle.std.specs.Ordering.{eq_by_cmp}
 use Rattle.std.specs.FinMap as finite
 use Rattle.key_bytes.specs.Keys.{key_cmp}
-use Rattle.database_rules.specs.Histories.{Setting}
-use Rattle.database_rules.specs.Transactions.{Transaction}
+use Rattle.model_database.specs.Histories.{Setting}
+use Rattle.model_database.specs.Transactions.{Transaction}
 use Rattle.fdb_calls.specs.declared.Outcome.{Outcome}
 use Rattle.fdb_calls.specs.declared.Reply.{Reply}
 use Rattle.fdb_calls.specs.declared.Reply.TheVariants as reply
@@ -12,9 +12,9 @@ use Rattle.fdb_calls.specs.declared.TxnCall.{TxnCall}
 use Rattle.fdb_calls.specs.declared.TxnCall.TheVariants as call
 use Rattle.fdb_calls.specs.declared.fault.TrFault.{TrFault}
 use Rattle.fdb_calls.specs.declared.fault.TrFault.TheVariants as fault
-use Rattle.allocator_rules.specs.Acts.{refusal}
+use Rattle.model_allocator.specs.Acts.{refusal}
 use Rattle.fdb_calls.specs.Outcomes.{outcome_of}
-use Rattle.machine_rules.specs.Worlds.{World, Stepped, decide}
+use Rattle.model_machine.specs.Worlds.{World, Stepped, decide}
 use Rattle.client_core.specs.Stands.{CoreModel, StandsFor, is_no_memory}
 
 -- ---- a call

@@ -1,7 +1,7 @@
 //! A named transaction of a core, by its calls: layers that work over any `Tr` work over it too.
 //!
 //! Each call is one request, and each is applied before the next one is made. What a call answers and leaves is what the step of the
-//! world says (`machine_rules`, `specs/Worlds.antt`); all else in the world stays as it was (`KeepsRest` in `specs/Standing.antt`).
+//! world says (`model_machine`, `specs/Worlds.antt`); all else in the world stays as it was (`KeepsRest` in `specs/Standing.antt`).
 //!
 //! # Choices
 //!

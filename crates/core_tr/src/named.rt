@@ -5,15 +5,15 @@ ghost use Rattle.fdb_calls.specs.declared.fault.TrFault.TheVariants as fault;
 ghost use Rattle.fdb_calls.specs.declared.Reply.TheVariants as reply;
 ghost use Rattle.fdb_calls.specs.declared.Request.TheVariants as request;
 ghost use Rattle.fdb_calls.specs.declared.TxnCall.TheVariants as call;
-ghost use Rattle.machine_rules.specs.Worlds.{World, step};
+ghost use Rattle.model_machine.specs.Worlds.{World, step};
 ghost use Rattle.client_core.specs.Stands.{StandsFor, is_no_memory};
 ghost use Rattle.core_tr.specs.Standing.{Splits, Makes, MakesSilently, Settles, is_value, are_pairs, is_of_kind};
 
 use crate::op_names::name_of;
 use client_core::Core;
-use database_rules::{AtomicOp, Mode, RangeOptions};
 use fdb_calls::{Reply, Request, Tr, TrFault, TxnCall};
 use key_bytes::{Bytes, KeyRange, Pairs};
+use model_database::{AtomicOp, Mode, RangeOptions};
 use outside::PcgWords;
 use std::alloc::AllocError;
 

@@ -1,14 +1,14 @@
 //! The names of atomic operations.
 
 ghost use Rattle.std.specs.Prelude.{◌≡◌, true, Some};
-ghost use Rattle.database_rules.specs.Atomics.{atomic_named};
-ghost use Rattle.database_rules.specs.declared.Api.{Api};
+ghost use Rattle.model_database.specs.Atomics.{atomic_named};
+ghost use Rattle.model_database.specs.declared.Api.{Api};
 ghost use Rattle.core_tr.specs.OpNames.{is_named};
 
-use database_rules::AtomicOp;
+use model_database::AtomicOp;
 
 /// Returns the name of an operation that has one name under every API version (bindingApiTester.md, "ATOMIC_OP").
-#[tactic(auto, unfolding(database_rules::specs::Atomics::atomic_named, database_rules::specs::Atomics::named))]
+#[tactic(auto, unfolding(model_database::specs::Atomics::atomic_named, model_database::specs::Atomics::named))]
 pub(crate) fn name_of(op: AtomicOp) -> &'static [u8]
     requires { is_named op ≡ true }
     ensures { (api : Api) → atomic_named api result.now ≡ Some op }

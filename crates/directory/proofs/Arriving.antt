@@ -1,10 +1,10 @@
 -- Where a path ends, one layer further in.
 use Rattle.std.proofs.Common.{◌≡◌, ◌⊎◌, inl, inr, ℕ, zero, suc, ◌+◌, ◌<◌, List, [], ◌∷◌, length, Option, Some, refl, arith}
 use Rattle.directory_types.specs.declared.Layer.{Layer}
-use Rattle.directory_rules.specs.declared.Lookup.{Lookup}
-use Rattle.directory_rules.specs.declared.Directory.{Directory}
-use Rattle.directory_rules.specs.Courses.{Course, Gives, ◌>>=◌, Done}
-use Rattle.directory_rules.specs.Steps.{Found, found_at, Place, place, admits, find, inside, or_inside, arrives}
+use Rattle.model_directory.specs.declared.Lookup.{Lookup}
+use Rattle.model_directory.specs.declared.Directory.{Directory}
+use Rattle.model_directory.specs.Courses.{Course, Gives, ◌>>=◌, Done}
+use Rattle.model_directory.specs.Steps.{Found, found_at, Place, place, admits, find, inside, or_inside, arrives}
 
 abbrev pub less_one : ℕ → ℕ
 less_one zero = zero

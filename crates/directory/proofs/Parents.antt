@@ -2,10 +2,10 @@
 use Rattle.std.proofs.Common.{◌≡◌, ℕ, zero, suc, List, [], ◌∷◌, ◌++◌, length, reverse, Option, Some, None, refl, sym, ap, ◌∙◌}
 use Rattle.std.proofs.lemmas.List.{reverse-append}
 use Rattle.directory_types.specs.declared.Layer.{Layer}
-use Rattle.directory_rules.specs.declared.Directory.{Directory}
-use Rattle.directory_rules.specs.Courses.{Course, ◌>>=◌}
-use Rattle.directory_rules.specs.Steps.{Place, front, last_name}
-use Rattle.directory_rules.specs.Calls.{to_create_or_open, looks, takes_prefix, enters, or_else, or_root, makes}
+use Rattle.model_directory.specs.declared.Directory.{Directory}
+use Rattle.model_directory.specs.Courses.{Course, ◌>>=◌}
+use Rattle.model_directory.specs.Steps.{Place, front, last_name}
+use Rattle.model_directory.specs.Calls.{to_create_or_open, looks, takes_prefix, enters, or_else, or_root, makes}
 use Rattle.directory.specs.declared.creating.Missing.{Missing}
 use Rattle.directory.specs.Descents.{missing_at, or_further, descends, ascends, makes_parent}
 use Rattle.directory.proofs.Trees.{regrouped, same_next, gives_last}

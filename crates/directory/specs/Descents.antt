@@ -2,11 +2,11 @@
 -- prefix for each one that isn't, and then up again, where each is entered in the one above it.
 use Rattle.std.specs.Prelude.{ℕ, zero, suc, List, [], ◌∷◌, ◌++◌, reverse, Option, Some, None}
 use Rattle.directory_types.specs.declared.Layer.{Layer}
-use Rattle.directory_rules.specs.declared.Directory.{Directory}
+use Rattle.model_directory.specs.declared.Directory.{Directory}
 use Rattle.directory.specs.declared.creating.Missing.{Missing}
-use Rattle.directory_rules.specs.Courses.{Course, Gives, ◌>>=◌}
-use Rattle.directory_rules.specs.Steps.{root, front, last_name}
-use Rattle.directory_rules.specs.Calls.{to_create_or_open, looks, takes_prefix, enters}
+use Rattle.model_directory.specs.Courses.{Course, Gives, ◌>>=◌}
+use Rattle.model_directory.specs.Steps.{root, front, last_name}
+use Rattle.model_directory.specs.Calls.{to_create_or_open, looks, takes_prefix, enters}
 
 abbrev pub missing_at : Layer → (name prefix : List ℕ) → Missing
 missing_at layer name prefix = record { layer = layer; name = name; prefix = prefix }

@@ -2,8 +2,8 @@
 use Rattle.std.specs.Prelude.{◌≡◌, ℕ, ⊤, ◌≤◌, ◌<◌, Bool, false, List, length, Option, option_map, Result, Ok, Err}
 use Rattle.std.specs.Borrow.{Bor}
 use Rattle.directory_types.specs.declared.fault.DirFault.{DirFault}
-use Rattle.directory_rules.specs.Steps as steps
-use Rattle.directory_rules.specs.Calls as calls
+use Rattle.model_directory.specs.Steps as steps
+use Rattle.model_directory.specs.Calls as calls
 use Rattle.directory.specs.declared.moving.Move.{Move}
 use Rattle.directory.specs.declared.reaching.Place.{Place}
 

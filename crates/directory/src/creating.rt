@@ -5,18 +5,18 @@
 //! with a prefix for each one that isn't, and then up again, where each is entered in the one above it.
 
 ghost use Rattle.std.specs.Prelude.{◌≡◌, ℕ, ◌+◌, ◌≤◌, false, [], ◌∷◌, ◌++◌, length, reverse, OnOk};
-ghost use Rattle.directory_rules.specs.Calls.{judged, found_opened, looks, makes, opening};
+ghost use Rattle.model_directory.specs.Calls.{judged, found_opened, looks, makes, opening};
 ghost use Rattle.directory_nodes.specs.Runs.{Draws, Follows, Tells, beside};
 ghost use Rattle.directory.specs.Places.{place_so, IsWithin};
 ghost use Rattle.directory.specs.Descents.{missing_at, descends, ascends, makes_parent};
 
 use crate::reaching::{Place, copy_of, reach};
 use directory_nodes::{asked_or_empty, enter, opened, root, take_prefix};
-use directory_rules::{Directory, Lookup, OpenOptions};
 use directory_types::{DirArgs, DirFault, DirReply, Layer};
 use fdb_calls::Tr;
 use fdb_tuple::Text;
 use key_bytes::Bytes;
+use model_directory::{Directory, Lookup, OpenOptions};
 use outside::Words;
 use std::alloc::{AllocError, Global};
 

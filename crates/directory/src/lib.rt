@@ -1,6 +1,6 @@
 //! Directories (the directory layer's documentation): paths of names, each of which stands for a short prefix of keys.
 //!
-//! Each call does to its transaction, and answers, what its definition says (`directory_rules`, `specs/Calls.antt`): those
+//! Each call does to its transaction, and answers, what its definition says (`model_directory`, `specs/Calls.antt`): those
 //! reads and writes in their order, and no other that a transaction keeps, each read answered as it is after the writes before it, up to the first refusal. It works
 //! over any transaction that answers as the definitions say (`Tr`), and any random words. What the steps before a refusal did stays
 //! in the transaction, and the words that were drawn are drawn. After NoMemory it stands for the transaction after some first of
@@ -16,8 +16,8 @@
 //! - Each call takes the allocator of memory first.
 #![tactic(auto)]
 
-ghost use Rattle.database_rules.specs.Histories.{Setting};
-ghost use Rattle.database_rules.specs.Transactions.{Transaction};
+ghost use Rattle.model_database.specs.Histories.{Setting};
+ghost use Rattle.model_database.specs.Transactions.{Transaction};
 ghost use Rattle.directory_types.specs.declared.DirKind.TheVariants as kind;
 ghost use Rattle.directory.specs.Runs.{IsAnswered};
 
@@ -33,9 +33,9 @@ use crate::listing::{is_there, names_below};
 use crate::logging::log_directory;
 use crate::moving::move_directory;
 use crate::removing::remove_directory;
-use directory_rules::OpenOptions;
 use directory_types::{DirArgs, DirFault, DirReply, Layer};
 use fdb_calls::Tr;
+use model_directory::OpenOptions;
 use outside::Words;
 use std::alloc::Global;
 

@@ -2,18 +2,18 @@
 
 ghost use Rattle.std.specs.Prelude.{◌≡◌, map, IfOk};
 ghost use Rattle.key_bytes.specs.Entries.{entry_of};
-ghost use Rattle.directory_rules.specs.Steps.{child_in, children_in, children};
-ghost use Rattle.directory_rules.specs.Calls.{to_see, lists, names_below, is_there};
+ghost use Rattle.model_directory.specs.Steps.{child_in, children_in, children};
+ghost use Rattle.model_directory.specs.Calls.{to_see, lists, names_below, is_there};
 ghost use Rattle.directory_nodes.specs.Runs.{Follows, Tells};
 
 use crate::reaching::{Place, inside, reach};
 use directory_nodes::{Node, check, pairs_of};
-use directory_rules::{Child, Directory, Lookup, is_partition};
 use directory_types::{DirFault, Layer, Path};
 use fdb_calls::Tr;
 use fdb_tuple::Text;
 use key_bytes::{Bytes, Pair, Pairs};
 use lists::List;
+use model_directory::{Child, Directory, Lookup, is_partition};
 use std::alloc::{AllocError, Global};
 
 /// The directories right below the one of a prefix, in the order of their keys.

@@ -1,17 +1,17 @@
 //! Moving a directory.
 
 ghost use Rattle.std.specs.Prelude.{◌+◌, length, Some, option_map};
-ghost use Rattle.directory_rules.specs.Calls.{moves_on, finds_moved, enters_moved, leaves, moving};
+ghost use Rattle.model_directory.specs.Calls.{moves_on, finds_moved, enters_moved, leaves, moving};
 ghost use Rattle.directory_nodes.specs.Runs.{Follows, Tells};
 ghost use Rattle.directory_nodes.specs.Places.{found_as};
 ghost use Rattle.directory.specs.Places.{names_so, move_so, HasNames};
 
 use crate::reaching::{copy_of, inside};
 use directory_nodes::{Found, check, clear_entry, find, is_within, opened, set_entry};
-use directory_rules::Directory;
 use directory_types::{DirFault, DirReply, Layer};
 use fdb_calls::Tr;
 use fdb_tuple::Text;
+use model_directory::Directory;
 use std::alloc::Global;
 
 /// What is moved, and where: a layer, and both paths in it.

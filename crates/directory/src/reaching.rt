@@ -1,16 +1,16 @@
 //! Where a path ends: the first steps of a call, up to what the path leads to, begun again in each partition on the way.
 
 ghost use Rattle.std.specs.Prelude.{◌≡◌, ◌+◌, ◌<◌, ◌==◌, ◌&&◌, not, false, IfOk, OnOk, length};
-ghost use Rattle.directory_rules.specs.Steps.{admits, arrives, inside};
+ghost use Rattle.model_directory.specs.Steps.{admits, arrives, inside};
 ghost use Rattle.directory_nodes.specs.Runs.{Follows};
 ghost use Rattle.directory.specs.Places.{place_so, IsWithin};
 
 use directory_nodes::{check, find};
-use directory_rules::{Directory, Lookup};
 use directory_types::{DirFault, Layer};
 use fdb_calls::Tr;
 use fdb_tuple::Text;
 use key_bytes::Bytes;
+use model_directory::{Directory, Lookup};
 use std::alloc::AllocError;
 
 /// Where a path ends: a layer, the path in it, and the directory of that path, where there is one.

@@ -1,19 +1,19 @@
 //! Removing a directory and all below it.
 
 ghost use Rattle.std.specs.Prelude.{◌≡◌, ◌+◌, length, [], ◌∷◌, ◌++◌, map, OnOk};
-ghost use Rattle.directory_rules.specs.Calls.{clears_one, clears_all, removes_one, removing};
+ghost use Rattle.model_directory.specs.Calls.{clears_one, clears_all, removes_one, removing};
 ghost use Rattle.directory_nodes.specs.Runs.{Follows, FollowsBelow};
 
 use crate::listing::children;
 use crate::moving::leave;
 use crate::reaching::{Place, reach};
 use directory_nodes::{Node, clear_range};
-use directory_rules::{Child, Directory, Lookup};
 use directory_types::{DirFault, DirReply, Layer};
 use fdb_calls::Tr;
 use fdb_tuple::Text;
 use key_bytes::{Bytes, KeyRange};
 use lists::List;
+use model_directory::{Child, Directory, Lookup};
 use std::alloc::{AllocError, Global};
 
 /// Removes the directory of a path and all below it. Where there is none, that is a fault, or nothing is done.

@@ -1,10 +1,10 @@
 -- A step that a condition chooses: what a function did that made the chosen one; and conditions of two parts.
 use Rattle.std.proofs.Common.{◌≡◌, ℕ, Bool, true, false, cond, Result, refl, sym, subst}
 use Rattle.std.specs.Prelude.{◌||◌}
-use Rattle.database_rules.specs.Histories.{Setting}
-use Rattle.database_rules.specs.Transactions.{Transaction}
+use Rattle.model_database.specs.Histories.{Setting}
+use Rattle.model_database.specs.Transactions.{Transaction}
 use Rattle.directory_types.specs.declared.fault.DirFault.{DirFault}
-use Rattle.directory_rules.specs.Courses.{Course}
+use Rattle.model_directory.specs.Courses.{Course}
 use Rattle.directory_nodes.specs.Runs.{Draws}
 
 pub where_true : {X : Type 0} (is : Bool) (result : Result X DirFault) (before after : Setting → Transaction → Type 0) (words left : ℕ → ℕ)

@@ -1,18 +1,18 @@
 -- What functions did one after the other, from what each of them did: courses in two parts.
 use Rattle.std.proofs.Common.{◌≡◌, ℕ, ◌+◌, Bool, true, false, Option, Some, None, Result, Ok, Err, refl, sym, ap, subst, ◌∙◌, inl, inr, arith}
 use Rattle.std.proofs.Math.Path.{fun_ext}
-use Rattle.database_rules.specs.declared.Code.{Code}
-use Rattle.database_rules.specs.Histories.{Setting}
-use Rattle.database_rules.specs.Reads.{answer}
-use Rattle.database_rules.specs.Transactions.{Transaction, view}
-use Rattle.allocator_rules.specs.Acts.{Reads, Writes, act_called, refusal}
-use Rattle.allocator_rules.specs.Granting.{Ending, Grants, IsFull, IsNoCounter, IsRefused, Allocated, allocated, plan}
+use Rattle.model_database.specs.declared.Code.{Code}
+use Rattle.model_database.specs.Histories.{Setting}
+use Rattle.model_database.specs.Reads.{answer}
+use Rattle.model_database.specs.Transactions.{Transaction, view}
+use Rattle.model_allocator.specs.Acts.{Reads, Writes, act_called, refusal}
+use Rattle.model_allocator.specs.Granting.{Ending, Grants, IsFull, IsNoCounter, IsRefused, Allocated, allocated, plan}
 use Rattle.prefix_allocator.specs.Allocates.{Leaves}
 use Rattle.prefix_allocator.proofs.Steps.{stopped}
 use Rattle.directory_types.specs.declared.fault.DirFault.{DirFault}
 use Rattle.directory_types.specs.declared.fault.DirFault.TheVariants as fault
-use Rattle.directory_rules.specs.Courses.{Course, Gives, Refuses, Asks, Does, Allocates, ◌>>=◌, Reached, reached_by, drawing, granted_by, run}
-use Rattle.directory_rules.specs.Courses as courses
+use Rattle.model_directory.specs.Courses.{Course, Gives, Refuses, Asks, Does, Allocates, ◌>>=◌, Reached, reached_by, drawing, granted_by, run}
+use Rattle.model_directory.specs.Courses as courses
 use Rattle.directory_nodes.specs.Runs.{IsGranted, StopsIn, EndsAt, RunsBy, RunsTo, Draws, Follows, is_short}
 
 -- ---- words

@@ -1,9 +1,9 @@
 -- What leads on to a whole course: whoever makes the steps that are still to come has made those of the whole.
 use Rattle.std.proofs.Common.{◌≡◌, Result, Ok, sym, subst}
-use Rattle.database_rules.specs.Histories.{Setting}
-use Rattle.database_rules.specs.Transactions.{Transaction}
+use Rattle.model_database.specs.Histories.{Setting}
+use Rattle.model_database.specs.Transactions.{Transaction}
 use Rattle.directory_types.specs.declared.fault.DirFault.{DirFault}
-use Rattle.directory_rules.specs.Courses.{Course, ◌>>=◌}
+use Rattle.model_directory.specs.Courses.{Course, ◌>>=◌}
 use Rattle.directory_nodes.specs.Runs.{Follows}
 use Rattle.directory_nodes.proofs.Following.{then_followed}
 

@@ -1,10 +1,10 @@
 -- What a path leads to is found name by name: the first of the names that are left, and then the others.
 use Rattle.std.proofs.Common.{◌≡◌, ℕ, Bool, true, false, List, ◌∷◌, Some, refl}
 use Rattle.directory_types.specs.declared.Layer.{Layer}
-use Rattle.directory_rules.specs.declared.Directory.{Directory}
-use Rattle.directory_rules.specs.Courses.{Gives, ◌>>=◌}
-use Rattle.directory_rules.specs.Nodes.{is_partition}
-use Rattle.directory_rules.specs.Steps.{found_at, below, child_of, find_from}
+use Rattle.model_directory.specs.declared.Directory.{Directory}
+use Rattle.model_directory.specs.Courses.{Gives, ◌>>=◌}
+use Rattle.model_directory.specs.Nodes.{is_partition}
+use Rattle.model_directory.specs.Steps.{found_at, below, child_of, find_from}
 
 -- names behind a partition remain
 pub stops_here : (snapshot : Bool) (layer : Layer) (found : Directory) (names : List (List ℕ)) (name : List ℕ) (others : List (List ℕ))

@@ -1,11 +1,11 @@
 -- The pairs of a range that was read, where the course has other names for its bounds, and whether there are any.
 use Rattle.std.proofs.Common.{◌≡◌, ℕ, Bool, false, not, List, length, Result, Ok, Err, sym, ap, subst}
 use Rattle.std.specs.Prelude.{◌==◌, IsErrAnd}
-use Rattle.database_rules.specs.Histories.{Setting}
-use Rattle.database_rules.specs.Slices.{Entries}
-use Rattle.database_rules.specs.Transactions.{Transaction}
+use Rattle.model_database.specs.Histories.{Setting}
+use Rattle.model_database.specs.Slices.{Entries}
+use Rattle.model_database.specs.Transactions.{Transaction}
 use Rattle.directory_types.specs.declared.fault.DirFault.{DirFault}
-use Rattle.directory_rules.specs.Courses.{Course, Gives, ◌>>=◌, pairs_of}
+use Rattle.model_directory.specs.Courses.{Course, Gives, ◌>>=◌, pairs_of}
 use Rattle.directory_nodes.specs.Runs.{Draws}
 use Rattle.directory_nodes.proofs.Following.{then_drew}
 use Rattle.directory_nodes.proofs.Passing.{ended_so, gave_so}

@@ -1,10 +1,10 @@
 -- Steps of a course that ask nothing of the transaction: a condition that refuses, what is there or not, and what was found out.
 use Rattle.std.proofs.Common.{◌≡◌, ℕ, Bool, true, false, Option, Some, None, Result, Ok, Err, refl, sym, subst}
-use Rattle.database_rules.specs.Histories.{Setting}
-use Rattle.database_rules.specs.Transactions.{Transaction}
+use Rattle.model_database.specs.Histories.{Setting}
+use Rattle.model_database.specs.Transactions.{Transaction}
 use Rattle.directory_types.specs.declared.fault.DirFault.{DirFault}
-use Rattle.directory_rules.specs.Courses.{Course, Refuses, ◌>>=◌, Done, done, given}
-use Rattle.directory_rules.specs.Steps.{refuse_where, there}
+use Rattle.model_directory.specs.Courses.{Course, Refuses, ◌>>=◌, Done, done, given}
+use Rattle.model_directory.specs.Steps.{refuse_where, there}
 use Rattle.directory_nodes.specs.Runs.{Draws, Tells, TellsBy, RunsBy, is_short}
 use Rattle.directory_nodes.proofs.Following.{gave, refused, stops_first}
 

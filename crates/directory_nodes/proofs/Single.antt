@@ -1,25 +1,25 @@
 -- The single steps: a read, a write, and a call of the allocator, from what the transaction or the allocator answered.
 use Rattle.std.proofs.Common.{◌≡◌, ℕ, Bool, List, Option, Some, None, Result, Ok, Err, refl, sym, ap, subst, ◌∙◌, inl, arith}
 use Rattle.std.specs.FinMap as finite
-use Rattle.database_rules.specs.Databases.{Mutation}
-use Rattle.database_rules.specs.Histories.{Setting}
-use Rattle.database_rules.specs.Reads.{Get, GetKeyRange, answer}
-use Rattle.database_rules.specs.Slices.{Entries, slice}
-use Rattle.database_rules.specs.Transactions.{Transaction, view}
-use Rattle.database_rules.specs.declared.Code.{Code}
+use Rattle.model_database.specs.Databases.{Mutation}
+use Rattle.model_database.specs.Histories.{Setting}
+use Rattle.model_database.specs.Reads.{Get, GetKeyRange, answer}
+use Rattle.model_database.specs.Slices.{Entries, slice}
+use Rattle.model_database.specs.Transactions.{Transaction, view}
+use Rattle.model_database.specs.declared.Code.{Code}
 use Rattle.fdb_calls.specs.declared.Reply.TheVariants as reply
 use Rattle.fdb_calls.specs.declared.fault.TrFault.{TrFault}
 use Rattle.fdb_calls.specs.declared.fault.TrFault.TheVariants as tr
 use Rattle.fdb_calls.specs.Answers.{Answered}
-use Rattle.allocator_rules.specs.Acts.{Reads, Writes, act_called, refusal}
-use Rattle.allocator_rules.specs.Granting.{Ending, Grants, IsFull, IsNoCounter, IsRefused, Allocated, allocated}
-use Rattle.allocator_rules.proofs.Reading.{value_read, pairs_read}
+use Rattle.model_allocator.specs.Acts.{Reads, Writes, act_called, refusal}
+use Rattle.model_allocator.specs.Granting.{Ending, Grants, IsFull, IsNoCounter, IsRefused, Allocated, allocated}
+use Rattle.model_allocator.proofs.Reading.{value_read, pairs_read}
 use Rattle.prefix_allocator.specs.Allocates.{IsAllocated, Leaves}
 use Rattle.prefix_allocator.specs.declared.fault.AllocFault.{AllocFault}
 use Rattle.prefix_allocator.specs.declared.fault.AllocFault.TheVariants as allocator
 use Rattle.directory_types.specs.declared.fault.DirFault.{DirFault}
 use Rattle.directory_types.specs.declared.fault.DirFault.TheVariants as fault
-use Rattle.directory_rules.specs.Courses.{Gives, Allocates, done, Reached, reached_by, granted_by, run, value_of, pairs_of, does}
+use Rattle.model_directory.specs.Courses.{Gives, Allocates, done, Reached, reached_by, granted_by, run, value_of, pairs_of, does}
 use Rattle.directory_nodes.specs.Faults.{from_tr, from_allocator}
 use Rattle.directory_nodes.specs.Runs.{EndsAt, RunsTo}
 

@@ -1,11 +1,11 @@
 -- A key that was read, and a write that was made, where the course has another name for them.
 use Rattle.std.proofs.Common.{◌≡◌, ℕ, Bool, List, Option, Result, Ok, Err, subst}
 use Rattle.std.specs.Prelude.{IsErrAnd}
-use Rattle.database_rules.specs.Databases.{Mutation}
-use Rattle.database_rules.specs.Histories.{Setting}
-use Rattle.database_rules.specs.Transactions.{Transaction}
+use Rattle.model_database.specs.Databases.{Mutation}
+use Rattle.model_database.specs.Histories.{Setting}
+use Rattle.model_database.specs.Transactions.{Transaction}
 use Rattle.directory_types.specs.declared.fault.DirFault.{DirFault}
-use Rattle.directory_rules.specs.Courses.{Course, Done, ◌>>=◌, does, value_of}
+use Rattle.model_directory.specs.Courses.{Course, Done, ◌>>=◌, does, value_of}
 use Rattle.directory_nodes.specs.Runs.{Draws}
 use Rattle.directory_nodes.proofs.Following.{then_drew}
 use Rattle.directory_nodes.proofs.Passing.{ended_so}

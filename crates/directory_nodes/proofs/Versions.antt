@@ -4,16 +4,16 @@ use Rattle.std.proofs.Common.{Some, None, Result, Ok, Err, refl, subst}
 use Rattle.std.specs.Prelude.{◌||◌, ◌&&◌, nat_lt}
 use Rattle.std.proofs.lemmas.Bool.{eq-eqb, ne_eqb, lt-ltb, le-ltb}
 use Rattle.key_bytes.specs.Numbers.{number_low}
-use Rattle.database_rules.specs.Atomics.{little_bytes}
-use Rattle.database_rules.specs.Databases.{Set}
-use Rattle.database_rules.specs.Histories.{Setting}
-use Rattle.database_rules.specs.Transactions.{Transaction}
+use Rattle.model_database.specs.Atomics.{little_bytes}
+use Rattle.model_database.specs.Databases.{Set}
+use Rattle.model_database.specs.Histories.{Setting}
+use Rattle.model_database.specs.Transactions.{Transaction}
 use Rattle.directory_types.specs.declared.Layer.{Layer}
 use Rattle.directory_types.specs.declared.fault.DirFault.{DirFault}
 use Rattle.directory_types.specs.declared.fault.DirFault.TheVariants as fault
-use Rattle.directory_rules.specs.Courses.{Done, done, does}
-use Rattle.directory_rules.specs.Nodes.{version_key, version_now, version_numbers, is_newer}
-use Rattle.directory_rules.specs.Steps.{version_read, version_checked}
+use Rattle.model_directory.specs.Courses.{Done, done, does}
+use Rattle.model_directory.specs.Nodes.{version_key, version_now, version_numbers, is_newer}
+use Rattle.model_directory.specs.Steps.{version_read, version_checked}
 use Rattle.directory_nodes.specs.Runs.{Draws, Tells}
 use Rattle.directory_nodes.proofs.Following.{gave}
 use Rattle.directory_nodes.proofs.Refusing.{told}

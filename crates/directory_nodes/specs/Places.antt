@@ -1,7 +1,7 @@
 -- What a path leads to, as the definitions say it.
 use Rattle.std.specs.Prelude.{◌≡◌, ℕ, ⊤, ◌⊎◌, ◌<◌, List, length, Option, Some, None, option_map, Result, Ok, Err}
 use Rattle.directory_types.specs.declared.fault.DirFault.{DirFault}
-use Rattle.directory_rules.specs.Steps as steps
+use Rattle.model_directory.specs.Steps as steps
 use Rattle.directory_nodes.specs.declared.finding.Found.{Found}
 
 abbrev pub found_as : Found → steps.Found

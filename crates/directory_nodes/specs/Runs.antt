@@ -1,16 +1,16 @@
 -- What a function did that makes the steps of a course, by what it answers.
 use Rattle.std.specs.Prelude.{◌≡◌, ◌⊎◌, ⊤, ℕ, ◌+◌, ◌≤◌, Bool, true, false, length, None, Result, Ok, Err}
 use Rattle.std.specs.FinMap as finite
-use Rattle.database_rules.specs.Histories.{Setting}
-use Rattle.database_rules.specs.Reads.{answer}
-use Rattle.database_rules.specs.Transactions.{Transaction, view}
-use Rattle.allocator_rules.specs.Acts.{Reads, Writes, act_called, refusal}
-use Rattle.allocator_rules.specs.Granting.{Ending, Grants, allocated, plan}
+use Rattle.model_database.specs.Histories.{Setting}
+use Rattle.model_database.specs.Reads.{answer}
+use Rattle.model_database.specs.Transactions.{Transaction, view}
+use Rattle.model_allocator.specs.Acts.{Reads, Writes, act_called, refusal}
+use Rattle.model_allocator.specs.Granting.{Ending, Grants, allocated, plan}
 use Rattle.prefix_allocator.specs.Allocates.{Leaves}
 use Rattle.prefix_allocator.specs.Allocates as allocates
 use Rattle.directory_types.specs.declared.fault.DirFault.{DirFault}
 use Rattle.directory_types.specs.declared.fault.DirFault.TheVariants as fault
-use Rattle.directory_rules.specs.Courses.{Course, Gives, Refuses, Asks, Does, Allocates, Reached, run}
+use Rattle.model_directory.specs.Courses.{Course, Gives, Refuses, Asks, Does, Allocates, Reached, run}
 
 -- ---- memory ran out
 

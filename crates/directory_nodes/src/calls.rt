@@ -1,7 +1,7 @@
 //! The single steps: a read, a write, and a call of the allocator.
 
-ghost use Rattle.database_rules.specs.Databases.{Set, Clear, ClearRange};
-ghost use Rattle.directory_rules.specs.Courses.{Gives, Allocates, value_of, pairs_of, does};
+ghost use Rattle.model_database.specs.Databases.{Set, Clear, ClearRange};
+ghost use Rattle.model_directory.specs.Courses.{Gives, Allocates, value_of, pairs_of, does};
 ghost use Rattle.directory_nodes.specs.Runs.{Draws, Follows};
 
 use crate::fault::{from_allocator, from_tr};

@@ -2,8 +2,8 @@
 
 ghost use Rattle.std.specs.Prelude.{◌≡◌, ◌+◌, ◌≤◌, length, take, drop, []};
 ghost use Rattle.key_bytes.specs.Numbers.{number_low};
-ghost use Rattle.directory_rules.specs.Nodes.{version_numbers, is_newer};
-ghost use Rattle.directory_rules.specs.Steps.{version_read, check};
+ghost use Rattle.model_directory.specs.Nodes.{version_numbers, is_newer};
+ghost use Rattle.model_directory.specs.Steps.{version_read, check};
 ghost use Rattle.directory_nodes.specs.Runs.{Follows, Tells};
 
 use crate::calls::{set, value_of};

@@ -3,18 +3,18 @@
 ghost use Rattle.std.specs.Prelude.{◌≡◌, IfOk, unwrap_or, [], Some};
 ghost use Rattle.std.specs.Prelude.{bytes_eq};
 ghost use Rattle.std.specs.List.{starts_with};
-ghost use Rattle.directory_rules.specs.Steps.{sets_entry, clears_entry, found_at};
-ghost use Rattle.directory_rules.specs.Calls.{enters, opened};
+ghost use Rattle.model_directory.specs.Steps.{sets_entry, clears_entry, found_at};
+ghost use Rattle.model_directory.specs.Calls.{enters, opened};
 ghost use Rattle.directory_nodes.specs.Runs.{Follows};
 
 use crate::calls::{clear, set};
 use crate::nodes::Node;
-use directory_rules::Directory;
 use directory_types::{DirFault, DirReply, Layer, Path};
 use fdb_calls::Tr;
 use fdb_tuple::Text;
 use key_bytes::Bytes;
 use lists::List;
+use model_directory::Directory;
 use std::alloc::{AllocError, Global};
 
 /// Enters a directory in its parent's node, and its layer name in its own.

@@ -1,17 +1,17 @@
 //! Finding a directory by its path.
 
 ghost use Rattle.std.specs.Prelude.{◌≡◌, IfOk, unwrap_or, []};
-ghost use Rattle.directory_rules.specs.Steps.{root, directory_at, child_of, find};
+ghost use Rattle.model_directory.specs.Steps.{root, directory_at, child_of, find};
 ghost use Rattle.directory_nodes.specs.Runs.{Follows};
 ghost use Rattle.directory_nodes.specs.Places.{found_so, IsLess};
 
 use crate::calls::value_of;
 use crate::nodes::Node;
-use directory_rules::{Directory, is_partition};
 use directory_types::{DirFault, Layer};
 use fdb_calls::Tr;
 use fdb_tuple::Text;
 use key_bytes::Bytes;
+use model_directory::{Directory, is_partition};
 use std::alloc::AllocError;
 
 /// What a path leads to: a directory, and the names that remain, where that is a partition.

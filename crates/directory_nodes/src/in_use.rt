@@ -1,6 +1,6 @@
 //! Whether a prefix is in use.
 
-ghost use Rattle.directory_rules.specs.Steps.{is_inside, has_inside, is_node_inside, is_in_use};
+ghost use Rattle.model_directory.specs.Steps.{is_inside, has_inside, is_node_inside, is_in_use};
 ghost use Rattle.directory_nodes.specs.Runs.{Follows, Tells};
 
 use crate::calls::pairs_of;

@@ -3,8 +3,8 @@
 ghost use Rattle.std.specs.Prelude.{◌≡◌, [], ◌∷◌, ◌++◌, length, drop, Ok, IfOk};
 ghost use Rattle.std.specs.Result.{result_ok};
 ghost use Rattle.fdb_tuple.specs.Reading.{read_tuple};
-ghost use Rattle.directory_rules.specs.Nodes.{node_of, entries_of, entry_of, layer_key, version_key, allocator_of, packed_bytes};
-ghost use Rattle.directory_rules.specs.Nodes.{packed_number, name_in, prefix_in, one_text, first_bytes};
+ghost use Rattle.model_directory.specs.Nodes.{node_of, entries_of, entry_of, layer_key, version_key, allocator_of, packed_bytes};
+ghost use Rattle.model_directory.specs.Nodes.{packed_number, name_in, prefix_in, one_text, first_bytes};
 
 use directory_types::Layer;
 use fdb_subspace::{Subspace, packed_behind, range_behind};

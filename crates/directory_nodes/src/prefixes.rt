@@ -1,7 +1,7 @@
 //! The prefix of a directory that is to be created.
 
 ghost use Rattle.std.specs.Prelude.{◌≡◌, []};
-ghost use Rattle.directory_rules.specs.Calls.{has_keys, free_prefix, new_prefix, given_prefix, prefix_for, takes_prefix};
+ghost use Rattle.model_directory.specs.Calls.{has_keys, free_prefix, new_prefix, given_prefix, prefix_for, takes_prefix};
 ghost use Rattle.directory_nodes.specs.Runs.{Draws, Follows};
 
 use crate::calls::{grant, pairs_of};

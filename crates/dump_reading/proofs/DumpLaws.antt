@@ -3,9 +3,9 @@ use Rattle.std.proofs.Common.{◌≡◌, ℕ, ◌+◌, ◌<◌, ◌≤◌, Bool,
 use Rattle.std.specs.List.{AllByRecursion}
 use Rattle.std.proofs.lemmas.Bool.{ltb-false, le-ltb}
 use Rattle.std.proofs.lemmas.List.{length-append}
-use Rattle.line_rules.specs.Reading.{Bad, Fault, Place, start, next_place, size_of, is_pair, lines_of, input_limit, pairs_limit, line_limit}
-use Rattle.line_rules.specs.Reading as reading
-use Rattle.line_rules.proofs.ReadLines.{IsWithin, guard_ok, limits_pass}
+use Rattle.model_lines.specs.Reading.{Bad, Fault, Place, start, next_place, size_of, is_pair, lines_of, input_limit, pairs_limit, line_limit}
+use Rattle.model_lines.specs.Reading as reading
+use Rattle.model_lines.proofs.ReadLines.{IsWithin, guard_ok, limits_pass}
 use Rattle.dump_text.specs.declared.line.Line.{Line}
 use Rattle.dump_text.specs.Lines.{line_of}
 use Rattle.dump_text.proofs.Laws.{standing, lines_stand, length-standing}

@@ -1,9 +1,9 @@
 -- A dump, a line at a time.
 use Rattle.std.proofs.Common.{◌≡◌, ℕ, List, [], ◌∷◌, ◌++◌, length, Result, Ok, Err, refl, sym, ap, ◌∙◌, append_assoc}
 use Rattle.std.proofs.lemmas.List.{append-nil, nil_from_length}
-use Rattle.line_rules.specs.Reading.{Flaw, Fault, Place, next_place, size_of, lines_of, input_limit}
-use Rattle.line_rules.specs.Reading as reading
-use Rattle.line_rules.proofs.ReadLines.{IsWithin, was_within}
+use Rattle.model_lines.specs.Reading.{Flaw, Fault, Place, next_place, size_of, lines_of, input_limit}
+use Rattle.model_lines.specs.Reading as reading
+use Rattle.model_lines.proofs.ReadLines.{IsWithin, was_within}
 use Rattle.dump_text.specs.declared.fault.LineFault.{LineFault}
 use Rattle.dump_text.specs.declared.line.Line.{Line}
 use Rattle.dump_text.specs.Reading.{Fails}

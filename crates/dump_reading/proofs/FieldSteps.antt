@@ -4,8 +4,8 @@ use Rattle.std.specs.List.{AllByRecursion}
 use Rattle.std.proofs.lemmas.List.{append-nil, length-drop, drop_more, drop_all, take-append-drop}
 use Rattle.std.proofs.lemmas.List.Elements.{recursion_from_All}
 use Rattle.key_bytes.specs.Keys.{IsByteString}
-use Rattle.line_rules.specs.Printing.{printable, printed, printable_but}
-use Rattle.line_rules.specs.Reading.{Stop, AtEnd, AtSeparator, AtFault, text_of}
+use Rattle.model_lines.specs.Printing.{printable, printed, printable_but}
+use Rattle.model_lines.specs.Reading.{Stop, AtEnd, AtSeparator, AtFault, text_of}
 use Rattle.dump_text.specs.Texts.{with_front}
 use Rattle.dump_text.proofs.Pieces.{text_empty}
 use Rattle.dump_text.proofs.Printed.{text_printed, text_was, ending}

@@ -3,11 +3,11 @@ use Rattle.std.proofs.Common.{◌≡◌, ℕ, ◌≤◌, Bool, true, false, cond
 use Rattle.std.specs.Fmt.{decimal}
 use Rattle.std.proofs.lemmas.Bool.{eqb-true}
 use Rattle.std.proofs.lemmas.List.{append-nil}
-use Rattle.line_rules.specs.Printing.{printable, separator, machine_line, item_line, error_line, order_line, pair_line}
-use Rattle.line_rules.specs.Reading.{Entry, Flaw, Bad, Fault, start, size_of, pair_at, joined, lines_of, is_pair, line_limit}
-use Rattle.line_rules.specs.Reading as reading
-use Rattle.input_rules.proofs.Machines.{choice_ok}
-use Rattle.input_rules.specs.Orders.{last_machine}
+use Rattle.model_lines.specs.Printing.{printable, separator, machine_line, item_line, error_line, order_line, pair_line}
+use Rattle.model_lines.specs.Reading.{Entry, Flaw, Bad, Fault, start, size_of, pair_at, joined, lines_of, is_pair, line_limit}
+use Rattle.model_lines.specs.Reading as reading
+use Rattle.model_input.proofs.Machines.{choice_ok}
+use Rattle.model_input.specs.Orders.{last_machine}
 use Rattle.dump_text.specs.declared.line.Line.{Line}
 use Rattle.dump_text.specs.declared.line.Line.TheVariants as line
 use Rattle.dump_text.specs.Ends.{word_of}

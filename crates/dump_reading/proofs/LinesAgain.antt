@@ -5,12 +5,12 @@ use Rattle.std.specs.List.{list_all}
 use Rattle.std.proofs.lemmas.Bool.{and_parts}
 use Rattle.std.proofs.lemmas.Bool.Decides.{nat_tests}
 use Rattle.std.proofs.lemmas.List.{append-nil, length-append}
-use Rattle.line_rules.specs.Printing.{is_plain, backslash, hexadecimal_digit, printed, printable, separator}
-use Rattle.line_rules.specs.Reading.{Entry, Fault, start, size_of, pair_at, joined, lines_of, line_limit}
-use Rattle.line_rules.specs.Reading as reading
-use Rattle.line_rules.proofs.Lines.{IsFeedless, IsFeedless-append, whole_first}
-use Rattle.line_rules.proofs.ReadLines as pairs
-use Rattle.input_rules.specs.Orders.{is_digit, last_machine}
+use Rattle.model_lines.specs.Printing.{is_plain, backslash, hexadecimal_digit, printed, printable, separator}
+use Rattle.model_lines.specs.Reading.{Entry, Fault, start, size_of, pair_at, joined, lines_of, line_limit}
+use Rattle.model_lines.specs.Reading as reading
+use Rattle.model_lines.proofs.Lines.{IsFeedless, IsFeedless-append, whole_first}
+use Rattle.model_lines.proofs.ReadLines as pairs
+use Rattle.model_input.specs.Orders.{is_digit, last_machine}
 use Rattle.dump_text.specs.declared.line.EndWord.{EndWord}
 use Rattle.dump_text.specs.declared.line.EndWord.TheVariants as ends
 use Rattle.dump_text.specs.declared.line.Line.{Line}

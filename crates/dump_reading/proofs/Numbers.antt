@@ -9,8 +9,8 @@ use Rattle.std.proofs.lemmas.Fmt.{decimal_is_IsNumeral_wide, decimal_step_wide, 
 use Rattle.std.proofs.lemmas.List.{take_at, drop_at, take-append-drop, get_or_append_left, get_or-take, append-nil, length-append}
 use Rattle.std.proofs.lemmas.List.Folds.{length-prefix_len}
 use Rattle.std.proofs.lemmas.Str.Parse.{IsDigitsTest, IsNumeralModel, FoldsDigits, numerals_by_fold}
-use Rattle.line_rules.proofs.ReadLines.{guard_ok}
-use Rattle.input_rules.specs.Orders.{is_digit}
+use Rattle.model_lines.proofs.ReadLines.{guard_ok}
+use Rattle.model_input.specs.Orders.{is_digit}
 use Rattle.dump_reading.specs.Fields.{value_after, number_at}
 
 -- ---- digits

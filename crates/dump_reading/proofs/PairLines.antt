@@ -1,12 +1,12 @@
 -- The line of a pair, read as an input of this one line; and the first line of bytes, alone.
 use Rattle.std.proofs.Common.{◌≡◌, ℕ, zero, suc, ◌<◌, ◌≤◌, Bool, true, false, cond, ◌==◌, List, [], ◌∷◌, length, take, get_or, Result, Ok, Err, refl, sym, ap, arith}
 use Rattle.std.proofs.lemmas.Bool.{false_from_ne_true}
-use Rattle.line_rules.specs.Reading.{Line, Entry, Flaw, Bad, Long, Fault, BadLine, TooLong, TooMany, start, pair_at, joined, lines_of, line_limit}
-use Rattle.line_rules.specs.Reading as reading
-use Rattle.line_rules.proofs.ReadLines.{IsWithin, limits_pass}
-use Rattle.input_rules.specs.declared.input.Form.TheVariants as form
-use Rattle.input_rules.specs.declared.input.Input.{Input}
-use Rattle.input_rules.specs.Forms.{without_order, input_of}
+use Rattle.model_lines.specs.Reading.{Line, Entry, Flaw, Bad, Long, Fault, BadLine, TooLong, TooMany, start, pair_at, joined, lines_of, line_limit}
+use Rattle.model_lines.specs.Reading as reading
+use Rattle.model_lines.proofs.ReadLines.{IsWithin, limits_pass}
+use Rattle.model_input.specs.declared.input.Form.TheVariants as form
+use Rattle.model_input.specs.declared.input.Input.{Input}
+use Rattle.model_input.specs.Forms.{without_order, input_of}
 use Rattle.dump_reading.specs.Dumps.{with_pair, judged}
 
 pub length-feed : (is_whole : Bool) → cond is_whole 1 0 ≤ 1

@@ -1,7 +1,7 @@
 -- Worked rows of the places of faults.
 use Rattle.std.proofs.Common.{◌≡◌, ◌++◌, ◌∷◌, [], Ok, Err, refl}
 use Rattle.std.specs.Prelude.{codes}
-use Rattle.line_rules.specs.Reading.{BadLine, lines_of}
+use Rattle.model_lines.specs.Reading.{BadLine, lines_of}
 use Rattle.dump_text.specs.declared.line.Line.TheVariants as line
 use Rattle.dump_reading.specs.Fields.{behind, value_after, number_at, number_field, end_at, end_field, word_at, word_field}
 use Rattle.dump_reading.specs.Dumps.{machine_fields, item_fields, error_fields, order_fields, value_at, read_line, read_lines, dump_in}

@@ -2,8 +2,8 @@
 use Rattle.std.proofs.Common.{◌≡◌, ℕ, ◌+◌, ◌*◌, ◌/◌, ◌%◌, ◌<◌, Bool, true, false, cond, not, ◌&&◌, ◌==◌, ltb, List, [], ◌∷◌, ◌++◌, length, Option, Some, None, refl, sym, ap, ◌∙◌, arith}
 use Rattle.std.proofs.lemmas.Bool.{eqb-true, ltb-true, lt-ltb, and_parts}
 use Rattle.std.proofs.lemmas.Bool.Decides.{nat_tests}
-use Rattle.line_rules.specs.Printing.{is_plain, backslash, in_digits, printed_but, hexadecimal_digit}
-use Rattle.line_rules.specs.Reading.{digit_of}
+use Rattle.model_lines.specs.Printing.{is_plain, backslash, in_digits, printed_but, hexadecimal_digit}
+use Rattle.model_lines.specs.Reading.{digit_of}
 use Rattle.dump_reading.specs.Spellings.{is_by_digits, digits_at, escape_at, byte_at, Front, spelled}
 
 -- ---- the spelling of a byte, by whether it has digits

@@ -7,7 +7,7 @@ use Rattle.std.proofs.lemmas.List.Elements.{All-append, All-from_recursion, recu
 use Rattle.std.proofs.lemmas.Grind.{flat_map-append}
 use Rattle.std.specs.List.{AllByRecursion}
 use Rattle.key_bytes.specs.Keys.{IsByteString}
-use Rattle.line_rules.specs.Printing.{printed_but, printable_but}
+use Rattle.model_lines.specs.Printing.{printed_but, printable_but}
 use Rattle.dump_reading.specs.Printable.{IsUnfit, IsBadAt}
 use Rattle.dump_reading.specs.Spellings.{byte_at, Front, spelled}
 use Rattle.dump_reading.proofs.Spellings.{Spells, length-spelling, byte_spells, byte_again}

@@ -2,10 +2,10 @@
 use Rattle.std.specs.Prelude.{◌≡◌, ℕ, ◌+◌, ◌-◌, ◌^◌, ◌<◌, ◌≤◌, true, if◌then◌else◌, List, [], ◌∷◌, length, flat_map, Result, Ok, Err, nat_lt, ◌==◌}
 use Rattle.std.specs.List.{AllByRecursion, list_all}
 use Rattle.key_bytes.specs.Keys.{IsByteString}
-use Rattle.line_rules.specs.Inputs.{IsSmall}
-use Rattle.line_rules.specs.Reading.{Flaw, Bad, Entry, Fault, TooMany, TooLong, Place, start, next_place, fault_of, pair_at, is_too_many, lines_of, input_limit, pairs_limit, line_limit}
-use Rattle.line_rules.specs.Reading as reading
-use Rattle.input_rules.specs.Orders.{last_machine}
+use Rattle.model_lines.specs.Inputs.{IsSmall}
+use Rattle.model_lines.specs.Reading.{Flaw, Bad, Entry, Fault, TooMany, TooLong, Place, start, next_place, fault_of, pair_at, is_too_many, lines_of, input_limit, pairs_limit, line_limit}
+use Rattle.model_lines.specs.Reading as reading
+use Rattle.model_input.specs.Orders.{last_machine}
 use Rattle.dump_text.specs.declared.line.Line.{Line}
 use Rattle.dump_text.specs.declared.line.Line.TheVariants as line
 use Rattle.dump_text.specs.Lines.{line_of}

@@ -1,9 +1,9 @@
 -- The fields of a line, from left to right. A field is a value with what stands behind it; a fault is told by how many bytes are left from its place on.
 use Rattle.std.specs.Prelude.{ℕ, ◌+◌, ◌-◌, ◌*◌, Bool, not, ◌&&◌, ◌||◌, if◌then◌else◌, List, [], ◌∷◌, length, take, drop, get_or, Option, Some, None, Result, Ok, Err, nat_lt, ◌==◌}
 use Rattle.std.specs.List.{prefix_len}
-use Rattle.line_rules.specs.Printing.{space}
-use Rattle.line_rules.specs.Reading.{ReadText, Stop, AtEnd, AtSeparator, AtFault, text_of}
-use Rattle.input_rules.specs.Orders.{is_digit}
+use Rattle.model_lines.specs.Printing.{space}
+use Rattle.model_lines.specs.Reading.{ReadText, Stop, AtEnd, AtSeparator, AtFault, text_of}
+use Rattle.model_input.specs.Orders.{is_digit}
 use Rattle.dump_text.specs.declared.line.EndWord.{EndWord}
 use Rattle.dump_text.specs.declared.line.EndWord.TheVariants as ends
 use Rattle.dump_text.specs.Ends.{word_of}

@@ -1,7 +1,7 @@
 -- What reading of a printable form answers.
 use Rattle.std.specs.Prelude.{◌≡◌, ℕ, ◌<◌, List, ◌++◌, length, take, drop, Option, Result, Ok, Err}
 use Rattle.key_bytes.specs.Keys.{IsByteString}
-use Rattle.line_rules.specs.Printing.{printed_but, printable_but}
+use Rattle.model_lines.specs.Printing.{printed_but, printable_but}
 use Rattle.dump_reading.specs.declared.fault.PrintableFault.{PrintableFault}
 use Rattle.dump_reading.specs.declared.fault.PrintableFault.TheVariants as faults
 

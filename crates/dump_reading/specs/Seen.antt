@@ -1,6 +1,6 @@
 -- What the program's values stand for.
 use Rattle.std.specs.Prelude.{ℕ, Option, None}
-use Rattle.line_rules.specs.Reading as reading
+use Rattle.model_lines.specs.Reading as reading
 use Rattle.dump_reading.specs.declared.printable.Spelling.{Spelling}
 use Rattle.dump_reading.specs.declared.printable.Spelling.TheVariants as spellings
 use Rattle.dump_reading.specs.declared.line.DumpLine.{DumpLine}

@@ -1,7 +1,7 @@
 -- The byte that is spelled at the front of a printable form.
 use Rattle.std.specs.Prelude.{ℕ, ◌+◌, ◌*◌, Bool, not, ◌&&◌, ◌||◌, if◌then◌else◌, List, [], ◌∷◌, Option, Some, None, nat_lt, ◌==◌}
-use Rattle.line_rules.specs.Printing.{is_plain, backslash}
-use Rattle.line_rules.specs.Reading.{digit_of}
+use Rattle.model_lines.specs.Printing.{is_plain, backslash}
+use Rattle.model_lines.specs.Reading.{digit_of}
 
 -- whether a byte is spelled by its digits: one that is given, and each that has no shorter spelling
 abbrev pub is_by_digits : Option ℕ → ℕ → Bool

@@ -1,7 +1,7 @@
 //! Reading of a dump, line after line.
 
 ghost use Rattle.std.specs.Prelude.{◌≡◌, ℕ, ◌+◌, ◌^◌, ◌<◌, ◌≤◌, List, [], ◌∷◌, Ok, IfOk, length};
-ghost use Rattle.line_rules.specs.Reading.{size_of, next_place, is_too_many, lines_of};
+ghost use Rattle.model_lines.specs.Reading.{size_of, next_place, is_too_many, lines_of};
 ghost use Rattle.dump_text.specs.declared.line.Line.{Line};
 ghost use Rattle.dump_text.specs.Reading.{Gives};
 ghost use Rattle.dump_reading.specs.Dumps.{read_line, dump_in, IsDump};

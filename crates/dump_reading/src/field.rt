@@ -2,7 +2,7 @@
 
 ghost use Rattle.std.specs.Prelude.{◌≡◌, ◌^◌, [], ◌∷◌, Some, None, nat_lt, if◌then◌else◌, length, ◌≤◌, IfOk};
 ghost use Rattle.std.specs.List.{prefix_len};
-ghost use Rattle.input_rules.specs.Orders.{is_digit, last_machine};
+ghost use Rattle.model_input.specs.Orders.{is_digit, last_machine};
 ghost use Rattle.dump_reading.specs.declared.field.FieldFault.TheVariants.{NoMemory};
 ghost use Rattle.dump_reading.specs.FieldAnswers.{Gives};
 ghost use Rattle.dump_reading.specs.Dumps.{greatest_machine, greatest_number};

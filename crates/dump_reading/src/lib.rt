@@ -1,6 +1,6 @@
 //! Printable text and dumps are read back.
 //!
-//! `line_rules` says how bytes, numbers and lines are printed, and `dump_text` writes them so. What is read here is
+//! `model_lines` says how bytes, numbers and lines are printed, and `dump_text` writes them so. What is read here is
 //! exactly what is spelled: what comes out is printed as the text that came in, and each text that is the printed form
 //! of bytes, or of the lines of a dump, is read as these. A fault is the first one from the left, with its place.
 #![tactic(auto)]

@@ -1,7 +1,7 @@
 //! Reading of a line of a dump.
 
 ghost use Rattle.std.specs.Prelude.{◌≡◌, ◌^◌, ◌<◌, ◌≤◌, ℕ, List, [], ◌∷◌, Result, Ok, length};
-ghost use Rattle.line_rules.specs.Reading.{line_limit, lines_of, pair_at, is_pair};
+ghost use Rattle.model_lines.specs.Reading.{line_limit, lines_of, pair_at, is_pair};
 ghost use Rattle.dump_text.specs.declared.line.Line.{Line};
 ghost use Rattle.dump_text.specs.Reading.{Gives};
 ghost use Rattle.dump_reading.specs.FieldAnswers as fields;

@@ -2,8 +2,8 @@
 
 ghost use Rattle.std.specs.Prelude.{◌≡◌, ◌≤◌, ℕ, List, IfOk};
 ghost use Rattle.key_bytes.specs.Keys.{IsByteString};
-ghost use Rattle.line_rules.specs.Printing.{is_plain, printable_but};
-ghost use Rattle.line_rules.specs.Reading.{digit_of};
+ghost use Rattle.model_lines.specs.Printing.{is_plain, printable_but};
+ghost use Rattle.model_lines.specs.Reading.{digit_of};
 ghost use Rattle.dump_reading.specs.Spellings.{is_by_digits, digits_at, escape_at, byte_at};
 ghost use Rattle.dump_reading.specs.Seen.{spelling_is};
 ghost use Rattle.dump_reading.specs.Printable.{IsBadAt, ReadsAs, FailsIn, StopsAt};

@@ -2,7 +2,7 @@
 use Rattle.std.proofs.Common.{◌≡◌, ℕ, ◌<◌, ◌≤◌, ◌==◌, get_or, arith}
 use Rattle.std.proofs.lemmas.Bool.{eqb-true}
 use Rattle.std.proofs.lemmas.Bool.Decides.{nat_tests}
-use Rattle.line_rules.specs.Reading.{digit_of}
+use Rattle.model_lines.specs.Reading.{digit_of}
 use Rattle.dump_text.specs.declared.text.TheConstants.{DIGITS}
 use Rattle.dump_text.proofs.Scanned.{holds_at, true_is}
 

@@ -1,7 +1,7 @@
 -- The printable form in which one byte more is spelled by its digits.
 use Rattle.std.proofs.Common.{◌≡◌, ℕ, zero, suc, ◌<◌, true, false, ◌==◌, List, [], ◌∷◌, ◌++◌, length, take, drop, get_or, Some, refl, sym, ap, ◌∙◌, append_assoc, arith}
 use Rattle.std.proofs.lemmas.Bool.{eqb-true, false_from_ne_true}
-use Rattle.line_rules.specs.Printing.{in_digits, printable, printable_but}
+use Rattle.model_lines.specs.Printing.{in_digits, printable, printable_but}
 
 -- the byte at a place is this one
 abbrev IsByte : ℕ → List ℕ → ℕ → Type 0

@@ -2,15 +2,15 @@
 use Rattle.std.proofs.Common.{◌≡◌, ℕ, ◌+◌, ◌≤◌, true, false, List, [], ◌∷◌, ◌++◌, length, flat_map, Result, Ok, Err, refl, sym, ap, subst, ◌∙◌, append_assoc, arith}
 use Rattle.std.specs.List.{AllByRecursion}
 use Rattle.std.proofs.lemmas.List.{length-append}
-use Rattle.line_rules.specs.Inputs.{pair_lines, IsSmall}
-use Rattle.line_rules.specs.Printing.{order_line, pair_line}
-use Rattle.line_rules.specs.Reading.{Line, Entry, Fault, Place, start, lines_of, size_of, next_place, read_lines, input_limit, pairs_limit}
-use Rattle.input_rules.specs.declared.input.Form.{Form}
-use Rattle.input_rules.specs.declared.input.Form.TheVariants as form
-use Rattle.input_rules.specs.declared.input.Input.{Input}
-use Rattle.input_rules.specs.Orders.{last_machine, is_of_order, read_machine}
-use Rattle.input_rules.specs.Forms.{without_order, with_machine, read_replay, input_of, IsInputOf}
-use Rattle.input_rules.proofs.Machines.{is_read, stands_as, line_for, line_again, first_again, length-order_line}
+use Rattle.model_lines.specs.Inputs.{pair_lines, IsSmall}
+use Rattle.model_lines.specs.Printing.{order_line, pair_line}
+use Rattle.model_lines.specs.Reading.{Line, Entry, Fault, Place, start, lines_of, size_of, next_place, read_lines, input_limit, pairs_limit}
+use Rattle.model_input.specs.declared.input.Form.{Form}
+use Rattle.model_input.specs.declared.input.Form.TheVariants as form
+use Rattle.model_input.specs.declared.input.Input.{Input}
+use Rattle.model_input.specs.Orders.{last_machine, is_of_order, read_machine}
+use Rattle.model_input.specs.Forms.{without_order, with_machine, read_replay, input_of, IsInputOf}
+use Rattle.model_input.proofs.Machines.{is_read, stands_as, line_for, line_again, first_again, length-order_line}
 use Rattle.dump_text.proofs.Laws.{standing, lines_stand, length-standing, lines_were, lines_again}
 use Rattle.dump_text.proofs.Replays.{replay_ends}
 

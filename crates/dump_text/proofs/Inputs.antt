@@ -2,8 +2,8 @@
 use Rattle.std.proofs.Common.{◌≡◌, ℕ, zero, suc, ◌+◌, ◌-◌, ◌<◌, ◌≤◌, true, false, cond, ◌==◌, List, [], ◌∷◌, ◌++◌, length, take, drop, get_or, Result, Ok, Err, refl, sym, ap, ◌∙◌, append_assoc, arith}
 use Rattle.std.proofs.lemmas.List.{append-nil, length_push, nil_from_length}
 use Rattle.std.proofs.lemmas.Bool.{false_from_ne_true}
-use Rattle.line_rules.specs.Reading.{Entry, Fault, BadLine, TooLong, TooMany, Line, Place, lines_of, joined, read_line, read_lines, next_place, is_pair, size_of}
-use Rattle.line_rules.proofs.ReadLines.{is_read}
+use Rattle.model_lines.specs.Reading.{Entry, Fault, BadLine, TooLong, TooMany, Line, Place, lines_of, joined, read_line, read_lines, next_place, is_pair, size_of}
+use Rattle.model_lines.proofs.ReadLines.{is_read}
 use Rattle.dump_text.specs.declared.fault.LineFault.{LineFault}
 use Rattle.dump_text.specs.declared.fault.LineFault.TheVariants as errors
 use Rattle.dump_text.specs.Places.{place_at}

@@ -6,16 +6,16 @@ use Rattle.std.proofs.lemmas.Bool.Decides.{nat_tests}
 use Rattle.std.proofs.lemmas.List.{append-nil, length-append}
 use Rattle.std.proofs.lemmas.List.Elements.{All-from_recursion, recursion_from_All}
 use Rattle.key_bytes.specs.Keys.{IsByteString, key_lt, top}
-use Rattle.database_rules.specs.declared.TheConstants.{KEY_LIMIT, VALUE_LIMIT}
-use Rattle.line_rules.specs.Inputs.{pair_lines, IsSmall}
-use Rattle.line_rules.specs.Printing.{separator, printed, printable, hexadecimal_digit, is_plain, backslash, pair_line}
-use Rattle.line_rules.specs.Reading.{ReadText, text_of, Stop, AtEnd, AtSeparator, AtFault, Line, Flaw, Bad, Long, Entry, pair_within, value_at, key_at, fields_at, pair_at, judged, lines_of, with_first, size_of, Fault, Place, next_place, read_line, read_lines, joined, input_limit, pairs_limit, line_limit}
+use Rattle.model_database.specs.declared.TheConstants.{KEY_LIMIT, VALUE_LIMIT}
+use Rattle.model_lines.specs.Inputs.{pair_lines, IsSmall}
+use Rattle.model_lines.specs.Printing.{separator, printed, printable, hexadecimal_digit, is_plain, backslash, pair_line}
+use Rattle.model_lines.specs.Reading.{ReadText, text_of, Stop, AtEnd, AtSeparator, AtFault, Line, Flaw, Bad, Long, Entry, pair_within, value_at, key_at, fields_at, pair_at, judged, lines_of, with_first, size_of, Fault, Place, next_place, read_line, read_lines, joined, input_limit, pairs_limit, line_limit}
 use Rattle.dump_text.specs.Texts.{with_front}
 use Rattle.dump_text.proofs.Pieces.{text_empty, text_parted}
 use Rattle.dump_text.proofs.Printed.{ending, text_was, text_printed}
-use Rattle.line_rules.proofs.Lines.{IsFeedless, IsFeedless-append, whole_first}
-use Rattle.line_rules.proofs.ReadLines.{guard_ok, neither, limits_pass, is_read}
-use Rattle.input_rules.proofs.Machines.{choice_ok}
+use Rattle.model_lines.proofs.Lines.{IsFeedless, IsFeedless-append, whole_first}
+use Rattle.model_lines.proofs.ReadLines.{guard_ok, neither, limits_pass, is_read}
+use Rattle.model_input.proofs.Machines.{choice_ok}
 
 -- ---- a pair that was read
 

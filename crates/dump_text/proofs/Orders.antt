@@ -2,8 +2,8 @@
 use Rattle.std.proofs.Common.{◌≡◌, ℕ, zero, suc, ◌+◌, ◌<◌, true, not, T, List, [], ◌∷◌, ◌++◌, length, take, drop, refl, sym, ap, subst, arith}
 use Rattle.std.proofs.lemmas.Bool.{and_parts, ltb-true}
 use Rattle.std.proofs.lemmas.Fmt.{decimal_digit}
-use Rattle.line_rules.specs.Printing.{order_line}
-use Rattle.line_rules.specs.Reading.{lines_of}
+use Rattle.model_lines.specs.Printing.{order_line}
+use Rattle.model_lines.specs.Reading.{lines_of}
 use Rattle.dump_text.specs.InputLines.{ends_at, has_three}
 use Rattle.dump_text.proofs.Inputs.{whole_line}
 

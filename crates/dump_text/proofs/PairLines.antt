@@ -1,6 +1,6 @@
 -- The line of a pair, part by part.
 use Rattle.std.proofs.Common.{◌≡◌, ℕ, List, [], ◌∷◌, ◌++◌, refl, ap}
-use Rattle.line_rules.specs.Printing.{separator, printable, pair_line}
+use Rattle.model_lines.specs.Printing.{separator, printable, pair_line}
 
 in_one : (key value : List ℕ) → (((key ++ 92 ∷ []) ++ 61 ∷ []) ++ value) ++ 10 ∷ [] ≡ (key ++ separator ++ value) ++ 10 ∷ []
 in_one [] value = refl

@@ -4,8 +4,8 @@ use Rattle.std.specs.List.{take_while, prefix_len}
 use Rattle.std.proofs.lemmas.List.{append-nil, take_all}
 use Rattle.dump_text.specs.Texts.{with_front}
 use Rattle.dump_text.proofs.Runs.{after, run_goes_on, run_stops}
-use Rattle.line_rules.specs.Printing.{is_plain, backslash, separator}
-use Rattle.line_rules.specs.Reading.{Piece, Nothing, Spelled, Separator, Unfit, piece_at, hexadecimal_piece, escaped_piece, digit_of, behind, read_on, ReadText, pieces, text_of, Stop, AtEnd, AtSeparator, AtFault}
+use Rattle.model_lines.specs.Printing.{is_plain, backslash, separator}
+use Rattle.model_lines.specs.Reading.{Piece, Nothing, Spelled, Separator, Unfit, piece_at, hexadecimal_piece, escaped_piece, digit_of, behind, read_on, ReadText, pieces, text_of, Stop, AtEnd, AtSeparator, AtFault}
 
 -- behind each piece fewer bytes are left than before it, two fewer behind the separator
 abbrev pub Shorter : ℕ → Piece → Type 0

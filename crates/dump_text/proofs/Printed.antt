@@ -3,8 +3,8 @@ use Rattle.std.proofs.Common.{◌≡◌, ℕ, zero, suc, ◌+◌, ◌*◌, ◌/�
 use Rattle.std.specs.List.{AllByRecursion}
 use Rattle.std.proofs.lemmas.Bool.{eqb-true, ltb-true, lt-ltb, not-true}
 use Rattle.std.proofs.lemmas.Bool.Decides.{nat_tests}
-use Rattle.line_rules.specs.Printing.{is_plain, backslash, separator, printed, printable, hexadecimal_digit}
-use Rattle.line_rules.specs.Reading.{Piece, Nothing, Spelled, Separator, Unfit, piece_at, hexadecimal_piece, escaped_piece, digit_of, behind, read_on, ReadText, text_of, Stop, AtEnd, AtSeparator, AtFault}
+use Rattle.model_lines.specs.Printing.{is_plain, backslash, separator, printed, printable, hexadecimal_digit}
+use Rattle.model_lines.specs.Reading.{Piece, Nothing, Spelled, Separator, Unfit, piece_at, hexadecimal_piece, escaped_piece, digit_of, behind, read_on, ReadText, text_of, Stop, AtEnd, AtSeparator, AtFault}
 use Rattle.dump_text.specs.Texts.{with_front}
 use Rattle.dump_text.proofs.Pieces.{text_spelled, text_read_on, Shorter, piece_shorter}
 

@@ -2,12 +2,12 @@
 use Rattle.std.proofs.Common.{◌≡◌, ℕ, ◌+◌, ◌-◌, ◌≤◌, true, false, ◌==◌, List, [], ◌∷◌, ◌++◌, length, Result, Ok, Err, refl, sym, ap, subst, ◌∙◌, append_assoc, arith}
 use Rattle.std.proofs.lemmas.Bool.{eqb-true}
 use Rattle.std.proofs.lemmas.List.{append-nil}
-use Rattle.line_rules.specs.Reading.{Entry, Fault, Line, Place, start, with_first, lines_of, read_lines, next_place, is_pair, size_of}
-use Rattle.input_rules.specs.declared.input.Form.TheVariants as form
-use Rattle.input_rules.specs.declared.input.Input.{Input}
-use Rattle.input_rules.specs.Orders.{is_of_order, read_machine}
-use Rattle.input_rules.specs.Forms.{without_order, with_machine, read_replay, input_of}
-use Rattle.input_rules.proofs.Machines.{is_read}
+use Rattle.model_lines.specs.Reading.{Entry, Fault, Line, Place, start, with_first, lines_of, read_lines, next_place, is_pair, size_of}
+use Rattle.model_input.specs.declared.input.Form.TheVariants as form
+use Rattle.model_input.specs.declared.input.Input.{Input}
+use Rattle.model_input.specs.Orders.{is_of_order, read_machine}
+use Rattle.model_input.specs.Forms.{without_order, with_machine, read_replay, input_of}
+use Rattle.model_input.proofs.Machines.{is_read}
 use Rattle.dump_text.specs.declared.fault.LineFault.{LineFault}
 use Rattle.dump_text.specs.Places.{place_at}
 use Rattle.dump_text.specs.Reading.{Fails}

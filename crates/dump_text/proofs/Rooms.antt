@@ -4,7 +4,7 @@ use Rattle.std.proofs.lemmas.Bool.{eqb-true, leb-true}
 use Rattle.std.proofs.lemmas.List.{take-append-le, take-take, length-take, length-append, take_all}
 use Rattle.std.proofs.lemmas.Simd.{chunk-drop, length-chunk, put_chunk_is}
 use lib.Lanes.{chunk, put_chunk}
-use Rattle.line_rules.specs.Printing.{printed, printable}
+use Rattle.model_lines.specs.Printing.{printed, printable}
 use Rattle.dump_text.specs.declared.room.TheConstants.{FORMS, LENGTHS}
 use Rattle.dump_text.proofs.Runs.{printable-cons}
 use Rattle.dump_text.proofs.Scanned.{holds_at, true_is, both}

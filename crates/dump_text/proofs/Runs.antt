@@ -3,7 +3,7 @@ use Rattle.std.proofs.Common.{◌≡◌, ℕ, zero, suc, ◌+◌, ◌-◌, ◌<�
 use Rattle.std.specs.List.{prefix_len, take_while}
 use Rattle.std.proofs.lemmas.List.{append-nil}
 use Rattle.std.proofs.lemmas.Slice.{first_rest}
-use Rattle.line_rules.specs.Printing.{is_plain, printed, printable}
+use Rattle.model_lines.specs.Printing.{is_plain, printed, printable}
 
 -- what is left behind the bytes at the front that pass a test
 abbrev pub after : (ℕ → Bool) → List ℕ → List ℕ

@@ -8,7 +8,7 @@ use Rattle.std.proofs.lemmas.List.Sums.{prefix_len-le-length}
 use Rattle.std.proofs.lemmas.Simd.{map-map, zip2_splat_left, mask_l-mod, chunk-drop, length-chunk, leading_from_mask_l, trailing_mask_l}
 use lib.Count.{count_trailing_zeros}
 use lib.Lanes.{chunk, mask_l, top, zip2, Each1}
-use Rattle.line_rules.specs.Printing.{is_plain}
+use Rattle.model_lines.specs.Printing.{is_plain}
 use Rattle.dump_text.specs.Stops.{is_stop}
 
 -- ---- a vector that was computed lane by lane is held to a test at each of the 256 bytes

@@ -1,7 +1,7 @@
 -- What the program's lines stand for.
 use Rattle.std.specs.Prelude.{ℕ, Bool, not, ◌&&◌, ◌==◌, List, length, nat_lt, get_or}
-use Rattle.line_rules.specs.Reading.{Line}
-use Rattle.line_rules.specs.Printing.{line_feed}
+use Rattle.model_lines.specs.Reading.{Line}
+use Rattle.model_lines.specs.Printing.{line_feed}
 use Rattle.dump_text.specs.declared.pair.InputLine.{InputLine}
 
 abbrev pub line_is : InputLine → Line

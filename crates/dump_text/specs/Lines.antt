@@ -1,6 +1,6 @@
 -- The line that stands for a value.
 use Rattle.std.specs.Prelude.{ℕ, List}
-use Rattle.line_rules.specs.Printing.{machine_line, item_line, error_line, order_line, pair_line}
+use Rattle.model_lines.specs.Printing.{machine_line, item_line, error_line, order_line, pair_line}
 use Rattle.dump_text.specs.declared.line.Line.{Line}
 use Rattle.dump_text.specs.declared.line.Line.TheVariants as line
 use Rattle.dump_text.specs.Ends.{word_of}

@@ -1,6 +1,6 @@
 -- What the program's places stand for.
 use Rattle.std.specs.Prelude.{ℕ, ◌-◌, List, length}
-use Rattle.line_rules.specs.Reading as reading
+use Rattle.model_lines.specs.Reading as reading
 use Rattle.dump_text.specs.declared.input.Place.{Place}
 
 abbrev pub place_is : ℕ → Place → reading.Place

@@ -1,6 +1,6 @@
 -- What reading answers.
 use Rattle.std.specs.Prelude.{◌≡◌, Result, Ok, Err}
-use Rattle.line_rules.specs.Reading.{Fault, BadLine, TooLong, TooMany}
+use Rattle.model_lines.specs.Reading.{Fault, BadLine, TooLong, TooMany}
 use Rattle.dump_text.specs.declared.fault.LineFault.{LineFault}
 use Rattle.dump_text.specs.declared.fault.LineFault.TheVariants as errors
 

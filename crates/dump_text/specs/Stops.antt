@@ -1,6 +1,6 @@
 -- The bytes that don't stand for themselves.
 use Rattle.std.specs.Prelude.{ℕ, Bool, not}
-use Rattle.line_rules.specs.Printing.{is_plain}
+use Rattle.model_lines.specs.Printing.{is_plain}
 
 abbrev pub is_stop : ℕ → Bool
 is_stop byte = not (is_plain byte)

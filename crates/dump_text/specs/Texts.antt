@@ -1,6 +1,6 @@
 -- What the program's pieces and texts stand for.
 use Rattle.std.specs.Prelude.{ℕ, List, ◌++◌}
-use Rattle.line_rules.specs.Reading as reading
+use Rattle.model_lines.specs.Reading as reading
 use Rattle.dump_text.specs.declared.text.Piece.{Piece}
 use Rattle.dump_text.specs.declared.text.Piece.TheVariants as pieces
 use Rattle.dump_text.specs.declared.text.Stop.{Stop}

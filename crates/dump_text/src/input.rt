@@ -2,10 +2,10 @@
 
 ghost use Rattle.std.specs.Prelude.{◌≡◌, ℕ, ◌+◌, ◌-◌, ◌^◌, ◌<◌, ◌≤◌, [], ◌∷◌, ◌++◌, List, length, Ok, IfOk};
 ghost use Rattle.key_bytes.specs.Entries.{entry_of};
-ghost use Rattle.line_rules.specs.Reading.{start, size_of, is_too_many, lines_of, read_line, read_lines, input_limit};
-ghost use Rattle.input_rules.specs.declared.input.Input.{Input};
-ghost use Rattle.input_rules.specs.Orders.{is_of_order, read_machine};
-ghost use Rattle.input_rules.specs.Forms.{read_replay, input_of, IsInputOf};
+ghost use Rattle.model_lines.specs.Reading.{start, size_of, is_too_many, lines_of, read_line, read_lines, input_limit};
+ghost use Rattle.model_input.specs.declared.input.Input.{Input};
+ghost use Rattle.model_input.specs.Orders.{is_of_order, read_machine};
+ghost use Rattle.model_input.specs.Forms.{read_replay, input_of, IsInputOf};
 ghost use Rattle.dump_text.specs.Reading.{Gives};
 ghost use Rattle.dump_text.specs.InputLines.{line_is, has_three};
 ghost use Rattle.dump_text.specs.Places.{place_is, place_at};
@@ -13,9 +13,9 @@ ghost use Rattle.dump_text.specs.Places.{place_is, place_at};
 use crate::fault::LineFault;
 use crate::machine::machine_of;
 use crate::pair::{InputLine, read_pair};
-use input_rules::{Form, Input, Order};
 use key_bytes::{Pair, Pairs};
 use memchr::memchr;
+use model_input::{Form, Input, Order};
 use std::alloc::Global;
 
 // How many bytes an input may have.
@@ -98,7 +98,7 @@ fn is_too_many(place: Place, line: &InputLine<'_>) -> bool
 }
 
 // The pair of the line at a place, or its first fault.
-#[tactic(auto, unfolding(line_rules::specs::Reading::read_line))]
+#[tactic(auto, unfolding(model_lines::specs::Reading::read_line))]
 fn read_line(
     alloc: Global,
     scratch: &mut Vec<u8>,
@@ -118,7 +118,7 @@ fn read_line(
 }
 
 // The machine of the line of an order at a place, or its first fault.
-#[tactic(auto, unfolding(input_rules::specs::Orders::read_machine))]
+#[tactic(auto, unfolding(model_input::specs::Orders::read_machine))]
 fn read_machine(place: Place, line: &InputLine<'_>) -> Result<u16, LineFault>
     requires { place.bytes + size_of (line_is line.now) < 2 ^ 64 }
     ensures { Gives (λ machine. machine) result (read_machine (place_is line.now.number place) (line_is line.now)) }

@@ -1,8 +1,8 @@
 //! Reading of the line of a machine, which is a place of an order.
 
 ghost use Rattle.std.specs.Prelude.{◌≤◌, length};
-ghost use Rattle.line_rules.specs.Reading.{line_limit};
-ghost use Rattle.input_rules.specs.Orders.{whole_number, two_digits, number_at, machine_at, judged_number};
+ghost use Rattle.model_lines.specs.Reading.{line_limit};
+ghost use Rattle.model_input.specs.Orders.{whole_number, two_digits, number_at, machine_at, judged_number};
 ghost use Rattle.dump_text.specs.Reading.{Gives};
 ghost use Rattle.dump_text.specs.InputLines.{line_is};
 
@@ -13,7 +13,7 @@ use crate::pair::InputLine;
 const LAST_MACHINE: u16 = 63;
 
 /// Reads the machine that a line of an order names, or returns the line's first fault.
-#[tactic(auto, unfolding(input_rules::specs::Orders::machine_at))]
+#[tactic(auto, unfolding(model_input::specs::Orders::machine_at))]
 pub fn machine_of(line: &InputLine<'_>) -> Result<u16, LineFault>
     requires { length line.now.bytes.now ≤ line_limit }
     ensures { Gives (λ machine. machine) result

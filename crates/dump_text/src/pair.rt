@@ -3,14 +3,14 @@
 ghost use Rattle.std.specs.Prelude.{◌≡◌, ◌+◌, ◌^◌, ◌<◌, ◌≤◌, nat_lt, length};
 ghost use Rattle.key_bytes.specs.Entries.{entry_of};
 ghost use Rattle.key_bytes.specs.Keys.{key_lt, top};
-ghost use Rattle.line_rules.specs.Reading.{line_limit, is_pair, text_of, judged, pair_at, fields_at, value_at, pair_within};
+ghost use Rattle.model_lines.specs.Reading.{line_limit, is_pair, text_of, judged, pair_at, fields_at, value_at, pair_within};
 ghost use Rattle.dump_text.specs.Reading.{Gives};
 ghost use Rattle.dump_text.specs.InputLines.{line_is};
 
 use crate::fault::LineFault;
 use crate::text::{Stop, read_text};
-use database_rules::{KEY_LIMIT, VALUE_LIMIT};
 use key_bytes::{Bytes, Pair};
+use model_database::{KEY_LIMIT, VALUE_LIMIT};
 use std::alloc::Global;
 
 // How many bytes a line may have before its line feed.
@@ -62,7 +62,7 @@ pub fn is_below_top(key: &[u8]) -> bool
 }
 
 /// Reads the pair that a line spells, or returns the line's first fault.
-#[tactic(auto, unfolding(line_rules::specs::Reading::pair_at))]
+#[tactic(auto, unfolding(model_lines::specs::Reading::pair_at))]
 pub fn read_pair(
     alloc: Global,
     scratch: &mut Vec<u8>,

@@ -3,7 +3,7 @@
 ghost use Rattle.std.specs.Prelude.{◌≡◌, ◌+◌, ◌≤◌, length, drop, map};
 ghost use Rattle.std.specs.List.{prefix_len, take_while};
 ghost use Rattle.std.specs.Simd.Lanes.{mask_l};
-ghost use Rattle.line_rules.specs.Printing.{is_plain};
+ghost use Rattle.model_lines.specs.Printing.{is_plain};
 ghost use Rattle.dump_text.specs.Stops.{is_stop};
 
 use std::simd::prelude::*;

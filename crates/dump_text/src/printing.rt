@@ -2,7 +2,7 @@
 
 ghost use Rattle.std.specs.Prelude.{◌≡◌, ◌+◌, ◌*◌, ◌<◌, ◌≤◌, ◌++◌, false, Some, take, length, IfOk, OnOk, OnErr};
 ghost use Rattle.std.specs.Vec.{vec_len, vec_capacity};
-ghost use Rattle.line_rules.specs.Printing.{is_plain, in_digits, printed, printable, printable_but, hexadecimal_digit, pair_line};
+ghost use Rattle.model_lines.specs.Printing.{is_plain, in_digits, printed, printable, printable_but, hexadecimal_digit, pair_line};
 ghost use Rattle.dump_text.specs.Growing.{Grew};
 
 use crate::plain::split_plain;
@@ -137,7 +137,7 @@ fn add_printable_but(to: &mut Vec<u8>, bytes: &[u8], escaped: u8) -> Result<(), 
 
 // Adds the printable form of `bytes`, in which one byte more, where one is given, is spelled by its digits. After a
 // refusal a part of it stands behind what `to` held.
-#[tactic(auto, unfolding(line_rules::specs::Printing::printable_but, line_rules::specs::Printing::printable))]
+#[tactic(auto, unfolding(model_lines::specs::Printing::printable_but, model_lines::specs::Printing::printable))]
 fn add_chosen(to: &mut Vec<u8>, bytes: &[u8], escaped: Option<u8>) -> Result<(), AllocError>
     ensures ok { OnOk result (to.new.items ≡ to.old.items ++ printable_but escaped bytes.now) }
     ensures err { OnErr result (Grew to.old.items to.new.items) }

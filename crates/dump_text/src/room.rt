@@ -1,8 +1,8 @@
 //! Rooms: bytes that are written over from the front on. What was written stands in front of what the room held before.
 
 ghost use Rattle.std.specs.Prelude.{◌≡◌, ◌+◌, ◌*◌, ◌<◌, ◌≤◌, [], ◌∷◌, ◌++◌, length, take, drop};
-ghost use Rattle.line_rules.specs.Printing.{printed, printable, pair_line};
-ghost use Rattle.line_rules.specs.Reading.{text_of};
+ghost use Rattle.model_lines.specs.Printing.{printed, printable, pair_line};
+ghost use Rattle.model_lines.specs.Reading.{text_of};
 ghost use Rattle.dump_text.specs.Texts.{with_front};
 
 use crate::plain::{plain_in_8, plain_in_16};

@@ -3,8 +3,8 @@
 ghost use Rattle.std.specs.Prelude.{◌≡◌, ◌+◌, ◌≤◌, ◌∷◌, length, take, drop, IfOk, OnOk};
 ghost use Rattle.std.specs.List.{prefix_len, take_while};
 ghost use Rattle.std.specs.Vec.{vec_len};
-ghost use Rattle.line_rules.specs.Printing.{is_plain};
-ghost use Rattle.line_rules.specs.Reading.{piece_at, escaped_piece, hexadecimal_piece, digit_of, text_of};
+ghost use Rattle.model_lines.specs.Printing.{is_plain};
+ghost use Rattle.model_lines.specs.Reading.{piece_at, escaped_piece, hexadecimal_piece, digit_of, text_of};
 ghost use Rattle.dump_text.specs.Texts.{piece_is, stop_is, text_is, with_front, passed};
 
 use crate::plain::{is_plain, split_plain};
@@ -100,7 +100,7 @@ fn escaped_piece(bytes: &[u8]) -> Piece<'_>
 
 // What `bytes` begins with.
 #[inline]
-#[tactic(auto, unfolding(line_rules::specs::Reading::piece_at))]
+#[tactic(auto, unfolding(model_lines::specs::Reading::piece_at))]
 fn piece_of(bytes: &[u8]) -> Piece<'_>
     ensures { piece_is result ≡ piece_at bytes.now }
 {

@@ -1,7 +1,7 @@
 //! Writing of lines.
 
 ghost use Rattle.std.specs.Prelude.{◌≡◌, ◌+◌, ◌<◌, ◌≤◌, true, length, [], ◌∷◌, ◌++◌, decimal, OnOk, OnErr};
-ghost use Rattle.line_rules.specs.Printing.{printable, machine_line, item_line, error_line, order_line, pair_line, space};
+ghost use Rattle.model_lines.specs.Printing.{printable, machine_line, item_line, error_line, order_line, pair_line, space};
 ghost use Rattle.dump_text.specs.Ends.{word_of};
 ghost use Rattle.dump_text.specs.Growing.{Grew};
 ghost use Rattle.dump_text.specs.Lines.{line_of};
@@ -54,7 +54,7 @@ fn add_last(to: &mut Vec<u8>, bytes: &[u8]) -> Result<(), AllocError>
 }
 
 // Adds the line of how a machine ended. After a refusal a part of it stands behind what `to` held.
-#[tactic(auto, unfolding(line_rules::specs::Printing::machine_line))]
+#[tactic(auto, unfolding(model_lines::specs::Printing::machine_line))]
 fn add_machine_line(
     to: &mut Vec<u8>,
     machine: u16,
@@ -72,7 +72,7 @@ fn add_machine_line(
 }
 
 // Adds the line of an item. After a refusal a part of it stands behind what `to` held.
-#[tactic(auto, unfolding(line_rules::specs::Printing::item_line))]
+#[tactic(auto, unfolding(model_lines::specs::Printing::item_line))]
 fn add_item_line(
     to: &mut Vec<u8>,
     machine: u16,
@@ -90,7 +90,7 @@ fn add_item_line(
 }
 
 // Adds the line of an error. After a refusal a part of it stands behind what `to` held.
-#[tactic(auto, unfolding(line_rules::specs::Printing::error_line))]
+#[tactic(auto, unfolding(model_lines::specs::Printing::error_line))]
 fn add_error_line(
     to: &mut Vec<u8>,
     machine: u16,
@@ -108,7 +108,7 @@ fn add_error_line(
 }
 
 // Adds the line of a place of the order. After a refusal a part of it stands behind what `to` held.
-#[tactic(auto, unfolding(line_rules::specs::Printing::order_line))]
+#[tactic(auto, unfolding(model_lines::specs::Printing::order_line))]
 fn add_order_line(to: &mut Vec<u8>, machine: u16) -> Result<(), AllocError>
     ensures ok { OnOk result (to.new.items ≡ to.old.items ++ order_line machine) }
     ensures err { OnErr result (Grew to.old.items to.new.items) }
@@ -143,7 +143,7 @@ fn fits_one_room(key: &[u8], value: &[u8]) -> bool
 }
 
 // Adds the line of a pair. After a refusal a part of it stands behind what `to` held.
-#[tactic(auto, unfolding(line_rules::specs::Printing::pair_line))]
+#[tactic(auto, unfolding(model_lines::specs::Printing::pair_line))]
 fn add_pair_line(to: &mut Vec<u8>, key: &[u8], value: &[u8]) -> Result<(), AllocError>
     ensures ok { OnOk result (to.new.items ≡ to.old.items ++ pair_line key.now value.now) }
     ensures err { OnErr result (Grew to.old.items to.new.items) }

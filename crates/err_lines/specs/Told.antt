@@ -3,7 +3,7 @@ use Rattle.std.specs.Prelude.{ℕ, List, [], ◌∷◌, ◌++◌, Option, ◌⊎
 use Rattle.std.specs.Io.KnownBytes.{Appends}
 use Rattle.outside.specs.Counts.{Rose}
 use Rattle.outside.specs.Streams.{AppendsFront}
-use Rattle.line_rules.specs.Printing.{line_feed}
+use Rattle.model_lines.specs.Printing.{line_feed}
 
 -- the name of the program, a text and a line feed
 abbrev pub told : List ℕ → List ℕ

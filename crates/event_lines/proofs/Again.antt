@@ -8,17 +8,17 @@ use Rattle.std.proofs.lemmas.List.Elements.{recursion_from_All}
 use Rattle.std.proofs.lemmas.List.Sums.{sum_by-cons}
 use Rattle.key_bytes.specs.Keys.{IsByteString}
 use Rattle.key_bytes.specs.Entries.{entry_of}
-use Rattle.database_rules.specs.declared.TheConstants.{KEY_LIMIT, VALUE_LIMIT}
-use Rattle.line_rules.specs.Inputs.{IsSmall}
-use Rattle.line_rules.specs.Printing.{separator, printed, printable, hexadecimal_digit, is_plain, backslash, pair_line}
-use Rattle.line_rules.specs.Reading.{text_of, AtEnd, AtSeparator, Line, Entry, fields_at, is_pair, lines_of, size_of, input_limit, pairs_limit, line_limit}
-use Rattle.line_rules.proofs.Lines.{IsFeedless, IsFeedless-append, whole_first}
+use Rattle.model_database.specs.declared.TheConstants.{KEY_LIMIT, VALUE_LIMIT}
+use Rattle.model_lines.specs.Inputs.{IsSmall}
+use Rattle.model_lines.specs.Printing.{separator, printed, printable, hexadecimal_digit, is_plain, backslash, pair_line}
+use Rattle.model_lines.specs.Reading.{text_of, AtEnd, AtSeparator, Line, Entry, fields_at, is_pair, lines_of, size_of, input_limit, pairs_limit, line_limit}
+use Rattle.model_lines.proofs.Lines.{IsFeedless, IsFeedless-append, whole_first}
 use Rattle.dump_text.specs.Texts.{with_front}
 use Rattle.dump_text.proofs.Pieces.{text_empty, text_parted}
 use Rattle.dump_text.proofs.Printed.{text_printed}
-use Rattle.event_rules.specs.declared.event.Event.{Event}
-use Rattle.event_rules.specs.declared.event.Event.TheVariants.{Watch, Clear, Put}
-use Rattle.event_rules.specs.Events.{Place, start, next_place, is_watch, lone_key, event_at, read_event, read_events, events_of, event_line, is_watch_event, is_put_event, watches_limit, IsSmallKey, IsSmallEvent, AreEventsOf}
+use Rattle.model_events.specs.declared.event.Event.{Event}
+use Rattle.model_events.specs.declared.event.Event.TheVariants.{Watch, Clear, Put}
+use Rattle.model_events.specs.Events.{Place, start, next_place, is_watch, lone_key, event_at, read_event, read_events, events_of, event_line, is_watch_event, is_put_event, watches_limit, IsSmallKey, IsSmallEvent, AreEventsOf}
 
 -- ---- printable bytes have no line feed, and are at most four times as long
 

@@ -2,13 +2,13 @@
 use Rattle.std.proofs.Common.{◌≡◌, ℕ, ◌+◌, ◌≤◌, cond, ◌&&◌, ◌||◌, nat_lt, nat_le, List, [], ◌∷◌, ◌++◌, length, Result, Ok, Err, refl, sym, ap, ◌∙◌, append_assoc}
 use Rattle.std.proofs.lemmas.List.{append-nil, nil_from_length}
 use Rattle.std.proofs.lemmas.Bool.{ltb-false}
-use Rattle.line_rules.specs.Reading.{Fault, TooMany, TooLong, Line, lines_of, is_pair, size_of, input_limit, pairs_limit, line_limit}
-use Rattle.line_rules.proofs.ReadLines.{guard_ok, neither}
+use Rattle.model_lines.specs.Reading.{Fault, TooMany, TooLong, Line, lines_of, is_pair, size_of, input_limit, pairs_limit, line_limit}
+use Rattle.model_lines.proofs.ReadLines.{guard_ok, neither}
 use Rattle.dump_text.specs.declared.fault.LineFault.{LineFault}
 use Rattle.dump_text.specs.Reading.{Fails}
 use Rattle.dump_text.proofs.Inputs.{fault_decides}
-use Rattle.event_rules.specs.declared.event.Event.{Event}
-use Rattle.event_rules.specs.Events.{Place, next_place, is_watch, is_too_many, watches_limit, judged, event_at, joined, read_event, read_events}
+use Rattle.model_events.specs.declared.event.Event.{Event}
+use Rattle.model_events.specs.Events.{Place, next_place, is_watch, is_too_many, watches_limit, judged, event_at, joined, read_event, read_events}
 
 -- what was read before, and what is still read
 abbrev pub before : List Event → Result (List Event) Fault → Result (List Event) Fault

@@ -6,20 +6,20 @@ use Rattle.std.proofs.lemmas.List.{append-nil, length-append}
 use Rattle.std.proofs.lemmas.List.Elements.{All-from_recursion}
 use Rattle.std.proofs.lemmas.List.Sums.{sum_by-cons}
 use Rattle.key_bytes.specs.Keys.{key_lt, top}
-use Rattle.database_rules.specs.declared.TheConstants.{KEY_LIMIT}
-use Rattle.line_rules.specs.Printing.{printable, pair_line}
-use Rattle.line_rules.specs.Reading as reading
-use Rattle.line_rules.specs.Reading.{read_line, read_lines, ReadText, text_of, Stop, AtEnd, AtSeparator, AtFault, Line, Flaw, Bad, Long, Entry, Fault, TooMany, TooLong, fields_at, pair_at, is_pair, lines_of, size_of, input_limit, pairs_limit, line_limit}
-use Rattle.line_rules.proofs.ReadLines.{guard_ok, neither, limits_pass}
-use Rattle.input_rules.proofs.Machines.{choice_ok}
+use Rattle.model_database.specs.declared.TheConstants.{KEY_LIMIT}
+use Rattle.model_lines.specs.Printing.{printable, pair_line}
+use Rattle.model_lines.specs.Reading as reading
+use Rattle.model_lines.specs.Reading.{read_line, read_lines, ReadText, text_of, Stop, AtEnd, AtSeparator, AtFault, Line, Flaw, Bad, Long, Entry, Fault, TooMany, TooLong, fields_at, pair_at, is_pair, lines_of, size_of, input_limit, pairs_limit, line_limit}
+use Rattle.model_lines.proofs.ReadLines.{guard_ok, neither, limits_pass}
+use Rattle.model_input.proofs.Machines.{choice_ok}
 use Rattle.std.specs.Prelude.{IfOk}
 use Rattle.dump_text.specs.declared.fault.LineFault.{LineFault}
 use Rattle.dump_text.specs.Reading.{Gives}
 use Rattle.dump_text.proofs.Printed.{ending, text_was}
 use Rattle.dump_text.proofs.Laws.{standing, lines_stand, length-standing, lines_were}
-use Rattle.event_rules.specs.declared.event.Event.{Event}
-use Rattle.event_rules.specs.declared.event.Event.TheVariants.{Watch, Clear, Put}
-use Rattle.event_rules.specs.Events.{Place, start, next_place, is_kind, is_watch, is_too_many, key_within, lone_key_at, lone_key, with_key, put_of, event_by, event_at, judged, read_event, joined, read_events, events_of, event_line, is_watch_event, is_put_event, watches_limit, IsSmallKey, IsSmallEvent, AreEventsOf}
+use Rattle.model_events.specs.declared.event.Event.{Event}
+use Rattle.model_events.specs.declared.event.Event.TheVariants.{Watch, Clear, Put}
+use Rattle.model_events.specs.Events.{Place, start, next_place, is_kind, is_watch, is_too_many, key_within, lone_key_at, lone_key, with_key, put_of, event_by, event_at, judged, read_event, joined, read_events, events_of, event_line, is_watch_event, is_put_event, watches_limit, IsSmallKey, IsSmallEvent, AreEventsOf}
 
 -- ---- a key that stands alone
 

@@ -1,7 +1,7 @@
 -- What the program's places stand for.
 use Rattle.std.specs.Prelude.{ℕ, List, Result, Ok, Err}
-use Rattle.line_rules.specs.Reading.{Flaw, Fault, fault_of}
-use Rattle.event_rules.specs.Events as events
+use Rattle.model_lines.specs.Reading.{Flaw, Fault, fault_of}
+use Rattle.model_events.specs.Events as events
 use Rattle.event_lines.specs.declared.reading.Place.{Place}
 
 abbrev pub place_is : ℕ → Place → events.Place

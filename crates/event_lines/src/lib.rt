@@ -1,6 +1,6 @@
 //! Lines of events are read: W and a key, C and a key, or K with a key and a value.
 //!
-//! `event_rules` says what these lines are. What is read is exactly what they come to, and a fault is the first one
+//! `model_events` says what these lines are. What is read is exactly what they come to, and a fault is the first one
 //! from the left, with its line and its place.
 #![tactic(auto)]
 
@@ -8,5 +8,5 @@ mod line;
 mod reading;
 
 pub use dump_text::LineFault;
-pub use event_rules::{Event, Events};
+pub use model_events::{Event, Events};
 pub use reading::read_events;

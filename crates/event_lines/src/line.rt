@@ -1,16 +1,16 @@
 //! Reading of the line of an event.
 
 ghost use Rattle.std.specs.Prelude.{◌≡◌, ◌≤◌, length};
-ghost use Rattle.line_rules.specs.Reading.{line_limit, text_of};
+ghost use Rattle.model_lines.specs.Reading.{line_limit, text_of};
 ghost use Rattle.dump_text.specs.InputLines.{line_is};
 ghost use Rattle.dump_text.specs.Reading.{Gives};
-ghost use Rattle.event_rules.specs.Events.{event_at, is_watch, lone_key, key_within, judged};
+ghost use Rattle.model_events.specs.Events.{event_at, is_watch, lone_key, key_within, judged};
 ghost use Rattle.event_lines.specs.Lines.{judged_key};
 
-use database_rules::KEY_LIMIT;
 use dump_text::{InputLine, LineFault, Stop, is_below_top, read_fields, read_text};
-use event_rules::Event;
 use key_bytes::Key;
+use model_database::KEY_LIMIT;
+use model_events::Event;
 use std::alloc::Global;
 
 /// Tells whether a line watches a key, which its first byte tells.
@@ -22,7 +22,7 @@ pub(crate) fn is_watch(line: &InputLine<'_>) -> bool
 
 /// Reads the event that a line spells, or returns the line's first fault. A text with an escape in it is built in the scratch
 /// buffer, whatever that held.
-#[tactic(auto, unfolding(event_rules::specs::Events::event_at))]
+#[tactic(auto, unfolding(model_events::specs::Events::event_at))]
 pub(crate) fn read_event(
     alloc: Global,
     scratch: &mut Vec<u8>,

@@ -1,17 +1,17 @@
 //! Reading of lines of events, one after the other.
 
 ghost use Rattle.std.specs.Prelude.{◌≡◌, ◌+◌, ◌^◌, ◌<◌, ◌≤◌, List, Ok, IfOk};
-ghost use Rattle.line_rules.specs.Reading.{size_of};
+ghost use Rattle.model_lines.specs.Reading.{size_of};
 ghost use Rattle.dump_text.specs.InputLines.{line_is};
 ghost use Rattle.dump_text.specs.Reading.{Gives};
-ghost use Rattle.event_rules.specs.declared.event.Event.{Event};
-ghost use Rattle.event_rules.specs.Events.{next_place, is_too_many, read_event, events_of, AreEventsOf};
+ghost use Rattle.model_events.specs.declared.event.Event.{Event};
+ghost use Rattle.model_events.specs.Events.{next_place, is_too_many, read_event, events_of, AreEventsOf};
 ghost use Rattle.event_lines.specs.Lines.{place_is};
 
 use crate::line::{is_watch, read_event};
 use dump_text::{InputLine, LineFault, first_line};
-use event_rules::{Event, Events};
 use lists::List;
+use model_events::{Event, Events};
 use std::alloc::Global;
 
 // How many bytes an input may have.
@@ -60,7 +60,7 @@ fn behind(place: Place, line: &InputLine<'_>) -> Place
 }
 
 // The event of the line at a place, or its first fault.
-#[tactic(auto, unfolding(event_rules::specs::Events::read_event))]
+#[tactic(auto, unfolding(model_events::specs::Events::read_event))]
 fn read_at(
     alloc: Global,
     scratch: &mut Vec<u8>,

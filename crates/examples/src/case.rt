@@ -1,10 +1,10 @@
 //! A case of the program: the words and the input that it is run with, and what it is to answer.
 
-use case_files::blocks::{is_line_feed, value_of};
 use fdb_program::ArgWords;
 use std::alloc::{AllocError, Global};
 use std::fs;
 use std::rt::Files;
+use test_files::blocks::{is_line_feed, value_of};
 use thiserror::Error;
 
 /// A case of the program.

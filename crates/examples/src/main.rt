@@ -6,7 +6,6 @@
 mod case;
 mod running;
 
-use case_files::{Report, blocks, names};
 use running::run_case;
 use std::alloc::AllocError;
 use std::process::ExitCode;
@@ -14,6 +13,7 @@ use std::rt::Files;
 use std::sync::Wait;
 use std::thread::Threads;
 use std::{fs, io};
+use test_files::{Report, blocks, names};
 
 fn main(rt: HostRuntime) -> io::Result<ExitCode> {
     let are_same = run_scripts(&rt)? & run_requests(&rt)?;
@@ -41,7 +41,7 @@ fn run_requests<R: Files + Print + AllocGlobal + Clone + Drop>(rt: &R) -> io::Re
     let files = names::ending_with(rt, ".requests")?;
     for file in files.iter() {
         let text = fs::read(rt, file.as_str())?;
-        let report = request_cases::run_text(rt.alloc(), text.as_slice())?;
+        let report = test_requests::run_text(rt.alloc(), text.as_slice())?;
         are_same = are_same && report.is_same();
         print(rt, file.as_str(), &report)?;
     }

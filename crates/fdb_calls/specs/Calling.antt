@@ -1,24 +1,24 @@
 -- A call on a transaction in its setting: what it answers, and what it leaves.
 use Rattle.std.specs.Prelude.{ℕ, ◌+◌, ℤ, pos, unsigned_abs, Bool, true, false, if◌then◌else◌, List, [], ◌∷◌, ◌++◌, Option, Some, None, unwrap_or}
 use Rattle.key_bytes.specs.declared.range.KeyRange.{KeyRange}
-use Rattle.database_rules.specs.declared.TheConstants.{TRANSACTION_CANCELLED}
-use Rattle.database_rules.specs.declared.Code.{Code}
-use Rattle.database_rules.specs.declared.Tried.TheVariants as tried
-use Rattle.database_rules.specs.declared.Phase.{Phase}
-use Rattle.database_rules.specs.declared.Phase.TheVariants as phase
-use Rattle.database_rules.specs.declared.Api.{Api}
-use Rattle.database_rules.specs.declared.AtomicOp.{AtomicOp}
-use Rattle.database_rules.specs.Atomics.{atomic_named}
-use Rattle.database_rules.specs.Databases.{Mutation, Set, Clear, ClearRange, Atomic}
-use Rattle.database_rules.specs.States.{all_filled}
-use Rattle.database_rules.specs.Intervals.{added}
-use Rattle.database_rules.specs.Modes.{lacks_limit}
-use Rattle.database_rules.specs.Reads as read
-use Rattle.database_rules.specs.Reads.{Read, Answer, answer}
-use Rattle.database_rules.specs.Histories.{Setting, Commit, last, without_conflict_by, stamp_of}
-use Rattle.database_rules.specs.Transactions.{Transaction, fresh, writes_of, write_conflicts_of, is_read_only, is_cancelled, is_retryable, version_made}
-use Rattle.database_rules.specs.Transactions.{first_failing, phase_code, read_code, set_code, clear_code, range_code, op_code, atomic_code, set_version_code, commit_code}
-use Rattle.database_rules.specs.Transactions.{version_in, map_below, view, late_checks, conflict_checks, with_version, with_read, with_mutation, with_read_range, with_write_range, with_write_conflict_disabled, with_phase, cancelled}
+use Rattle.model_database.specs.declared.TheConstants.{TRANSACTION_CANCELLED}
+use Rattle.model_database.specs.declared.Code.{Code}
+use Rattle.model_database.specs.declared.Tried.TheVariants as tried
+use Rattle.model_database.specs.declared.Phase.{Phase}
+use Rattle.model_database.specs.declared.Phase.TheVariants as phase
+use Rattle.model_database.specs.declared.Api.{Api}
+use Rattle.model_database.specs.declared.AtomicOp.{AtomicOp}
+use Rattle.model_database.specs.Atomics.{atomic_named}
+use Rattle.model_database.specs.Databases.{Mutation, Set, Clear, ClearRange, Atomic}
+use Rattle.model_database.specs.States.{all_filled}
+use Rattle.model_database.specs.Intervals.{added}
+use Rattle.model_database.specs.Modes.{lacks_limit}
+use Rattle.model_database.specs.Reads as read
+use Rattle.model_database.specs.Reads.{Read, Answer, answer}
+use Rattle.model_database.specs.Histories.{Setting, Commit, last, without_conflict_by, stamp_of}
+use Rattle.model_database.specs.Transactions.{Transaction, fresh, writes_of, write_conflicts_of, is_read_only, is_cancelled, is_retryable, version_made}
+use Rattle.model_database.specs.Transactions.{first_failing, phase_code, read_code, set_code, clear_code, range_code, op_code, atomic_code, set_version_code, commit_code}
+use Rattle.model_database.specs.Transactions.{version_in, map_below, view, late_checks, conflict_checks, with_version, with_read, with_mutation, with_read_range, with_write_range, with_write_conflict_disabled, with_phase, cancelled}
 use Rattle.fdb_calls.specs.declared.TxnCall.{TxnCall}
 use Rattle.fdb_calls.specs.declared.TxnCall.TheVariants as call
 use Rattle.fdb_calls.specs.declared.Reply.{Reply}

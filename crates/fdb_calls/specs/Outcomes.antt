@@ -1,11 +1,11 @@
 -- What became of a life of a transaction, of which a versionstamp may have been promised (API reference,
 -- "fdb_transaction_get_versionstamp").
 use Rattle.std.specs.Prelude.{Option, Some, None}
-use Rattle.database_rules.specs.declared.Phase.{Phase}
-use Rattle.database_rules.specs.declared.Phase.TheVariants as phase
-use Rattle.database_rules.specs.declared.Tried.TheVariants as tried
-use Rattle.database_rules.specs.declared.TheConstants.{NO_COMMIT_VERSION, TRANSACTION_CANCELLED}
-use Rattle.database_rules.specs.Histories.{stamp_of}
+use Rattle.model_database.specs.declared.Phase.{Phase}
+use Rattle.model_database.specs.declared.Phase.TheVariants as phase
+use Rattle.model_database.specs.declared.Tried.TheVariants as tried
+use Rattle.model_database.specs.declared.TheConstants.{NO_COMMIT_VERSION, TRANSACTION_CANCELLED}
+use Rattle.model_database.specs.Histories.{stamp_of}
 use Rattle.fdb_calls.specs.declared.Outcome.{Outcome}
 use Rattle.fdb_calls.specs.declared.Outcome.TheVariants as outcome
 use Rattle.fdb_calls.specs.Calling.{code_of}

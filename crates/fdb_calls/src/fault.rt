@@ -3,7 +3,7 @@
 ghost use Rattle.std.specs.Prelude.{◌≡◌};
 ghost use Rattle.fdb_calls.specs.declared.fault.TrFault.TheVariants as fault;
 
-use database_rules::Code;
+use model_database::Code;
 use std::alloc::{AllocError, AllocFailed};
 use thiserror::Error;
 

@@ -1,7 +1,7 @@
 //! The requests that a machine asks of the database, the replies that it gets, and the calls of a transaction.
 //!
 //! A request is taken whole: it acts in one step, and its reply is fixed there. `specs/Calling.antt` says what each call on
-//! a transaction answers and leaves, by these very types; what a request does is stated above it in `machine_rules`.
+//! a transaction answers and leaves, by these very types; what a request does is stated above it in `model_machine`.
 //! `Tr` has the calls of a transaction by their names, for layers that work over any transaction that answers so.
 #![tactic(auto)]
 
@@ -9,11 +9,11 @@ mod fault;
 mod shared_request;
 mod tr;
 
-pub use database_rules::Code;
-use database_rules::{RangeOptions, Selector};
 use directory_types::{Boxed, DirArgs, DirFault, DirKind, DirReply, Layer};
 pub use fault::TrFault;
 use key_bytes::{Bytes, Key, KeyRange, Pairs};
+pub use model_database::Code;
+use model_database::{RangeOptions, Selector};
 pub use shared_request::SharedRequest;
 pub use tr::Tr;
 

@@ -1,20 +1,20 @@
 //! The calls of a transaction by their names, for layers that work over any transaction.
 
 ghost use Rattle.std.specs.Prelude.{◌≡◌, ℕ, Bool, true, false, List};
-ghost use Rattle.database_rules.specs.Histories.{Setting};
-ghost use Rattle.database_rules.specs.Reads as read;
-ghost use Rattle.database_rules.specs.Transactions.{Transaction, with_granted};
-ghost use Rattle.database_rules.specs.declared.AtomicOp.{AtomicOp as AnyOp};
-ghost use Rattle.database_rules.specs.declared.AtomicOp.TheVariants as atomic;
+ghost use Rattle.model_database.specs.Histories.{Setting};
+ghost use Rattle.model_database.specs.Reads as read;
+ghost use Rattle.model_database.specs.Transactions.{Transaction, with_granted};
+ghost use Rattle.model_database.specs.declared.AtomicOp.{AtomicOp as AnyOp};
+ghost use Rattle.model_database.specs.declared.AtomicOp.TheVariants as atomic;
 ghost use Rattle.fdb_calls.specs.declared.Reply.TheVariants as reply;
 ghost use Rattle.fdb_calls.specs.Answers.{Answered};
 ghost use Rattle.fdb_calls.specs.Calling.{read_called, set_called, clear_called, clear_range_called, atomic_called};
 ghost use Rattle.fdb_calls.specs.Calling.{no_write_conflict_called, write_conflict_called};
-ghost use Rattle.database_rules.specs.Intervals.{one};
+ghost use Rattle.model_database.specs.Intervals.{one};
 
 use crate::fault::TrFault;
-use database_rules::AtomicOp;
 use key_bytes::{Bytes, KeyRange, Pairs};
+use model_database::AtomicOp;
 
 /// A transaction in a setting, by its calls (API reference, "Transaction"). For every setting and every transaction for
 /// which it stands before a call, the call is answered as the definitions say (`specs/Calling.antt`), and it stands for

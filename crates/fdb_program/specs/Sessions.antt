@@ -1,7 +1,7 @@
 -- What the program promises where the one word is `shell`.
 use Rattle.std.specs.Prelude.{◌≡◌, ℕ, List, [], Option, ◌⊎◌}
 use Rattle.outside.specs.Counts.{Rose}
-use Rattle.line_rules.specs.Reading.{Fault}
+use Rattle.model_lines.specs.Reading.{Fault}
 use Rattle.err_lines.specs.Told.{IsTold}
 use Rattle.fdb_shell.specs.Outcomes as session
 

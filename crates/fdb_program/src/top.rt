@@ -1,7 +1,7 @@
 //! The call of the program.
 
 ghost use Rattle.std.specs.Prelude.{◌≡◌, true, false};
-ghost use Rattle.command_rules.specs.Grammar.{args_of};
+ghost use Rattle.model_commands.specs.Grammar.{args_of};
 ghost use Rattle.tester_run.specs.Outcomes.{IsOutcome};
 ghost use Rattle.fdb_program.specs.Sessions.{IsSession};
 ghost use Rattle.fdb_program.specs.Words.{is_shell};

@@ -6,7 +6,7 @@ use Rattle.std.specs.List.{AllByRecursion}
 use Rattle.std.specs.Io.KnownBytes.{Appends}
 use Rattle.outside.specs.Streams.{AppendsFront}
 use Rattle.fdb_calls.specs.declared.Request.{Request}
-use Rattle.machine_rules.specs.Worlds.{World, step}
+use Rattle.model_machine.specs.Worlds.{World, step}
 use Rattle.fdb_wire.specs.Requests.{request_bytes}
 use Rattle.fdb_wire.specs.Replies.{reply_bytes}
 use Rattle.fdb_serve.specs.Serving.{framed, frames_of, answers_to, world_after}

@@ -4,9 +4,9 @@ use Rattle.std.specs.Io.KnownBytes.{Appends, Consumes, IsAtEnd}
 use Rattle.std.proofs.KnownBytes.{Appends-nil, Consumes-nil, Consumes-trans}
 use Rattle.std.proofs.lemmas.List.{append-nil, length-append}
 use Rattle.outside.specs.Streams.{AppendsFront}
-use Rattle.database_rules.specs.declared.Api.{Api}
+use Rattle.model_database.specs.declared.Api.{Api}
 use Rattle.fdb_calls.specs.declared.Request.{Request}
-use Rattle.machine_rules.specs.Worlds.{World, step}
+use Rattle.model_machine.specs.Worlds.{World, step}
 use Rattle.fdb_wire.specs.Requests.{request_bytes}
 use Rattle.fdb_wire.specs.Replies.{reply_bytes}
 use Rattle.fdb_serve.specs.declared.halt.Halt.{Halt}

@@ -2,7 +2,7 @@
 use Rattle.std.proofs.Common.{◌≡◌, ℕ, inl, inr, List, Option, Err, refl, arith}
 use Rattle.outside.specs.Counts.{Rose}
 use Rattle.err_lines.specs.Told.{IsTold}
-use Rattle.database_rules.specs.declared.Api.{Api}
+use Rattle.model_database.specs.declared.Api.{Api}
 use Rattle.fdb_serve.specs.declared.halt.Flaw.{Flaw}
 use Rattle.fdb_serve.specs.declared.halt.Halt.{Halt}
 use Rattle.fdb_serve.specs.declared.halt.Halt.TheVariants as halt

@@ -5,7 +5,7 @@ use Rattle.std.specs.Io.KnownBytes.{Appends, Consumes, IsAtEnd}
 use Rattle.outside.specs.Counts.{Rose}
 use Rattle.outside.specs.Streams.{AppendsFront}
 use Rattle.err_lines.specs.Told.{IsTold}
-use Rattle.database_rules.specs.declared.Api.{Api}
+use Rattle.model_database.specs.declared.Api.{Api}
 use Rattle.fdb_calls.specs.declared.Request.{Request}
 use Rattle.fdb_wire.specs.Requests.{request_bytes, IsClientRequest}
 use Rattle.fdb_serve.specs.declared.halt.Flaw.{Flaw}

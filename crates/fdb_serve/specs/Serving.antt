@@ -1,10 +1,10 @@
 -- What is served: requests come in frames, and each is answered by a frame before the next is read.
 use Rattle.std.specs.Prelude.{ℕ, List, [], ◌∷◌, ◌++◌, length, flat_map, Option}
 use Rattle.std.specs.Int.{w32, to_be_bytes}
-use Rattle.command_rules.specs.declared.args.RunArgs.{RunArgs}
-use Rattle.database_rules.specs.declared.Api.{Api}
+use Rattle.model_commands.specs.declared.args.RunArgs.{RunArgs}
+use Rattle.model_database.specs.declared.Api.{Api}
 use Rattle.fdb_calls.specs.declared.Request.{Request}
-use Rattle.machine_rules.specs.Worlds.{World, begun, step}
+use Rattle.model_machine.specs.Worlds.{World, begun, step}
 use Rattle.fdb_wire.specs.Requests.{request_bytes}
 use Rattle.fdb_wire.specs.Replies.{reply_bytes}
 

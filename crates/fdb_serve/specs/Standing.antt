@@ -2,7 +2,7 @@
 use Rattle.std.specs.Prelude.{◌≡◌, ⊤, List, ℕ, Result, Ok, Err}
 use Rattle.std.specs.declared.alloc.AllocError.{AllocError}
 use Rattle.outside.specs.Seeds.{words_from}
-use Rattle.machine_rules.specs.Worlds.{World, Stepped, HasWords}
+use Rattle.model_machine.specs.Worlds.{World, Stepped, HasWords}
 use Rattle.client_core.specs.Stands.{StandsFor}
 use Rattle.fdb_wire.specs.Replies.{reply_bytes}
 use Rattle.fdb_serve.specs.declared.server.Server.{Server}

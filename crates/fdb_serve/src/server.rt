@@ -1,18 +1,18 @@
 //! Requests on a core, and the frames of their replies.
 
 ghost use Rattle.std.specs.Prelude.{◌≡◌, ◌<◌, ◌≤◌, ◌+◌, ◌^◌, IfOk, OnOk};
-ghost use Rattle.database_rules.specs.declared.Api.{Api};
-ghost use Rattle.machine_rules.specs.Worlds.{World, step};
+ghost use Rattle.model_database.specs.declared.Api.{Api};
+ghost use Rattle.model_machine.specs.Worlds.{World, step};
 ghost use Rattle.fdb_wire.specs.Replies.{reply_bytes};
 ghost use Rattle.fdb_serve.specs.Serving.{framed, serve_arguments, first_world};
 ghost use Rattle.fdb_serve.specs.Standing.{Stands};
 
 use client_core::Core;
-use command_rules::RunArgs;
-use database_rules::Api;
 use fdb_calls::{Reply, Request};
 use fdb_wire::write_reply;
 use key_bytes::{Bytes, Pairs};
+use model_commands::RunArgs;
+use model_database::Api;
 use outside::PcgWords;
 use std::alloc::{AllocError, Global};
 

@@ -1,7 +1,7 @@
 //! The call that serves.
 
 ghost use Rattle.std.specs.Prelude.{◌≡◌, ◌≤◌, ◌+◌, ◌^◌, ℕ, Option, Err, IfErr};
-ghost use Rattle.database_rules.specs.declared.Api.{Api};
+ghost use Rattle.model_database.specs.declared.Api.{Api};
 ghost use Rattle.fdb_serve.specs.Serving.{first_world};
 ghost use Rattle.fdb_serve.specs.Standing.{Stands};
 ghost use Rattle.fdb_serve.specs.Endings.{Finishes, FinishesAt, IsSent};
@@ -14,7 +14,7 @@ use crate::frames::next_request;
 use crate::halt::{Halt, Stopped};
 use crate::server::Server;
 use crate::telling::refused;
-use database_rules::Api;
+use model_database::Api;
 use outside::{Sink, Source, write_all};
 use std::alloc::Global;
 

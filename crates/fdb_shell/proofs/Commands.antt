@@ -5,13 +5,13 @@ use Rattle.fdb_calls.specs.declared.TxnCall.{TxnCall}
 use Rattle.fdb_calls.specs.declared.TxnCall.TheVariants as call
 use Rattle.fdb_calls.specs.declared.Request.TheVariants as request
 use Rattle.fdb_calls.specs.declared.Reply.{Reply}
-use Rattle.machine_rules.specs.Worlds.{World, step}
-use Rattle.shell_rules.specs.declared.command.Command.{Command}
-use Rattle.shell_rules.specs.declared.command.Command.TheVariants as command
-use Rattle.shell_rules.specs.Commands.{command_of}
-use Rattle.shell_rules.specs.Requests.{Did, says, silent, value_said, made, called, committed, followed, read_by, written_by, printed_line, error_line}
-use Rattle.shell_rules.specs.Sessions as shell
-use Rattle.shell_rules.specs.Sessions.{and_is_open, only_says, no_transaction, begun_by, committed_by, reset_by, reads, writes, done, done_if, answered}
+use Rattle.model_machine.specs.Worlds.{World, step}
+use Rattle.model_shell.specs.declared.command.Command.{Command}
+use Rattle.model_shell.specs.declared.command.Command.TheVariants as command
+use Rattle.model_shell.specs.Commands.{command_of}
+use Rattle.model_shell.specs.Requests.{Did, says, silent, value_said, made, called, committed, followed, read_by, written_by, printed_line, error_line}
+use Rattle.model_shell.specs.Sessions as shell
+use Rattle.model_shell.specs.Sessions.{and_is_open, only_says, no_transaction, begun_by, committed_by, reset_by, reads, writes, done, done_if, answered}
 use Rattle.fdb_shell.specs.declared.session.Session.{Session}
 use Rattle.fdb_shell.specs.declared.session.Stop.{Stop}
 use Rattle.fdb_shell.specs.declared.session.Stop.TheVariants as stop

@@ -1,14 +1,14 @@
 -- What requests left, one behind the other.
 use Rattle.std.proofs.Common.{◌≡◌, ℕ, Bool, true, false, List, [], ◌++◌, Result, Ok, Err, refl, sym, ap, subst, ◌∙◌, append_assoc}
 use Rattle.std.proofs.lemmas.List.{append-nil}
-use Rattle.database_rules.specs.declared.Code.{Code}
+use Rattle.model_database.specs.declared.Code.{Code}
 use Rattle.fdb_calls.specs.declared.Request.{Request}
 use Rattle.fdb_calls.specs.declared.Reply.{Reply}
 use Rattle.fdb_calls.specs.declared.Reply.TheVariants as reply
-use Rattle.machine_rules.specs.Worlds.{World, Stepped, HasWords, step}
+use Rattle.model_machine.specs.Worlds.{World, Stepped, HasWords, step}
 use Rattle.client_core.specs.Stands.{CoreModel, StandsFor, Answers}
-use Rattle.shell_rules.specs.Requests.{Did, told, says, silent, asked, followed}
-use Rattle.shell_rules.specs.Sessions.{and_is_open}
+use Rattle.model_shell.specs.Requests.{Did, told, says, silent, asked, followed}
+use Rattle.model_shell.specs.Sessions.{and_is_open}
 use Rattle.fdb_shell.specs.declared.session.Session.{Session}
 use Rattle.fdb_shell.specs.declared.session.Stop.{Stop}
 use Rattle.fdb_shell.specs.declared.session.Stop.TheVariants as stop

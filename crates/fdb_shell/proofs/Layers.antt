@@ -1,13 +1,13 @@
 -- A call of a layer left what its row of the table says.
 use Rattle.std.proofs.Common.{◌≡◌, ℕ, Bool, true, false, List, Result, refl, sym, ap, subst, ◌∙◌}
-use Rattle.machine_rules.specs.Worlds.{World}
+use Rattle.model_machine.specs.Worlds.{World}
 use Rattle.client_core.specs.Stands.{CoreModel}
-use Rattle.shell_rules.specs.declared.command.Command.TheVariants as command
-use Rattle.shell_rules.specs.declared.recipe.Recipe.{Recipe}
-use Rattle.shell_rules.specs.Requests.{Did, read_by, written_by}
-use Rattle.shell_rules.specs.Recipes.{is_writing, recipe_done}
-use Rattle.shell_rules.specs.Sessions as shell
-use Rattle.shell_rules.specs.Sessions.{layer_by, done}
+use Rattle.model_shell.specs.declared.command.Command.TheVariants as command
+use Rattle.model_shell.specs.declared.recipe.Recipe.{Recipe}
+use Rattle.model_shell.specs.Requests.{Did, read_by, written_by}
+use Rattle.model_shell.specs.Recipes.{is_writing, recipe_done}
+use Rattle.model_shell.specs.Sessions as shell
+use Rattle.model_shell.specs.Sessions.{layer_by, done}
 use Rattle.shell_recipes.specs.declared.calls.End.{End}
 use Rattle.shell_recipes.specs.Running.{is_refused, HasRun}
 use Rattle.fdb_shell.specs.declared.session.Session.{Session}

@@ -5,8 +5,8 @@ use Rattle.std.specs.List.{AllByRecursion, filter}
 use Rattle.std.proofs.lemmas.Bool.{eqb-true}
 use Rattle.std.proofs.lemmas.List.{append-nil, take_at}
 use Rattle.std.proofs.lemmas.Grind.{flat_map-append}
-use Rattle.line_rules.specs.Reading.{Line, Fault, BadLine, TooLong, TooMany, with_first, lines_of}
-use Rattle.line_rules.proofs.Lines.{IsFeedless, IsFeedless-append, whole_first}
+use Rattle.model_lines.specs.Reading.{Line, Fault, BadLine, TooLong, TooMany, with_first, lines_of}
+use Rattle.model_lines.proofs.Lines.{IsFeedless, IsFeedless-append, whole_first}
 use Rattle.fdb_shell.specs.Limits.{line_limit, input_limit}
 use Rattle.fdb_shell.specs.Outcomes.{lines_in, whole_lines_in, lines_before, number_in, IsPast, IsWithin}
 use Rattle.fdb_shell.specs.Endings.{joined}

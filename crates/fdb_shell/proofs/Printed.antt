@@ -4,7 +4,7 @@ use Rattle.std.specs.Io.KnownBytes.{Appends}
 use Rattle.std.proofs.KnownBytes.{Appends-trans}
 use Rattle.std.proofs.lemmas.List.{append-nil, length-append, take_at}
 use Rattle.outside.specs.Streams.{AppendsFront}
-use Rattle.shell_rules.specs.Sessions.{Session, printed_for, after_lines, answered}
+use Rattle.model_shell.specs.Sessions.{Session, printed_for, after_lines, answered}
 use Rattle.fdb_shell.specs.Outcomes.{AppendsSome}
 
 pub printed_more : (session : Session) (lines rest : List (List ℕ))

@@ -5,9 +5,9 @@ use Rattle.std.specs.Io.KnownBytes.{Keeps, Appends, Consumes, IsAtEnd}
 use Rattle.std.proofs.KnownBytes.{Appends-nil, Consumes-nil}
 use Rattle.std.proofs.lemmas.List.{append-nil, length-append}
 use Rattle.outside.specs.Streams.{AppendsFront}
-use Rattle.line_rules.specs.Reading.{Line, TooLong, TooMany, lines_of}
-use Rattle.line_rules.proofs.Lines.{IsFeedless}
-use Rattle.shell_rules.specs.Sessions.{printed_for, after_lines, answered, first_session}
+use Rattle.model_lines.specs.Reading.{Line, TooLong, TooMany, lines_of}
+use Rattle.model_lines.proofs.Lines.{IsFeedless}
+use Rattle.model_shell.specs.Sessions.{printed_for, after_lines, answered, first_session}
 use Rattle.fdb_shell.specs.declared.position.Reading.{Reading}
 use Rattle.fdb_shell.specs.declared.reading.Halt.{Halt}
 use Rattle.fdb_shell.specs.declared.reading.Halt.TheVariants as halt

@@ -2,9 +2,9 @@
 use Rattle.std.proofs.Common.{◌≡◌, ℕ, ◌⊎◌, inl, inr, List, Option, Some, None, Err, refl, sym, subst, arith}
 use Rattle.std.specs.Io.KnownBytes.{Consumes}
 use Rattle.outside.specs.Counts.{Rose}
-use Rattle.line_rules.specs.Reading.{Fault, TooLong, TooMany}
+use Rattle.model_lines.specs.Reading.{Fault, TooLong, TooMany}
 use Rattle.err_lines.specs.Told.{IsTold}
-use Rattle.shell_rules.specs.Sessions.{shell, first_session}
+use Rattle.model_shell.specs.Sessions.{shell, first_session}
 use Rattle.fdb_shell.specs.declared.reading.Halt.{Halt}
 use Rattle.fdb_shell.specs.declared.reading.Halt.TheVariants as halt
 use Rattle.fdb_shell.specs.Outcomes.{all_answered, past_limit, read_fault, write_fault, out_of_memory, limit_text, number_in, lines_before, IsStatus, AnswersAll, StopsAtLimit, AnswersWhole, BreaksOff, RunsShort, AppendsSome, IsFaultless, Tells}

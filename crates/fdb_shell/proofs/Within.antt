@@ -3,7 +3,7 @@ use Rattle.std.proofs.Common.{◌≡◌, ℕ, zero, suc, ◌-◌, ◌≤◌, tru
 use Rattle.std.specs.Prelude.{slice_get}
 use Rattle.std.specs.List.{AllByRecursion}
 use Rattle.std.proofs.lemmas.List.{length-append}
-use Rattle.line_rules.specs.Reading.{Line, Fault, BadLine, TooLong, TooMany, with_first, lines_of}
+use Rattle.model_lines.specs.Reading.{Line, Fault, BadLine, TooLong, TooMany, with_first, lines_of}
 use Rattle.fdb_shell.specs.Limits.{line_limit}
 use Rattle.fdb_shell.specs.Outcomes.{IsWithin, IsPast}
 

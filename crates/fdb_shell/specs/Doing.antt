@@ -3,11 +3,11 @@ use Rattle.std.specs.Prelude.{◌≡◌, ⊤, Bool, true, false, ◌++◌, Resul
 use Rattle.outside.specs.Seeds.{words_from}
 use Rattle.fdb_calls.specs.declared.Reply.{Reply}
 use Rattle.fdb_calls.specs.declared.Reply.TheVariants as reply
-use Rattle.database_rules.specs.declared.Code.{Code}
-use Rattle.machine_rules.specs.Worlds.{World, Stepped, HasWords}
+use Rattle.model_database.specs.declared.Code.{Code}
+use Rattle.model_machine.specs.Worlds.{World, Stepped, HasWords}
 use Rattle.client_core.specs.Stands.{StandsFor}
-use Rattle.shell_rules.specs.Requests.{Did, error_line}
-use Rattle.shell_rules.specs.Sessions as shell
+use Rattle.model_shell.specs.Requests.{Did, error_line}
+use Rattle.model_shell.specs.Sessions as shell
 use Rattle.fdb_shell.specs.declared.session.Session.{Session}
 use Rattle.fdb_shell.specs.declared.session.Stop.{Stop}
 use Rattle.fdb_shell.specs.declared.session.Stop.TheVariants as stop

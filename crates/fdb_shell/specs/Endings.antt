@@ -4,11 +4,11 @@ use Rattle.std.specs.List.{AllByRecursion}
 use Rattle.std.specs.Io.KnownBytes.{Keeps, Appends, Consumes, IsAtEnd}
 use Rattle.outside.specs.Counts.{Rose}
 use Rattle.outside.specs.Streams.{AppendsFront}
-use Rattle.line_rules.specs.Printing.{line_feed}
-use Rattle.line_rules.specs.Reading.{TooLong, TooMany}
+use Rattle.model_lines.specs.Printing.{line_feed}
+use Rattle.model_lines.specs.Reading.{TooLong, TooMany}
 use Rattle.err_lines.specs.Told.{IsTold}
-use Rattle.shell_rules.specs.Sessions.{shell, first_session, printed_for, after_lines, answered}
-use Rattle.shell_rules.specs.Sessions as sessions
+use Rattle.model_shell.specs.Sessions.{shell, first_session, printed_for, after_lines, answered}
+use Rattle.model_shell.specs.Sessions as sessions
 use Rattle.fdb_shell.specs.declared.position.Reading.{Reading}
 use Rattle.fdb_shell.specs.declared.reading.Halt.{Halt}
 use Rattle.fdb_shell.specs.declared.reading.Halt.TheVariants as halt

@@ -4,9 +4,9 @@ use Rattle.std.specs.List.{AllByRecursion, filter}
 use Rattle.std.specs.Io.KnownBytes.{Appends, Consumes, IsAtEnd}
 use Rattle.outside.specs.Counts.{Rose}
 use Rattle.outside.specs.Streams.{AppendsFront}
-use Rattle.line_rules.specs.Reading.{Line, Fault, BadLine, TooLong, TooMany, lines_of}
+use Rattle.model_lines.specs.Reading.{Line, Fault, BadLine, TooLong, TooMany, lines_of}
 use Rattle.err_lines.specs.Told.{IsTold}
-use Rattle.shell_rules.specs.Sessions.{shell}
+use Rattle.model_shell.specs.Sessions.{shell}
 use Rattle.fdb_shell.specs.Limits.{line_limit, input_limit}
 
 -- the statuses by what they say

@@ -1,7 +1,7 @@
 //! The shell: lines of commands come in, each is done on a database that is empty at first, and what is printed for it goes out
 //! before the next line is read.
 //!
-//! `shell` is the call; its clauses say what `out` holds at each status, and err. `shell_rules` says what is printed for lines.
+//! `shell` is the call; its clauses say what `out` holds at each status, and err. `model_shell` says what is printed for lines.
 //! From below: `session.rt` does a command on the core (`shell_text` reads and prints its line, `shell_recipes` makes the calls of layers,
 //! over `CoreTr`), `limits.rt` holds a line within its limit, `position.rt` says where reading stands, `reading.rt` takes the source's
 //! bytes one by one, `telling.rt` writes the line on err, and `top.rt` has the call.

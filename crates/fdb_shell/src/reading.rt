@@ -2,7 +2,7 @@
 
 ghost use Rattle.std.specs.Prelude.{◌≡◌, ◌≤◌, ◌+◌, ℕ, List, [], ◌∷◌, ◌++◌, Option, Err, IfOk, OnOk};
 ghost use Rattle.outside.specs.Counts.{Rose};
-ghost use Rattle.shell_rules.specs.Sessions.{Session as State, answered};
+ghost use Rattle.model_shell.specs.Sessions.{Session as State, answered};
 ghost use Rattle.fdb_shell.specs.Doing.{IsSession};
 ghost use Rattle.fdb_shell.specs.Endings.{IsAt, Answers, Goes, Closes, Finishes, IsByteRead};
 ghost use Rattle.fdb_shell.specs.declared.reading.Halt.TheVariants as halt;

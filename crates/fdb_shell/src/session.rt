@@ -3,21 +3,21 @@
 ghost use Rattle.std.specs.Prelude.{◌≡◌, false, IfOk, OnOk};
 ghost use Rattle.fdb_calls.specs.declared.TxnCall.TheVariants as call;
 ghost use Rattle.fdb_calls.specs.declared.Request.TheVariants as request;
-ghost use Rattle.machine_rules.specs.Worlds.{World, step};
-ghost use Rattle.shell_rules.specs.Requests.{value_said, pairs_said, version_said, silent, name, made, called, committed, says, read_by, written_by, printed_line, error_line};
-ghost use Rattle.shell_rules.specs.Recipes.{recipe_done};
-ghost use Rattle.shell_rules.specs.Sessions.{Session as State, range_call, shell_arguments, first_session, done, answered};
+ghost use Rattle.model_machine.specs.Worlds.{World, step};
+ghost use Rattle.model_shell.specs.Requests.{value_said, pairs_said, version_said, silent, name, made, called, committed, says, read_by, written_by, printed_line, error_line};
+ghost use Rattle.model_shell.specs.Recipes.{recipe_done};
+ghost use Rattle.model_shell.specs.Sessions.{Session as State, range_call, shell_arguments, first_session, done, answered};
 ghost use Rattle.fdb_shell.specs.Doing.{IsSession, IsAnswered, Stands, Asks, Does, Leaves};
 ghost use Rattle.fdb_shell.specs.declared.session.Stop.TheVariants.{NoMemory};
 
 use client_core::Core;
-use command_rules::RunArgs;
-use database_rules::{Api, Mode, RangeOptions};
 use fdb_calls::{Reply, Request, TxnCall};
 use key_bytes::{Bytes, Key, KeyRange, Pairs};
+use model_commands::RunArgs;
+use model_database::{Api, Mode, RangeOptions};
+use model_shell::{Command, Recipe};
 use outside::PcgWords;
 use shell_recipes::End;
-use shell_rules::{Command, Recipe};
 use shell_text::{
     Unread, add_code, add_error, add_line, add_range, add_value, add_version, command_of,
 };

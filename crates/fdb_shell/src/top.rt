@@ -2,7 +2,7 @@
 
 ghost use Rattle.std.specs.Prelude.{◌≡◌, ◌⊎◌, Err};
 ghost use Rattle.outside.specs.Counts.{Rose};
-ghost use Rattle.line_rules.specs.Reading.{Fault};
+ghost use Rattle.model_lines.specs.Reading.{Fault};
 ghost use Rattle.err_lines.specs.Told.{IsTold};
 ghost use Rattle.fdb_shell.specs.Outcomes.{all_answered, past_limit, read_fault, write_fault, out_of_memory, limit_text, IsStatus, AnswersAll, StopsAtLimit, AnswersWhole, BreaksOff, RunsShort, IsFaultless, Tells};
 ghost use Rattle.fdb_shell.specs.Endings.{Finishes};

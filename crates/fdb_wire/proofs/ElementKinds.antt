@@ -1,10 +1,10 @@
 -- What each kind of element is read as, against how it is spelled.
 use Rattle.std.proofs.Common.{◌≡◌, ◌∙◌, ◌<◌, ◌^◌, ℕ, Bool, true, false, List, [], ◌∷◌, ◌++◌, ℤ, pos, negsuc, Option, Some, None, refl, sym, ap, lit<, lt-ltb, ltb-true, eqb-true, nat_lt, ◌==◌, if◌then◌else◌}
 use Rattle.key_bytes.specs.declared.range.KeyRange.{KeyRange}
-use Rattle.database_rules.specs.declared.selector.Selector.{Selector}
-use Rattle.database_rules.specs.declared.options.RangeOptions.{RangeOptions}
-use Rattle.database_rules.specs.declared.mode.Mode.{Mode}
-use Rattle.database_rules.specs.declared.mode.Mode.TheVariants as mode
+use Rattle.model_database.specs.declared.selector.Selector.{Selector}
+use Rattle.model_database.specs.declared.options.RangeOptions.{RangeOptions}
+use Rattle.model_database.specs.declared.mode.Mode.{Mode}
+use Rattle.model_database.specs.declared.mode.Mode.TheVariants as mode
 use Rattle.fdb_tuple.specs.declared.tuple.Elem.{Elem}
 use Rattle.fdb_tuple.specs.declared.tuple.Elem.TheVariants as elem
 use Rattle.fdb_wire.specs.Elements.{count, mode_number, range_elements, selector_elements, options_elements}

@@ -1,10 +1,10 @@
 -- The elements that requests and replies are spelled by.
 use Rattle.std.specs.Prelude.{ℕ, List, [], ◌∷◌, map, ℤ, pos, negsuc, Option, Some, None}
 use Rattle.key_bytes.specs.declared.range.KeyRange.{KeyRange}
-use Rattle.database_rules.specs.declared.selector.Selector.{Selector}
-use Rattle.database_rules.specs.declared.options.RangeOptions.{RangeOptions}
-use Rattle.database_rules.specs.declared.mode.Mode.{Mode}
-use Rattle.database_rules.specs.declared.mode.Mode.TheVariants as mode
+use Rattle.model_database.specs.declared.selector.Selector.{Selector}
+use Rattle.model_database.specs.declared.options.RangeOptions.{RangeOptions}
+use Rattle.model_database.specs.declared.mode.Mode.{Mode}
+use Rattle.model_database.specs.declared.mode.Mode.TheVariants as mode
 use Rattle.fdb_tuple.specs.declared.tuple.Elem.{Elem}
 use Rattle.fdb_tuple.specs.declared.tuple.Elem.TheVariants as elem
 use Rattle.fdb_tuple.specs.Listed.{tuple_of}

@@ -2,10 +2,10 @@
 -- left from its place on is told. What a request is spelled by is said in Requests.antt.
 use Rattle.std.specs.Prelude.{◌≡◌, ℕ, suc, ◌+◌, ◌^◌, ◌==◌, nat_lt, ⊤, Bool, if◌then◌else◌, List, [], ◌∷◌, length, ℤ, pos, negsuc, Option, Some, None, Result, Ok, Err, codes, bytes_eq}
 use Rattle.key_bytes.specs.declared.range.KeyRange.{KeyRange}
-use Rattle.database_rules.specs.declared.selector.Selector.{Selector}
-use Rattle.database_rules.specs.declared.options.RangeOptions.{RangeOptions}
-use Rattle.database_rules.specs.declared.mode.Mode.{Mode}
-use Rattle.database_rules.specs.declared.mode.Mode.TheVariants as mode
+use Rattle.model_database.specs.declared.selector.Selector.{Selector}
+use Rattle.model_database.specs.declared.options.RangeOptions.{RangeOptions}
+use Rattle.model_database.specs.declared.mode.Mode.{Mode}
+use Rattle.model_database.specs.declared.mode.Mode.TheVariants as mode
 use Rattle.fdb_tuple.specs.declared.tuple.Elem.{Elem}
 use Rattle.fdb_tuple.specs.declared.tuple.Elem.TheVariants as elem
 use Rattle.fdb_calls.specs.declared.TxnCall.{TxnCall}

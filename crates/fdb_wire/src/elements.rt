@@ -5,9 +5,9 @@ ghost use Rattle.fdb_wire.specs.Reading.{Gives, fitting, next_by, next_bytes, ne
 
 use crate::fault::Unread;
 use crate::kinds::{code_in, flag_in, life_in, limit_in, mode_in, offset_in, version_in};
-use database_rules::{Mode, RangeOptions, Selector};
 use fdb_tuple::Elem;
 use key_bytes::{Bytes, KeyRange};
+use model_database::{Mode, RangeOptions, Selector};
 
 // What an element is as one of a kind, and the elements behind it; it is stray where it is none of the kind.
 fn fitting<T: Drop>(value: Option<T>, rest: &[Elem]) -> Result<(T, &[Elem]), Unread>

@@ -3,8 +3,8 @@
 ghost use Rattle.std.specs.Prelude.{◌≡◌};
 ghost use Rattle.fdb_wire.specs.Reading.{flag_in, code_in, limit_in, life_in, offset_in, version_in, mode_by, mode_in};
 
-use database_rules::Mode;
 use fdb_tuple::Elem;
+use model_database::Mode;
 
 pub(crate) fn flag_in(element: &Elem) -> Option<bool>
     ensures { result ≡ flag_in element.now }

@@ -4,10 +4,10 @@ ghost use Rattle.std.specs.Prelude.{◌≡◌, [], ◌∷◌, ◌++◌, flat_map
 ghost use Rattle.fdb_tuple.specs.declared.tuple.Elem.TheVariants as elem;
 ghost use Rattle.fdb_wire.specs.Elements.{packed, count, optional, pair_elements, path_elements, range_elements, selector_elements, options_elements, mode_number};
 
-use database_rules::{Mode, RangeOptions, Selector};
 use directory_types::Path;
 use fdb_tuple::{Elem, Text, pack_element_into};
 use key_bytes::{Bytes, KeyRange, Pair, Pairs};
+use model_database::{Mode, RangeOptions, Selector};
 use std::alloc::AllocError;
 
 #[tactic(auto, unfolding(crate::specs::Elements::packed))]

@@ -15,7 +15,7 @@
 //! let settled = settle(receipt, waiter);
 //! ```
 //!
-//! `thread_trials/src/tests/cells.rt` has this caller whole, as `doubled`, with the clause that the answer is the one that was
+//! `test_threads/src/tests/cells.rt` has this caller whole, as `doubled`, with the clause that the answer is the one that was
 //! computed.
 //!
 //! The contracts speak in the words of `specs/Cells.antt`:

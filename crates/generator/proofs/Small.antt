@@ -6,8 +6,8 @@ use Rattle.std.proofs.lemmas.Bool.{ltb-true}
 use Rattle.std.proofs.lemmas.Bool.Decides.{nat_tests}
 use Rattle.std.proofs.lemmas.List.Folds.{list_all-append}
 use Rattle.key_bytes.specs.Keys.{IsByteString, key_lt, top}
-use Rattle.database_rules.specs.declared.TheConstants.{KEY_LIMIT, VALUE_LIMIT}
-use Rattle.line_rules.specs.Inputs.{IsSmall}
+use Rattle.model_database.specs.declared.TheConstants.{KEY_LIMIT, VALUE_LIMIT}
+use Rattle.model_lines.specs.Inputs.{IsSmall}
 use Rattle.fdb_tuple.specs.Spelling.{signed_spelled, least_bytes, low_first}
 use Rattle.generator.specs.Generated.{busy_pairs, gen_pairs, main_instructions, main_prefix, pairs_of, worker_pairs}
 

@@ -2,7 +2,7 @@
 
 ghost use Rattle.std.specs.Prelude.{◌≡◌, ◌≤◌, ◌∷◌, [], ◌++◌, ℕ, List, OnOk, IfOk, pos};
 ghost use Rattle.std.specs.List.{AllByRecursion};
-ghost use Rattle.line_rules.specs.Inputs.{IsSmall};
+ghost use Rattle.model_lines.specs.Inputs.{IsSmall};
 ghost use Rattle.fdb_tuple.specs.declared.tuple.Elem.TheVariants.{Bytes as BytesElem};
 ghost use Rattle.fdb_tuple.specs.Listed.{tuple_of};
 ghost use Rattle.fdb_tuple.specs.Spelling.{spelling};

@@ -10,11 +10,11 @@ use Rattle.std.proofs.lemmas.List.Elements.{recursion_from_All}
 use Rattle.std.specs.Str.{is_utf8}
 use Rattle.std.proofs.lemmas.Str.{is_utf8-from_IsUtf8}
 use Rattle.key_bytes.specs.Keys.{IsByteString}
-use Rattle.line_rules.specs.Printing.{printable_but}
+use Rattle.model_lines.specs.Printing.{printable_but}
 use Rattle.fdb_tuple.specs.declared.tuple.Elem.TheVariants as elem
 use Rattle.fdb_tuple.specs.Tuples.{Scalar, Null, Bytes, Text, Int, Boolean, Uuid, Stamp, IsScalar, greatest_magnitude}
 use Rattle.fdb_tuple.specs.Listed.{element_of}
-use Rattle.input_rules.specs.Orders.{is_digit}
+use Rattle.model_input.specs.Orders.{is_digit}
 use Rattle.dump_reading.specs.Fields.{behind, number_at}
 use Rattle.dump_reading.specs.Spellings.{byte_at}
 use Rattle.dump_reading.proofs.FieldLaws.{behind_again}

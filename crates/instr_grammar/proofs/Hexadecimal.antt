@@ -3,8 +3,8 @@ use Rattle.std.proofs.Common.{◌≡◌, ℕ, zero, suc, ◌+◌, ◌-◌, ◌*�
 use Rattle.std.proofs.lemmas.Bool.{ltb-true, lt-ltb}
 use Rattle.std.proofs.lemmas.Bool.Decides.{nat_tests}
 use Rattle.std.proofs.lemmas.List.{append-nil, take_all}
-use Rattle.line_rules.specs.Printing.{hexadecimal_digit}
-use Rattle.line_rules.specs.Reading.{digit_of}
+use Rattle.model_lines.specs.Printing.{hexadecimal_digit}
+use Rattle.model_lines.specs.Reading.{digit_of}
 use Rattle.dump_reading.specs.declared.field.FieldFault.{FieldFault}
 use Rattle.dump_reading.specs.declared.field.FieldFault.TheVariants as faults
 use Rattle.dump_reading.specs.FieldAnswers.{Fails}

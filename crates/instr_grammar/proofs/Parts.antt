@@ -6,7 +6,7 @@ use Rattle.std.proofs.lemmas.List.{length-append}
 use Rattle.fdb_tuple.specs.declared.tuple.Elem.{Elem}
 use Rattle.fdb_tuple.specs.Tuples.{Scalar, Null, Bytes, Text, Int, Boolean, Uuid, Stamp, IsScalar, greatest_magnitude}
 use Rattle.fdb_tuple.specs.Listed.{element_of}
-use Rattle.line_rules.specs.Printing.{space}
+use Rattle.model_lines.specs.Printing.{space}
 use Rattle.instr_grammar.specs.declared.part.Part.{Part}
 use Rattle.instr_grammar.specs.declared.part.Part.TheVariants as part
 use Rattle.instr_grammar.specs.Texts.{opening, closing, gap, scalar_text}

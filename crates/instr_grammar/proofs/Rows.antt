@@ -4,8 +4,8 @@ use Rattle.std.specs.Prelude.{codes, flat_map, replicate}
 use Rattle.std.specs.Str.{is_utf8, chars}
 use Rattle.std.specs.Char.{encode_utf8}
 use Rattle.std.specs.Str.Lossy.{utf8_valid_len, utf8_error_len}
-use Rattle.line_rules.specs.Printing.{printable}
-use Rattle.line_rules.specs.Reading.{BadLine, lines_of}
+use Rattle.model_lines.specs.Printing.{printable}
+use Rattle.model_lines.specs.Reading.{BadLine, lines_of}
 use Rattle.dump_reading.specs.Fields.{behind, value_after, number_at}
 use Rattle.dump_reading.specs.Spellings.{byte_at}
 use Rattle.fdb_tuple.specs.Spelling.{signed_spelled, least_bytes, low_first}

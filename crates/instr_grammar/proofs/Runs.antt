@@ -2,7 +2,7 @@
 use Rattle.std.proofs.Common.{◌≡◌, ℕ, zero, suc, ◌<◌, ◌≤◌, List, [], ◌∷◌, ◌++◌, length, Option, Some, None, refl, sym, ap, ◌∙◌, append_assoc, arith}
 use Rattle.std.specs.List.{AllByRecursion}
 use Rattle.std.proofs.lemmas.List.{nil_from_length, append-nil}
-use Rattle.line_rules.specs.Printing.{printed_but, printable_but}
+use Rattle.model_lines.specs.Printing.{printed_but, printable_but}
 use Rattle.dump_reading.specs.Spellings.{Front, spelled, byte_at}
 use Rattle.dump_reading.proofs.Spellings.{byte_again}
 use Rattle.dump_reading.proofs.Texts.{byte_was, less_is_left}

@@ -3,8 +3,8 @@ use Rattle.std.proofs.Common.{◌≡◌, ℕ, List, ◌++◌, ◌∷◌, [], Ok,
 use Rattle.std.specs.Prelude.{codes}
 use Rattle.std.specs.Str.{is_utf8, chars}
 use Rattle.std.specs.Char.{encode_utf8}
-use Rattle.line_rules.specs.Printing.{printable}
-use Rattle.line_rules.specs.Reading.{Entry}
+use Rattle.model_lines.specs.Printing.{printable}
+use Rattle.model_lines.specs.Reading.{Entry}
 use Rattle.key_bytes.specs.Numbers.{number_low}
 use Rattle.fdb_tuple.specs.Tuples.{Bytes, Text, Int, Empty, Single}
 use Rattle.fdb_tuple.specs.Reading as tuples

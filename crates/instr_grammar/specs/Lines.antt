@@ -1,7 +1,7 @@
 -- How instruction text is read: line after line, each up to its first fault, up to the first line that has one.
 use Rattle.std.specs.Prelude.{ℕ, ◌+◌, ◌-◌, Bool, false, not, ◌&&◌, ◌||◌, if◌then◌else◌, List, [], ◌∷◌, ◌++◌, length, Result, Ok, Err, nat_lt, nat_le, ◌==◌}
-use Rattle.database_rules.specs.declared.TheConstants.{VALUE_LIMIT}
-use Rattle.line_rules.specs.Reading.{Line, Flaw, Bad, Long, Entry, Fault, BadLine, TooMany, TooLong, fault_of, size_of, input_limit, line_limit, lines_of}
+use Rattle.model_database.specs.declared.TheConstants.{VALUE_LIMIT}
+use Rattle.model_lines.specs.Reading.{Line, Flaw, Bad, Long, Entry, Fault, BadLine, TooMany, TooLong, fault_of, size_of, input_limit, line_limit, lines_of}
 use Rattle.instr_grammar.specs.Names.{is_among}
 use Rattle.instr_grammar.specs.Texts.{Instruction, instruction_key, packed, instructions_limit}
 use Rattle.instr_grammar.specs.Reading.{instruction_at, prefix_at}

@@ -3,8 +3,8 @@
 use Rattle.std.specs.Prelude.{ℕ, zero, suc, ◌+◌, ◌-◌, ◌*◌, Bool, true, false, not, ◌&&◌, ◌||◌, if◌then◌else◌, List, [], ◌∷◌, ◌++◌, length, take, drop, get_or, Option, Some, None, Result, Ok, Err, nat_lt, ◌==◌, codes, pos, neg_ℤ, is_some}
 use Rattle.std.specs.Str.{is_utf8}
 use Rattle.std.specs.Str.Lossy.{utf8_valid_len, utf8_error_len}
-use Rattle.line_rules.specs.Printing.{space, printable}
-use Rattle.line_rules.specs.Reading.{digit_of}
+use Rattle.model_lines.specs.Printing.{space, printable}
+use Rattle.model_lines.specs.Reading.{digit_of}
 use Rattle.dump_reading.specs.Fields.{◌>>=◌, behind, number_at}
 use Rattle.dump_reading.specs.Spellings.{Front, byte_at}
 use Rattle.fdb_tuple.specs.declared.tuple.Elem.{Elem}

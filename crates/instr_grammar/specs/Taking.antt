@@ -1,7 +1,7 @@
 -- How pairs are taken apart as instruction text, one after the other, up to the first that can't follow.
 use Rattle.std.specs.Prelude.{ℕ, ◌+◌, Bool, true, false, not, ◌&&◌, ◌||◌, if◌then◌else◌, List, [], ◌∷◌, ◌++◌, length, pos, Option, Some, None, Result, Ok, Err, nat_lt, ◌==◌, bytes_eq, codes}
-use Rattle.line_rules.specs.Printing.{line_feed, printable}
-use Rattle.line_rules.specs.Reading.{Entry}
+use Rattle.model_lines.specs.Printing.{line_feed, printable}
+use Rattle.model_lines.specs.Reading.{Entry}
 use Rattle.fdb_tuple.specs.declared.fault.UnpackFault.{UnpackFault}
 use Rattle.fdb_tuple.specs.Tuples.{Bytes, Text, Int, Elements, Empty, Single, Nested}
 use Rattle.fdb_tuple.specs.Reading.{read_tuple}

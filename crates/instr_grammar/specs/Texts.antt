@@ -3,9 +3,9 @@ use Rattle.std.specs.Prelude.{◌≡◌, ◌≢◌, ◌⊎◌, ◌≤◌, ◌<�
 use Rattle.std.specs.Fmt.{signed_decimal}
 use Rattle.std.specs.List.{AllByRecursion}
 use Rattle.key_bytes.specs.Keys.{IsByteString}
-use Rattle.line_rules.specs.Printing.{space, line_feed, hexadecimal_digit, printable, printable_but}
-use Rattle.line_rules.specs.Reading.{Entry, input_limit, line_limit}
-use Rattle.database_rules.specs.declared.TheConstants.{VALUE_LIMIT}
+use Rattle.model_lines.specs.Printing.{space, line_feed, hexadecimal_digit, printable, printable_but}
+use Rattle.model_lines.specs.Reading.{Entry, input_limit, line_limit}
+use Rattle.model_database.specs.declared.TheConstants.{VALUE_LIMIT}
 use Rattle.fdb_tuple.specs.Tuples.{Scalar, Null, Bytes, Text, Int, Boolean, Uuid, Stamp, Elements, Empty, Single, Nested, AreElements, depth_of}
 use Rattle.fdb_tuple.specs.Spelling.{spelling}
 use Rattle.instr_grammar.specs.Names.{names, push, is_among}

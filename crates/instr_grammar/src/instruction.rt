@@ -5,7 +5,7 @@ ghost use Rattle.dump_reading.specs.FieldAnswers.{Gives};
 ghost use Rattle.instr_grammar.specs.Names.{names, is_among, longest};
 ghost use Rattle.instr_grammar.specs.Reading.{instruction_at, prefix_at, prefix_limit};
 ghost use Rattle.instr_grammar.specs.Seen.{instruction_is};
-ghost use Rattle.line_rules.specs.Printing.{printable};
+ghost use Rattle.model_lines.specs.Printing.{printable};
 
 use crate::element::operand_of;
 use crate::names::{COUNT, alike, name_at};
@@ -65,7 +65,7 @@ pub fn instruction_of(alloc: Global, bytes: &[u8]) -> Result<(&[u8], Option<Elem
 }
 
 // Returns how many bytes the printable form has of the bytes of a prefix that are within its limit.
-#[tactic(auto, unfolding(line_rules::specs::Printing::printable_but, line_rules::specs::Printing::printable))]
+#[tactic(auto, unfolding(model_lines::specs::Printing::printable_but, model_lines::specs::Printing::printable))]
 fn lawful_len(alloc: Global, prefix: &[u8]) -> Result<usize, AllocError>
     requires { 1000 ≤ length prefix.now }
     ensures { IfOk result (λ len. len ≡ length (printable (take prefix_limit prefix.now))) }

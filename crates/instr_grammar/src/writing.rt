@@ -2,7 +2,7 @@
 
 ghost use Rattle.std.specs.Prelude.{◌≡◌, ◌<◌, true, [], ◌∷◌, ◌++◌, OnOk, Some, None, codes};
 ghost use Rattle.std.specs.Fmt.{signed_decimal};
-ghost use Rattle.line_rules.specs.Printing.{hexadecimal_digit, printable, printable_but, line_feed};
+ghost use Rattle.model_lines.specs.Printing.{hexadecimal_digit, printable, printable_but, line_feed};
 ghost use Rattle.fdb_tuple.specs.Tuples.{Stamp, Empty};
 ghost use Rattle.fdb_tuple.specs.Listed.{before};
 ghost use Rattle.instr_grammar.specs.Names.{push};
@@ -166,7 +166,7 @@ pub fn write_name(to: &mut Vec<u8>, name: &[u8]) -> Result<(), AllocError>
 }
 
 /// Adds the line that begins the section of a prefix.
-#[tactic(auto, unfolding(line_rules::specs::Printing::printable_but, line_rules::specs::Printing::printable))]
+#[tactic(auto, unfolding(model_lines::specs::Printing::printable_but, model_lines::specs::Printing::printable))]
 pub fn write_prefix(to: &mut Vec<u8>, prefix: &[u8]) -> Result<(), AllocError>
     ensures { OnOk result (to.new.items ≡ to.old.items ++ codes "@ " ++ printable prefix.now ++ line_feed ∷ []) }
 {

@@ -6,9 +6,9 @@ use Rattle.std.specs.List.{list_all}
 use Rattle.std.proofs.lemmas.Bool.{and_parts, le-ltb}
 use Rattle.std.proofs.lemmas.Bool.Decides.{nat_tests}
 use Rattle.std.proofs.lemmas.Slice.Eq.{bytes_eq-Decides}
-use Rattle.line_rules.specs.Printing.{is_plain, backslash, hexadecimal_digit, in_digits, printed, printed_but, printable, printable_but}
-use Rattle.line_rules.proofs.Lines.{IsFeedless, IsFeedless-append}
-use Rattle.input_rules.specs.Orders.{is_digit}
+use Rattle.model_lines.specs.Printing.{is_plain, backslash, hexadecimal_digit, in_digits, printed, printed_but, printable, printable_but}
+use Rattle.model_lines.proofs.Lines.{IsFeedless, IsFeedless-append}
+use Rattle.model_input.specs.Orders.{is_digit}
 use Rattle.fdb_tuple.specs.Tuples.{Scalar, Null, Bytes, Text, Int, Boolean, Uuid, Stamp, Elements, Empty, Single, Nested, IsScalar, AreElements, greatest_magnitude}
 use Rattle.instr_grammar.specs.Names.{names, push, is_among}
 use Rattle.instr_grammar.specs.Texts.{quote, opening, closing, gap, in_hexadecimal, quoted, scalar_text, elements_text, Instruction, IsInstruction, Takes}

@@ -2,7 +2,7 @@
 use Rattle.std.proofs.Common.{◌≡◌, ℕ, zero, suc, ◌+◌, ◌-◌, ◌^◌, ◌<◌, ◌≤◌, List, [], ◌∷◌, ◌++◌, length, take, Option, Result, Ok, Err, refl, ap, subst, ◌∙◌, arith}
 use Rattle.std.specs.List.{AllByRecursion}
 use Rattle.std.proofs.lemmas.List.{length-take-le}
-use Rattle.line_rules.specs.Reading.{Entry}
+use Rattle.model_lines.specs.Reading.{Entry}
 use Rattle.instr_grammar.specs.Taking.{Taken, step, with_text, taken_on, take_pairs, disassembled}
 use Rattle.instr_text.specs.Taken.{IsPairOfBytes, IsAsm, IsFirstBad}
 use Rattle.instr_text.proofs.Takings.{taken_on_ok, all_taken, disassembled_was, disassembled_again, first_bad}

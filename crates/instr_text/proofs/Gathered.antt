@@ -2,8 +2,8 @@
 use Rattle.std.proofs.Common.{◌≡◌, ℕ, ◌+◌, List, [], ◌∷◌, ◌++◌, refl, sym, ap, ◌∙◌, append_assoc}
 use Rattle.std.specs.Prelude.{codes, flat_map}
 use Rattle.std.proofs.lemmas.List.{append-nil}
-use Rattle.line_rules.specs.Printing.{printable, line_feed}
-use Rattle.line_rules.specs.Reading.{Entry}
+use Rattle.model_lines.specs.Printing.{printable, line_feed}
+use Rattle.model_lines.specs.Reading.{Entry}
 use Rattle.instr_grammar.specs.Texts.{Instruction, Section, instruction_line, text_of, instruction_key, packed, pairs_from, asm}
 use Rattle.instr_grammar.specs.Lines.{Said, Begins, Does}
 

@@ -3,7 +3,7 @@ use Rattle.std.proofs.Common.{◌≡◌, ℕ, ◌-◌, ◌≤◌, Bool, true, fa
 use Rattle.std.specs.Prelude.{codes}
 use Rattle.std.proofs.lemmas.Bool.{ltb-false, le-ltb, eqb-true}
 use Rattle.std.proofs.lemmas.List.{append-nil, nil_from_length}
-use Rattle.line_rules.specs.Printing.{printable, printable_but}
+use Rattle.model_lines.specs.Printing.{printable, printable_but}
 use Rattle.dump_reading.specs.Fields.{behind}
 use Rattle.dump_reading.specs.Spellings.{byte_at}
 use Rattle.dump_reading.proofs.FieldLaws.{behind_again}

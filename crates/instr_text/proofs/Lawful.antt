@@ -2,11 +2,11 @@
 use Rattle.std.proofs.Common.{◌≡◌, ⊎_elim, ℕ, ◌+◌, ◌<◌, ◌≤◌, Bool, true, false, cond, not, ◌&&◌, ◌==◌, nat_lt, nat_le, List, [], ◌∷◌, ◌++◌, length, map, Result, Ok, Err, IfOk, refl, sym, ap, subst, ◌∙◌, arith}
 use Rattle.std.specs.Prelude.{codes, flat_map}
 use Rattle.std.proofs.lemmas.Bool.{ltb-false, leb-false, le-ltb, lt-leb, not-true}
-use Rattle.database_rules.specs.declared.TheConstants.{VALUE_LIMIT}
-use Rattle.line_rules.specs.Printing.{printable, line_feed}
-use Rattle.line_rules.specs.Reading.{Line, Flaw, Bad, Long, Entry, Fault, BadLine, TooMany, TooLong, size_of, lines_of, input_limit, line_limit}
-use Rattle.line_rules.proofs.Lines.{IsFeedless, IsFeedless-append, whole_first}
-use Rattle.line_rules.proofs.ReadLines.{guard_ok, neither}
+use Rattle.model_database.specs.declared.TheConstants.{VALUE_LIMIT}
+use Rattle.model_lines.specs.Printing.{printable, line_feed}
+use Rattle.model_lines.specs.Reading.{Line, Flaw, Bad, Long, Entry, Fault, BadLine, TooMany, TooLong, size_of, lines_of, input_limit, line_limit}
+use Rattle.model_lines.proofs.Lines.{IsFeedless, IsFeedless-append, whole_first}
+use Rattle.model_lines.proofs.ReadLines.{guard_ok, neither}
 use Rattle.dump_text.proofs.Laws.{standing, lines_stand, length-standing}
 use Rattle.std.specs.List.{list_all}
 use Rattle.instr_grammar.specs.Names.{names, push, is_among}

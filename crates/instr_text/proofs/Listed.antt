@@ -1,7 +1,7 @@
 -- A tuple as the list of its elements: as a key, and as an instruction.
 use Rattle.std.proofs.Common.{◌≡◌, ◌≢◌, ℕ, Bool, true, false, cond, ◌&&◌, ◌||◌, List, ◌∷◌, ◌++◌, pos, negsuc, Option, Some, None, Result, Ok, Err, refl, sym, ap, ◌∙◌, append_assoc}
 use Rattle.std.specs.Prelude.{bytes_eq, IfOk}
-use Rattle.line_rules.specs.Reading.{Entry}
+use Rattle.model_lines.specs.Reading.{Entry}
 use Rattle.fdb_tuple.specs.declared.fault.UnpackFault.{UnpackFault}
 use Rattle.fdb_tuple.specs.declared.fault.UnpackFault.TheVariants as fault
 use Rattle.fdb_tuple.specs.declared.tuple.Elem.{Elem}

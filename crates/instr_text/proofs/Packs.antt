@@ -3,8 +3,8 @@ use Rattle.std.proofs.Common.{◌≡◌, ⊎_elim, ℕ, ◌<◌, ◌≤◌, ◌=
 use Rattle.std.specs.List.{list_all}
 use Rattle.std.proofs.lemmas.Bool.{and_parts, le-ltb, lt-ltb, not-true}
 use Rattle.std.proofs.lemmas.List.{append-nil}
-use Rattle.database_rules.specs.declared.TheConstants.{VALUE_LIMIT}
-use Rattle.line_rules.specs.Reading.{Line, TooLong}
+use Rattle.model_database.specs.declared.TheConstants.{VALUE_LIMIT}
+use Rattle.model_lines.specs.Reading.{Line, TooLong}
 use Rattle.fdb_tuple.specs.declared.tuple.Elem.{Elem}
 use Rattle.fdb_tuple.specs.declared.tuple.Elem.TheVariants as elem
 use Rattle.fdb_tuple.specs.Tuples.{Bytes, Text, Int, Empty, Single}

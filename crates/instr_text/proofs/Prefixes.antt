@@ -10,7 +10,7 @@ use Rattle.std.proofs.lemmas.Map.Lookups.{exact_bytes}
 use Rattle.std.proofs.lemmas.Map.Views.{tells_apart}
 use Rattle.std.proofs.lemmas.Slice.Eq.{bytes_eq-Decides}
 use Rattle.key_bytes.specs.Keys.{key_cmp}
-use Rattle.line_rules.specs.Reading.{Line, Entry, size_of}
+use Rattle.model_lines.specs.Reading.{Line, Entry, size_of}
 use Rattle.fdb_tuple.specs.Tuples.{Bytes, Empty, Single}
 use Rattle.fdb_tuple.specs.Spelling.{spelling}
 use Rattle.std.proofs.lemmas.List.{append-nil}

@@ -1,7 +1,7 @@
 -- A text, a line at a time.
 use Rattle.std.proofs.Common.{◌≡◌, ℕ, ◌-◌, true, false, List, [], ◌∷◌, ◌++◌, length, Result, Ok, Err, refl, sym, ap, ◌∙◌, append_assoc}
 use Rattle.std.proofs.lemmas.List.{append-nil, nil_from_length}
-use Rattle.line_rules.specs.Reading.{Entry, Fault, BadLine, Line, lines_of}
+use Rattle.model_lines.specs.Reading.{Entry, Fault, BadLine, Line, lines_of}
 use Rattle.dump_text.specs.declared.fault.LineFault.{LineFault}
 use Rattle.dump_text.specs.Reading.{Fails}
 use Rattle.dump_text.proofs.Inputs.{fault_decides}

@@ -5,7 +5,7 @@ use Rattle.std.specs.List.{AllByRecursion}
 use Rattle.std.proofs.lemmas.Bool.{eq-eqb, ne_eqb}
 use Rattle.std.proofs.lemmas.Slice.Eq.{bytes_eq-Decides}
 use Rattle.key_bytes.specs.Keys.{IsByteString}
-use Rattle.line_rules.specs.Reading.{Entry}
+use Rattle.model_lines.specs.Reading.{Entry}
 use Rattle.instr_grammar.specs.Texts.{Instruction, IsInstruction, instruction_line, instruction_key, packed, pairs_from}
 use Rattle.instr_grammar.specs.Taking.{Taken, step, with_text, taken_on, take_pairs}
 use Rattle.instr_text.proofs.Packed.{key_again, one_again}

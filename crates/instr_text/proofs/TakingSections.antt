@@ -5,8 +5,8 @@ use Rattle.std.specs.List.{AllByRecursion}
 use Rattle.std.proofs.lemmas.Bool.{le-ltb}
 use Rattle.std.proofs.lemmas.Slice.Eq.{bytes_eq-Decides}
 use Rattle.key_bytes.specs.Keys.{IsByteString}
-use Rattle.line_rules.specs.Printing.{printable, line_feed}
-use Rattle.line_rules.specs.Reading.{Entry}
+use Rattle.model_lines.specs.Printing.{printable, line_feed}
+use Rattle.model_lines.specs.Reading.{Entry}
 use Rattle.instr_grammar.specs.Names.{is_among}
 use Rattle.instr_grammar.specs.Texts.{Instruction, Section, IsInstruction, IsSection, AreDistinct, instruction_line, text_of, instruction_key, packed, pairs_from, asm}
 use Rattle.instr_grammar.specs.Taking.{Taken, step, with_text, taken_on, take_pairs}

@@ -8,8 +8,8 @@ use Rattle.std.proofs.lemmas.List.Elements.{recursion_from_All}
 use Rattle.instr_text.specs.Taken.{IsPairOfBytes, IsAsm, IsFirstBad}
 use Rattle.std.proofs.lemmas.Slice.Eq.{bytes_eq-Decides}
 use Rattle.key_bytes.specs.Keys.{IsByteString}
-use Rattle.line_rules.specs.Printing.{printable, line_feed}
-use Rattle.line_rules.specs.Reading.{Entry}
+use Rattle.model_lines.specs.Printing.{printable, line_feed}
+use Rattle.model_lines.specs.Reading.{Entry}
 use Rattle.fdb_tuple.specs.declared.fault.UnpackFault.{UnpackFault}
 use Rattle.fdb_tuple.specs.Tuples.{Null, Bytes, Text, Int, Boolean, Uuid, Stamp, Elements, Empty, Single, Nested, IsTuple}
 use Rattle.fdb_tuple.specs.Spelling.{spelling}

@@ -6,9 +6,9 @@ use Rattle.std.proofs.lemmas.Bool.{ne_eqb}
 use Rattle.std.proofs.lemmas.List.{length-append}
 use Rattle.std.proofs.lemmas.List.Elements.{recursion_from_All, All-from_recursion}
 use Rattle.std.proofs.lemmas.Slice.Eq.{bytes_eq-Decides}
-use Rattle.database_rules.specs.declared.TheConstants.{VALUE_LIMIT}
-use Rattle.line_rules.specs.Printing.{is_plain, backslash, printed, printable, line_feed}
-use Rattle.line_rules.specs.Reading.{Entry, lines_of, input_limit, line_limit}
+use Rattle.model_database.specs.declared.TheConstants.{VALUE_LIMIT}
+use Rattle.model_lines.specs.Printing.{is_plain, backslash, printed, printable, line_feed}
+use Rattle.model_lines.specs.Reading.{Entry, lines_of, input_limit, line_limit}
 use Rattle.instr_grammar.specs.Names.{is_among}
 use Rattle.instr_grammar.specs.Texts.{Instruction, Section, IsInstruction, IsSection, AreDistinct, IsTextOf, instruction_line, section_lines, text_of, packed, pairs_from, asm, instructions_limit}
 use Rattle.instr_grammar.specs.Reading.{prefix_limit}

@@ -1,6 +1,6 @@
 -- What the program answers of a line.
 use Rattle.std.specs.Prelude.{◌≡◌, ℕ, ◌-◌, Result, Ok, Err}
-use Rattle.line_rules.specs.Reading.{Fault}
+use Rattle.model_lines.specs.Reading.{Fault}
 use Rattle.dump_text.specs.declared.fault.LineFault.{LineFault}
 use Rattle.dump_text.specs.declared.fault.LineFault.TheVariants as errors
 use Rattle.dump_text.specs.Reading.{Fails}

@@ -4,7 +4,7 @@ use Rattle.std.specs.FinMap.{contains_key}
 use Rattle.fdb_tuple.specs.Tuples.{Bytes, Empty, Single}
 use Rattle.fdb_tuple.specs.Spelling.{spelling}
 use Rattle.instr_grammar.specs.Names.{is_among}
-use Rattle.line_rules.specs.Reading.{Line, Entry}
+use Rattle.model_lines.specs.Reading.{Line, Entry}
 use Rattle.instr_grammar.specs.Lines.{Place, Said, Begins, Does, first_of, next_place, pairs_of}
 use Rattle.instr_text.specs.declared.sections.Sections.{Sections}
 

@@ -2,7 +2,7 @@
 use Rattle.std.specs.Prelude.{◌≡◌, ◌<◌, ◌≤◌, ℕ, ◌-◌, ◌==◌, take, if◌then◌else◌, Bool, not, true, false, List, [], ◌∷◌, ◌++◌, length, pos, Option, Some, None, Result, Ok, Err, bytes_eq}
 use Rattle.std.specs.FinMap.{contains_key}
 use Rattle.key_bytes.specs.Keys.{IsByteString}
-use Rattle.line_rules.specs.Reading.{Entry}
+use Rattle.model_lines.specs.Reading.{Entry}
 use Rattle.fdb_tuple.specs.declared.tuple.Elem.{Elem}
 use Rattle.fdb_tuple.specs.declared.tuple.Elem.TheVariants as elem
 use Rattle.fdb_tuple.specs.declared.fault.UnpackFault.{UnpackFault}

@@ -1,7 +1,7 @@
 //! Reading of a text, line after line.
 
 ghost use Rattle.std.specs.Prelude.{◌≡◌, ℕ, List, ◌+◌, ◌-◌, ◌^◌, ◌<◌, ◌≤◌, length, Ok, IfOk};
-ghost use Rattle.line_rules.specs.Reading.{size_of, lines_of};
+ghost use Rattle.model_lines.specs.Reading.{size_of, lines_of};
 ghost use Rattle.dump_text.specs.Reading.{Gives};
 ghost use Rattle.dump_reading.specs.Seen.{line_is};
 ghost use Rattle.instr_grammar.specs.Texts.{Section, IsTextOf, asm};

@@ -1,7 +1,7 @@
 //! What a line of a text says.
 
 ghost use Rattle.std.specs.Prelude.{◌≡◌, ◌-◌, ◌≤◌, IfOk, Ok, length};
-ghost use Rattle.line_rules.specs.Reading.{line_limit};
+ghost use Rattle.model_lines.specs.Reading.{line_limit};
 ghost use Rattle.fdb_tuple.specs.Tuples.{Text, Empty, Single};
 ghost use Rattle.fdb_tuple.specs.Spelling.{spelling};
 ghost use Rattle.fdb_tuple.specs.Zeros.{HasNoZero};
@@ -14,11 +14,11 @@ ghost use Rattle.instr_text.specs.Saying.{fault_at, Says};
 ghost use Rattle.instr_text.specs.Standing.{IsAt};
 
 use crate::sections::Sections;
-use database_rules::VALUE_LIMIT;
 use dump_reading::{DumpLine, LineFault};
 use fdb_tuple::{Elem, pack_element_into};
 use instr_grammar::{FieldFault, instruction_of, prefix_of};
 use key_bytes::Bytes;
+use model_database::VALUE_LIMIT;
 use std::alloc::{AllocError, Global};
 
 /// What a line says.

@@ -1,7 +1,7 @@
 //! The sections that came before a line of a text.
 
 ghost use Rattle.std.specs.Prelude.{◌≡◌, ◌+◌, ◌^◌, ◌<◌, ◌≤◌, not, ◌==◌, true, [], ◌∷◌, ◌++◌, length, List, ℕ, OnOk, IfOk, pos};
-ghost use Rattle.line_rules.specs.Reading.{Line, Entry};
+ghost use Rattle.model_lines.specs.Reading.{Line, Entry};
 ghost use Rattle.fdb_tuple.specs.Tuples.{Bytes, Int, Empty, Single};
 ghost use Rattle.fdb_tuple.specs.Spelling.{spelling};
 ghost use Rattle.instr_grammar.specs.Names.{is_among};

@@ -14,8 +14,8 @@ use Rattle.fdb_tuple.specs.Tuples.{Elements, Empty, Single, Bytes, Text, IsTuple
 use Rattle.fdb_tuple.specs.declared.tuple.Elem.{Elem}
 use Rattle.fdb_tuple.specs.declared.tuple.Elem.TheVariants as elem
 use Rattle.fdb_tuple.specs.Listed.{elements_of}
-use Rattle.machine_rules.specs.declared.Instruction.TheVariants as instruction
-use Rattle.machine_rules.specs.Instructions.{bare_instruction, named_instruction, instruction_of, instruction_read}
+use Rattle.model_machine.specs.declared.Instruction.TheVariants as instruction
+use Rattle.model_machine.specs.Instructions.{bare_instruction, named_instruction, instruction_of, instruction_read}
 use Rattle.fdb_tuple.specs.Zeros.{HasNoZero}
 use Rattle.fdb_tuple.proofs.ReadLaws.{read_tuple_again}
 use Rattle.fdb_tuple.proofs.ZeroRuns.{escaped_last}

@@ -1,8 +1,8 @@
 -- The scope of a name, by what is left of it behind an operation's name.
 use Rattle.std.proofs.Common.{◌≡◌, ℕ, Bool, true, false, ◌&&◌, List, [], ◌∷◌, ◌++◌, length, take, drop, nat_eq, bytes_eq, Some, None, codes, refl, sym, ap, ◌∙◌}
 use Rattle.std.proofs.lemmas.List.{append-nil}
-use Rattle.machine_rules.specs.declared.Scope.TheVariants.{Snapshot}
-use Rattle.machine_rules.specs.Instructions.{read_scope, write_scope}
+use Rattle.model_machine.specs.declared.Scope.TheVariants.{Snapshot}
+use Rattle.model_machine.specs.Instructions.{read_scope, write_scope}
 
 differs : (same front whole : Bool) → (front ≡ false → whole ≡ false) → (same && front) ≡ false → (same && whole) ≡ false
 differs true front whole other e = other e

@@ -4,17 +4,17 @@ ghost use Rattle.std.specs.Prelude.{◌≡◌, [], ◌∷◌, ◌++◌, Some, Ok
 ghost use Rattle.std.specs.List.{AllByRecursion};
 ghost use Rattle.fdb_tuple.specs.Reading.{read_tuple};
 ghost use Rattle.fdb_tuple.specs.Tuples.{Empty, Single, Text};
-ghost use Rattle.machine_rules.specs.Operands.{bytes_of};
-ghost use Rattle.machine_rules.specs.Instructions.{stack_operation, transaction_operation, directory_operation, operation_in, read_scope, write_scope};
-ghost use Rattle.machine_rules.specs.Instructions.{database_names, creation_names, removal_names, listing_names, subspace_names};
-ghost use Rattle.machine_rules.specs.Instructions.{bare_instruction, named_instruction, instruction_in, instruction_of};
+ghost use Rattle.model_machine.specs.Operands.{bytes_of};
+ghost use Rattle.model_machine.specs.Instructions.{stack_operation, transaction_operation, directory_operation, operation_in, read_scope, write_scope};
+ghost use Rattle.model_machine.specs.Instructions.{database_names, creation_names, removal_names, listing_names, subspace_names};
+ghost use Rattle.model_machine.specs.Instructions.{bare_instruction, named_instruction, instruction_in, instruction_of};
 ghost use Rattle.machine_instructions.specs.Pushes.{PushesAnElement};
 ghost use Rattle.fdb_tuple.specs.Listed.{IsElement};
 ghost use Rattle.fdb_tuple.specs.Zeros.{HasNoZero};
 
 use fdb_tuple::{Elem, UnpackFault, unpack};
 use key_bytes::Bytes;
-use machine_rules::{
+use model_machine::{
     DatabaseOperation, DirectoryOperation, Instruction, Scope, StackOperation, TransactionOperation,
 };
 use stack_items::bytes_of;
@@ -22,7 +22,7 @@ use std::alloc::{AllocError, Global};
 
 /// Returns the instruction that a value packs under the last API version: a tuple of a name, a Unicode or a byte string, and for
 /// PUSH one element more. None where the value is no such tuple, or the name that of no instruction.
-#[tactic(auto, unfolding(machine_rules::specs::Instructions::instruction_of))]
+#[tactic(auto, unfolding(model_machine::specs::Instructions::instruction_of))]
 pub fn instruction_of(alloc: Global, value: &[u8]) -> Result<Option<Instruction>, AllocError>
     ensures instruction { IfOk result (λ instruction. instruction ≡ instruction_of value.now) }
     ensures element { IfOk result PushesAnElement }

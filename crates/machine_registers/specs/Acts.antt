@@ -1,9 +1,9 @@
 -- What an instruction, or the reply that it awaited, comes to, beside the registers that it leaves.
 use Rattle.std.specs.Prelude.{ℕ}
 use Rattle.fdb_calls.specs.declared.Request.TheVariants as request
-use Rattle.machine_rules.specs.declared.Awaits.TheVariants as awaits
-use Rattle.machine_rules.specs.declared.End.TheVariants as end
-use Rattle.machine_rules.specs.Machines.{Registers, Act, Does, Stops, Asks, waits_for}
+use Rattle.model_machine.specs.declared.Awaits.TheVariants as awaits
+use Rattle.model_machine.specs.declared.End.TheVariants as end
+use Rattle.model_machine.specs.Machines.{Registers, Act, Does, Stops, Asks, waits_for}
 use Rattle.stack_items.specs.declared.fault.StackFault.{StackFault}
 use Rattle.stack_items.specs.declared.fault.StackFault.TheVariants as fault
 use Rattle.machine_registers.specs.declared.act.Act.{Act as Answer}

@@ -1,9 +1,9 @@
 -- Ranges of keys, by what an instruction pops.
 use Rattle.std.specs.Prelude.{List, Ok}
 use Rattle.key_bytes.specs.declared.range.KeyRange.{KeyRange}
-use Rattle.database_rules.specs.Intervals.{one}
-use Rattle.machine_rules.specs.declared.Item.{Item}
-use Rattle.machine_rules.specs.Operands.{◌>>=◌, Popped, bytes_operand, two_operands}
+use Rattle.model_database.specs.Intervals.{one}
+use Rattle.model_machine.specs.declared.Item.{Item}
+use Rattle.model_machine.specs.Operands.{◌>>=◌, Popped, bytes_operand, two_operands}
 
 -- the two ends of a range
 abbrev pub range_operand : List Item → Popped KeyRange

@@ -5,7 +5,7 @@ ghost use Rattle.machine_registers.specs.Acts.{polls_for, refusal_of};
 
 use fdb_calls::{Request, SharedRequest};
 use key_bytes::Bytes;
-use machine_rules::{Awaits, End, Wait};
+use model_machine::{Awaits, End, Wait};
 use stack_items::StackFault;
 use std::alloc::{AllocError, Global};
 

@@ -1,8 +1,8 @@
 //! Calls on the database by the operands of an instruction.
 
 ghost use Rattle.std.specs.Prelude.{◌≡◌, IfOk};
-ghost use Rattle.machine_rules.specs.Calls.{set_call, clear_call, clear_range_call, clear_range_starts_with_call, atomic_call};
-ghost use Rattle.machine_rules.specs.Calls.{call_of, written_in, prefix_end};
+ghost use Rattle.model_machine.specs.Calls.{set_call, clear_call, clear_range_call, clear_range_starts_with_call, atomic_call};
+ghost use Rattle.model_machine.specs.Calls.{call_of, written_in, prefix_end};
 ghost use Rattle.stack_items.specs.Looks.{LooksUnlessFull};
 
 use crate::reads::{
@@ -11,7 +11,7 @@ use crate::reads::{
 use crate::requests::range_operand;
 use fdb_calls::TxnCall;
 use key_bytes::{Bytes, Key, KeyRange};
-use machine_rules::{Awaits, DatabaseOperation, Scope};
+use model_machine::{Awaits, DatabaseOperation, Scope};
 use stack_items::{Operands, StackFault};
 use std::alloc::{AllocError, Global};
 

@@ -1,9 +1,9 @@
 //! What an operation on the directories does (directoryLayerTester.md).
 
 ghost use Rattle.std.specs.Prelude.{◌≡◌, IfOk, OnOk};
-ghost use Rattle.machine_rules.specs.StackOperations.{pushed};
-ghost use Rattle.machine_rules.specs.Directories.{appends};
-ghost use Rattle.machine_rules.specs.Machines.{Does, directs_to, faulting, lacking, with_stack};
+ghost use Rattle.model_machine.specs.StackOperations.{pushed};
+ghost use Rattle.model_machine.specs.Directories.{appends};
+ghost use Rattle.model_machine.specs.Machines.{Does, directs_to, faulting, lacking, with_stack};
 ghost use Rattle.stack_directories.specs.Directing.{said, AreElements, GivesElements};
 ghost use Rattle.machine_registers.specs.Acts.{act_with};
 
@@ -12,7 +12,7 @@ use crate::registers::Registers;
 use fdb_calls::SharedRequest;
 use fdb_tuple::Elem;
 use key_bytes::Bytes;
-use machine_rules::{DirectoryOperation, Object};
+use model_machine::{DirectoryOperation, Object};
 use stack_directories::Directed;
 use std::alloc::AllocError;
 

@@ -1,8 +1,8 @@
 //! What the reply to a call of a directory layer is used for (directoryLayerTester.md).
 
 ghost use Rattle.std.specs.Prelude.{◌≡◌, ◌++◌, ◌∷◌, List, ℕ, IfOk, OnOk};
-ghost use Rattle.machine_rules.specs.Machines.{packed_names, used, use_of, Faults};
-ghost use Rattle.machine_rules.specs.Directories.{fault_name};
+ghost use Rattle.model_machine.specs.Machines.{packed_names, used, use_of, Faults};
+ghost use Rattle.model_machine.specs.Directories.{fault_name};
 ghost use Rattle.machine_registers.specs.Acts.{act_with};
 ghost use Rattle.machine_registers.specs.Packed.{spelled_names};
 
@@ -12,7 +12,7 @@ use directory_types::{DirFault, DirReply, Layer};
 use fdb_calls::Reply;
 use fdb_tuple::{Elem, Text, pack_element_into};
 use key_bytes::Bytes;
-use machine_rules::Awaits;
+use model_machine::Awaits;
 use stack_directories::{digits_of, directory_of, fault_name};
 use std::alloc::{AllocError, Global};
 

@@ -4,12 +4,12 @@ ghost use Rattle.std.specs.Prelude.{◌≡◌, ◌∷◌, [], ◌++◌, codes, I
 ghost use Rattle.fdb_tuple.specs.Tuples.{Empty, Single};
 ghost use Rattle.fdb_tuple.specs.Tuples as scalar;
 ghost use Rattle.fdb_tuple.specs.Listed.{elements_of};
-ghost use Rattle.machine_rules.specs.Machines.{error_item};
+ghost use Rattle.model_machine.specs.Machines.{error_item};
 
 use fdb_tuple::{Elem, PushFault, Tuple, pack};
 use key_bytes::Bytes;
 use lists::List;
-use machine_rules::ErrorNote;
+use model_machine::ErrorNote;
 use stack_directories::digits_of;
 use std::alloc::{AllocError, Global};
 

@@ -1,5 +1,5 @@
 //! What the instructions of a machine work on (`Registers`), and what they come to on it (`Act`): an instruction is run as far as its
-//! first request, whose operands it pops. What stands here is that of the definitions (`machine_rules`, `specs/Machines.antt`).
+//! first request, whose operands it pops. What stands here is that of the definitions (`model_machine`, `specs/Machines.antt`).
 //!
 //! # Choices
 //!

@@ -1,15 +1,15 @@
 //! Calls that read, by the operands of an instruction.
 
 ghost use Rattle.std.specs.Prelude.{◌≡◌};
-ghost use Rattle.machine_rules.specs.Calls.{get_call, get_key_call, get_range_call, get_range_starts_with_call, get_range_selector_call};
-ghost use Rattle.machine_rules.specs.Calls.{is_snapshot, selector_operand, options_operand, get_between};
+ghost use Rattle.model_machine.specs.Calls.{get_call, get_key_call, get_range_call, get_range_starts_with_call, get_range_selector_call};
+ghost use Rattle.model_machine.specs.Calls.{is_snapshot, selector_operand, options_operand, get_between};
 ghost use Rattle.stack_items.specs.Looks.{Looks, LooksUnlessFull};
 
 use crate::call::{Call, prefix_end};
-use database_rules::{RangeOptions, Selector};
 use fdb_calls::TxnCall;
 use key_bytes::{Key, KeyRange};
-use machine_rules::{Awaits, Scope};
+use model_database::{RangeOptions, Selector};
+use model_machine::{Awaits, Scope};
 use stack_items::{Operands, StackFault};
 use std::alloc::Global;
 

@@ -2,13 +2,13 @@
 
 ghost use Rattle.std.specs.Prelude.{◌≡◌, pos, [], ◌∷◌, ◌++◌, take, IfOk, OnOk};
 ghost use Rattle.fdb_tuple.specs.Listed.{IsElement};
-ghost use Rattle.machine_rules.specs.Operands.{bytes_operand};
-ghost use Rattle.machine_rules.specs.StackOperations.{operated};
-ghost use Rattle.machine_rules.specs.Calls.{call_of, request_in, request_of, awaits_of, start_request};
-ghost use Rattle.machine_rules.specs.Machines.{act_of, pushing, does, uses, asks, calls, logs_stack, logs_on, logs_batch, waits_empty, first_life, with_stack, knowing, below_waiting, used};
-ghost use Rattle.machine_rules.specs.Machines.{Does, PushesWaiting, directs, appending};
-ghost use Rattle.machine_rules.specs.Directories.{first_directories, directed, appends};
-ghost use Rattle.machine_rules.specs.declared.TheConstants.{LOG_BATCH};
+ghost use Rattle.model_machine.specs.Operands.{bytes_operand};
+ghost use Rattle.model_machine.specs.StackOperations.{operated};
+ghost use Rattle.model_machine.specs.Calls.{call_of, request_in, request_of, awaits_of, start_request};
+ghost use Rattle.model_machine.specs.Machines.{act_of, pushing, does, uses, asks, calls, logs_stack, logs_on, logs_batch, waits_empty, first_life, with_stack, knowing, below_waiting, used};
+ghost use Rattle.model_machine.specs.Machines.{Does, PushesWaiting, directs, appending};
+ghost use Rattle.model_machine.specs.Directories.{first_directories, directed, appends};
+ghost use Rattle.model_machine.specs.declared.TheConstants.{LOG_BATCH};
 ghost use Rattle.machine_registers.specs.Acts.{act_with};
 ghost use Rattle.machine_instructions.specs.Pushes.{PushesAnElement};
 
@@ -20,7 +20,7 @@ use crate::requests::{awaits_of, request_of};
 use fdb_calls::{Request, SharedRequest, TxnCall};
 use fdb_tuple::Elem;
 use key_bytes::Bytes;
-use machine_rules::{
+use model_machine::{
     Awaits, DatabaseOperation, DirectoryOperation, End, ErrorNote, Instruction, Item, ItemValue,
     Object, Scope, StackOperation, TransactionOperation, Wait,
 };
@@ -55,11 +55,11 @@ impl Drop for Registers {
 }
 
 impl Model for Registers {
-    ghost use Rattle.machine_rules.specs.Machines.{Registers as MachineRegisters};
+    ghost use Rattle.model_machine.specs.Machines.{Registers as MachineRegisters};
 
     ghost Value = { MachineRegisters };
 
-    ghost use Rattle.machine_rules.specs.contracts.Item as item;
+    ghost use Rattle.model_machine.specs.contracts.Item as item;
     ghost use Rattle.std.specs.Coded.{codes};
 
     ghost coded = { Prim.hlevel (codes, item.the_row.coded) };
@@ -105,7 +105,7 @@ impl Registers {
     }
 
     /// Runs the instruction of this number, as far as its first request.
-    #[tactic(auto, unfolding(machine_rules::specs::Machines::act_of))]
+    #[tactic(auto, unfolding(model_machine::specs::Machines::act_of))]
     pub fn run(&mut self, number: u64, instruction: Option<Instruction>) -> Result<Act, AllocError>
         requires { PushesAnElement instruction }
         ensures { IfOk result (λ act. act_with self.new act ≡ act_of number self.old instruction) }

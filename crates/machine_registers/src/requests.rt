@@ -1,13 +1,13 @@
 //! Requests on the current transaction by the operands of an instruction.
 
 ghost use Rattle.std.specs.Prelude.{◌≡◌, IfOk, IfErr};
-ghost use Rattle.machine_rules.specs.Calls.{request_of, awaits_of, on_error_request, range_request, key_request};
+ghost use Rattle.model_machine.specs.Calls.{request_of, awaits_of, on_error_request, range_request, key_request};
 ghost use Rattle.stack_items.specs.Looks.{LooksUnlessFull};
 ghost use Rattle.machine_registers.specs.Ranges.{range_operand, one_key_operand};
 
 use fdb_calls::{Code, Request, SharedRequest, TxnCall};
 use key_bytes::{Bytes, KeyRange};
-use machine_rules::{Awaits, TransactionOperation};
+use model_machine::{Awaits, TransactionOperation};
 use stack_items::{Operands, StackFault};
 use std::alloc::Global;
 

@@ -10,17 +10,17 @@ use Rattle.std.proofs.lemmas.Option.{none-some, same_Some}
 use Rattle.txn_calls.proofs.Stored.{low_inside}
 use Rattle.client_core.specs.Stands.{CoreModel, StandsFor}
 use Rattle.version_store.specs.Versions.{at, last_of}
-use Rattle.database_rules.specs.Databases.{Database}
-use Rattle.database_rules.specs.Histories.{last}
-use Rattle.line_rules.specs.Inputs.{pair_lines}
-use Rattle.line_rules.specs.Printing.{order_line}
-use Rattle.machine_rules.specs.declared.State.{State}
-use Rattle.machine_rules.specs.declared.State.TheVariants as state
-use Rattle.command_rules.specs.declared.args.RunArgs.{RunArgs}
-use Rattle.machine_rules.specs.Worlds.{World, HasWords, begun, instruction_pairs, newest}
-use Rattle.machine_rules.specs.Machines.{Progress, silent}
-use Rattle.machine_rules.specs.Laws.{is_awaiting}
-use Rattle.machine_rules.specs.Runs.{AreByTurns, at_rest, dump, end_line, error_lines, has_ended, has_stopped, is_running, machine_options, run_from, stack_lines, started}
+use Rattle.model_database.specs.Databases.{Database}
+use Rattle.model_database.specs.Histories.{last}
+use Rattle.model_lines.specs.Inputs.{pair_lines}
+use Rattle.model_lines.specs.Printing.{order_line}
+use Rattle.model_machine.specs.declared.State.{State}
+use Rattle.model_machine.specs.declared.State.TheVariants as state
+use Rattle.model_commands.specs.declared.args.RunArgs.{RunArgs}
+use Rattle.model_machine.specs.Worlds.{World, HasWords, begun, instruction_pairs, newest}
+use Rattle.model_machine.specs.Machines.{Progress, silent}
+use Rattle.model_machine.specs.Laws.{is_awaiting}
+use Rattle.model_machine.specs.Runs.{AreByTurns, at_rest, dump, end_line, error_lines, has_ended, has_stopped, is_running, machine_options, run_from, stack_lines, started}
 use Rattle.suspended_machine.specs.declared.suspended.SuspendedMachine.{SuspendedMachine}
 use Rattle.machine_runs.specs.declared.running.Rendered.{Rendered}
 use Rattle.suspended_machine.specs.SuspendedMachines.{progress_of, IsSuspended}

@@ -7,12 +7,12 @@ use Rattle.fdb_calls.specs.declared.Request.{Request}
 use Rattle.fdb_calls.specs.declared.Reply.{Reply}
 use Rattle.fdb_calls.specs.declared.Reply.TheVariants as reply
 use Rattle.client_core.specs.Stands.{CoreModel, HasStarted, StandsFor, Answers}
-use Rattle.machine_rules.specs.declared.MachineOptions.{MachineOptions}
-use Rattle.machine_rules.specs.Worlds.{World, Stepped, HasWords, step as world_step}
-use Rattle.machine_rules.specs.Machines.{Progress, resumed}
-use Rattle.machine_rules.specs.Runs.{AreByTurns, HasTurn, Run, at_rest, replied, run_from, start, start_prefix, started_by, take_place, taken, turn_after}
-use Rattle.machine_rules.specs.declared.TheConstants.{MACHINES}
-use Rattle.machine_rules.specs.Laws.{run_from-append}
+use Rattle.model_machine.specs.declared.MachineOptions.{MachineOptions}
+use Rattle.model_machine.specs.Worlds.{World, Stepped, HasWords, step as world_step}
+use Rattle.model_machine.specs.Machines.{Progress, resumed}
+use Rattle.model_machine.specs.Runs.{AreByTurns, HasTurn, Run, at_rest, replied, run_from, start, start_prefix, started_by, take_place, taken, turn_after}
+use Rattle.model_machine.specs.declared.TheConstants.{MACHINES}
+use Rattle.model_machine.specs.Laws.{run_from-append}
 use Rattle.suspended_machine.specs.declared.suspended.SuspendedMachine.{SuspendedMachine}
 use Rattle.suspended_machine.specs.SuspendedMachines.{progress_of, IsSuspended}
 use Rattle.machine_runs.specs.declared.driving.Moved.{Moved}

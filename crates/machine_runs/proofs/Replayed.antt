@@ -2,7 +2,7 @@
 use Rattle.std.proofs.Common.{◌≡◌, ℕ, true, false, List, Option, Some, None, subst, ◌∙◌, arith}
 use Rattle.std.specs.Prelude.{is_some, map}
 use Rattle.client_core.specs.Stands.{CoreModel}
-use Rattle.command_rules.specs.declared.args.RunArgs.{RunArgs}
+use Rattle.model_commands.specs.declared.args.RunArgs.{RunArgs}
 use Rattle.machine_runs.specs.declared.fault.OrderFault.{OrderFault}
 use Rattle.machine_runs.specs.declared.fault.OrderFault.TheVariants as order
 use Rattle.suspended_machine.specs.declared.suspended.SuspendedMachine.{SuspendedMachine}

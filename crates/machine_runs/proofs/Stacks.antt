@@ -1,9 +1,9 @@
 -- The lines of a stack, one item after the other.
 use Rattle.std.proofs.Common.{ℕ, List, drop}
 use Rattle.std.specs.List.{flat_map, enumerate_from}
-use Rattle.line_rules.specs.Printing.{item_line}
-use Rattle.machine_rules.specs.declared.Item.{Item}
-use Rattle.machine_rules.specs.Calls.{item_bytes}
+use Rattle.model_lines.specs.Printing.{item_line}
+use Rattle.model_machine.specs.declared.Item.{Item}
+use Rattle.model_machine.specs.Calls.{item_bytes}
 
 abbrev line_at : ℕ → ℕ × Item → List ℕ
 line_at number (place, item) = item_line number place item.instruction (item_bytes item.value)

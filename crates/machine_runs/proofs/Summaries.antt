@@ -5,9 +5,9 @@ use Rattle.std.proofs.lemmas.List.{length-map}
 use Rattle.std.specs.declared.alloc.AllocError.{AllocError}
 use Rattle.std.specs.FinMap as finite
 use Rattle.client_core.specs.Stands.{CoreModel, StandsFor}
-use Rattle.command_rules.specs.declared.args.RunArgs.{RunArgs}
-use Rattle.machine_rules.specs.Machines.{Progress}
-use Rattle.machine_rules.specs.Worlds.{World}
+use Rattle.model_commands.specs.declared.args.RunArgs.{RunArgs}
+use Rattle.model_machine.specs.Machines.{Progress}
+use Rattle.model_machine.specs.Worlds.{World}
 use Rattle.suspended_machine.specs.declared.suspended.SuspendedMachine.{SuspendedMachine}
 use Rattle.suspended_machine.specs.SuspendedMachines.{progress_of}
 use Rattle.machine_runs.specs.declared.running.Rendered.{Rendered}

@@ -5,10 +5,10 @@ use Rattle.std.specs.List.{sum_by}
 use Rattle.std.proofs.lemmas.List.{append-nil, length-set}
 use Rattle.std.proofs.lemmas.List.Sums.{sum_by-set}
 use Rattle.std.proofs.lemmas.Option.{get_or_from_slice_get, none-some, same_Some, slice_get-map, slice_get_past, slice_get_within}
-use Rattle.machine_rules.specs.Machines.{Progress}
-use Rattle.machine_rules.specs.Worlds.{World}
-use Rattle.machine_rules.specs.Laws.{effort_in}
-use Rattle.machine_rules.specs.Runs.{HasTurn, IsFirstFrom, has_request}
+use Rattle.model_machine.specs.Machines.{Progress}
+use Rattle.model_machine.specs.Worlds.{World}
+use Rattle.model_machine.specs.Laws.{effort_in}
+use Rattle.model_machine.specs.Runs.{HasTurn, IsFirstFrom, has_request}
 use Rattle.suspended_machine.specs.declared.suspended.SuspendedMachine.{SuspendedMachine}
 use Rattle.fdb_calls.specs.declared.Reply.{Reply}
 use Rattle.machine_runs.specs.declared.driving.Moved.{Moved}

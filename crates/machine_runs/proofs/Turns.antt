@@ -1,8 +1,8 @@
 -- Orders by turns, one place more.
 use Rattle.std.proofs.Common.{◌≡◌, ℕ, ◌+◌, ◌⊎◌, ⊎_elim, inl, inr, List, [], ◌∷◌, ◌++◌, Some, refl, sym, ap, subst, ◌∙◌}
 use Rattle.std.proofs.lemmas.Option.{same_Some}
-use Rattle.command_rules.specs.declared.args.RunArgs.{RunArgs}
-use Rattle.machine_rules.specs.Runs.{AreByTurns, HasTurn, Run, run_from, start, turn_after}
+use Rattle.model_commands.specs.declared.args.RunArgs.{RunArgs}
+use Rattle.model_machine.specs.Runs.{AreByTurns, HasTurn, Run, run_from, start, turn_after}
 
 -- what is said of a list's first element and of the rest
 abbrev head_or : ℕ → List ℕ → ℕ

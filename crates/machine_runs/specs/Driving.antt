@@ -1,16 +1,16 @@
 -- How the core and the machines stand to a run while it goes on.
 use Rattle.std.specs.Prelude.{◌≡◌, ◌≢◌, ℕ, ◌<◌, ◌≤◌, ◌⊎◌, Bool, if◌then◌else◌, true, false, List, [], ◌∷◌, ◌++◌, length, map, Option, Some, None, IfSome, MatchOption, is_some, option_and_then, option_to_list, slice_get, slice_set, ⊤}
 use Rattle.std.specs.List.{sum_by}
-use Rattle.command_rules.specs.declared.args.RunArgs.{RunArgs}
+use Rattle.model_commands.specs.declared.args.RunArgs.{RunArgs}
 use Rattle.client_core.specs.Stands.{CoreModel, StandsFor}
-use Rattle.machine_rules.specs.declared.TheConstants.{MACHINES}
-use Rattle.machine_rules.specs.Worlds.{World, HasWords, begun, instruction_pairs}
+use Rattle.model_machine.specs.declared.TheConstants.{MACHINES}
+use Rattle.model_machine.specs.Worlds.{World, HasWords, begun, instruction_pairs}
 use Rattle.version_store.specs.Versions.{at, last_of}
-use Rattle.machine_rules.specs.Machines.{silent, resumed}
+use Rattle.model_machine.specs.Machines.{silent, resumed}
 use Rattle.fdb_calls.specs.declared.Reply.{Reply}
 use Rattle.fdb_calls.specs.declared.Reply.TheVariants.{NoMemory}
-use Rattle.machine_rules.specs.Runs.{AreByTurns, at_rest, machine_options, run_from, start, started, started_by, turn_after}
-use Rattle.machine_rules.specs.Laws.{effort_in}
+use Rattle.model_machine.specs.Runs.{AreByTurns, at_rest, machine_options, run_from, start, started, started_by, turn_after}
+use Rattle.model_machine.specs.Laws.{effort_in}
 use Rattle.suspended_machine.specs.declared.suspended.SuspendedMachine.{SuspendedMachine}
 use Rattle.suspended_machine.specs.SuspendedMachines.{progress_of, work_left, IsNearer, IsSuspended}
 use Rattle.machine_runs.specs.declared.running.Ended.{Ended}

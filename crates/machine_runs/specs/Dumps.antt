@@ -2,9 +2,9 @@
 use Rattle.std.specs.Prelude.{ℕ, List, ◌++◌, codes, flat_map, length}
 use Rattle.std.specs.List.{sum_by}
 use Rattle.std.specs.FinMap as finite
-use Rattle.line_rules.specs.Inputs.{pair_lines}
-use Rattle.line_rules.specs.Printing.{order_line}
-use Rattle.machine_rules.specs.Runs.{end_line, stack_lines, error_lines}
+use Rattle.model_lines.specs.Inputs.{pair_lines}
+use Rattle.model_lines.specs.Printing.{order_line}
+use Rattle.model_machine.specs.Runs.{end_line, stack_lines, error_lines}
 use Rattle.version_store.specs.Versions.{Versions, at, last_of}
 use Rattle.suspended_machine.specs.declared.suspended.SuspendedMachine.{SuspendedMachine}
 use Rattle.machine_runs.specs.Summaries.{count_of, summary_line}

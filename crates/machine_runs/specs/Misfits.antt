@@ -1,7 +1,7 @@
 -- Why the order of a replay can't be followed.
 use Rattle.std.specs.Prelude.{◌≡◌, ℕ, ◌+◌, true, false, List, ◌∷◌, ◌++◌, length, Some}
-use Rattle.command_rules.specs.declared.args.RunArgs.{RunArgs}
-use Rattle.machine_rules.specs.Runs.{Run, has_request, run_from, start}
+use Rattle.model_commands.specs.declared.args.RunArgs.{RunArgs}
+use Rattle.model_machine.specs.Runs.{Run, has_request, run_from, start}
 use Rattle.machine_runs.specs.declared.fault.OrderFault.{OrderFault}
 use Rattle.machine_runs.specs.declared.fault.OrderFault.TheVariants as order
 

@@ -1,7 +1,7 @@
 -- What a run renders: the dump, or the summary, and the status where that was written whole.
 use Rattle.std.specs.Prelude.{◌≡◌, ℕ, List}
-use Rattle.command_rules.specs.declared.args.RunArgs.{RunArgs}
-use Rattle.machine_rules.specs.Runs.{Run, RunsTo, status_of, dump}
+use Rattle.model_commands.specs.declared.args.RunArgs.{RunArgs}
+use Rattle.model_machine.specs.Runs.{Run, RunsTo, status_of, dump}
 use Rattle.machine_runs.specs.declared.running.Rendered.{Rendered}
 use Rattle.machine_runs.specs.Summaries.{summary}
 

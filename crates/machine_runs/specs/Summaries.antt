@@ -2,11 +2,11 @@
 use Rattle.std.specs.Prelude.{ℕ, List, [], ◌∷◌, ◌++◌, length, codes, decimal}
 use Rattle.std.specs.List.{sum_by}
 use Rattle.std.specs.FinMap as finite
-use Rattle.database_rules.specs.Histories.{last}
-use Rattle.line_rules.specs.Printing.{line_feed}
-use Rattle.machine_rules.specs.Machines.{Machine, Progress}
-use Rattle.machine_rules.specs.Runs.{Run}
-use Rattle.machine_rules.specs.Worlds.{newest}
+use Rattle.model_database.specs.Histories.{last}
+use Rattle.model_lines.specs.Printing.{line_feed}
+use Rattle.model_machine.specs.Machines.{Machine, Progress}
+use Rattle.model_machine.specs.Runs.{Run}
+use Rattle.model_machine.specs.Worlds.{newest}
 use Rattle.machine_runs.specs.declared.summing.Counted.{Counted}
 use Rattle.machine_runs.specs.declared.summing.Counted.TheVariants as counted
 

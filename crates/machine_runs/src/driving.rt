@@ -2,8 +2,8 @@
 
 ghost use Rattle.std.specs.Prelude.{◌≡◌, ◌<◌, ◌+◌, ◌++◌, ◌∷◌, ◌^◌, ◌⊎◌, ◌≢◌, true, [], length, slice_get, option_and_then, None, Ok, Some, if◌then◌else◌, IfOk, IsSome, OnOk};
 ghost use Rattle.fdb_calls.specs.declared.Reply.TheVariants.{NoMemory};
-ghost use Rattle.machine_rules.specs.Machines.{resumed};
-ghost use Rattle.machine_rules.specs.Runs.{at_rest};
+ghost use Rattle.model_machine.specs.Machines.{resumed};
+ghost use Rattle.model_machine.specs.Runs.{at_rest};
 ghost use Rattle.suspended_machine.specs.SuspendedMachines.{progress_of, IsNearer, IsSuspended};
 ghost use Rattle.machine_runs.specs.Driving.{asks_at, AreSuspended, GoesOn, GoesOnByTurns, HasMoved, HasPaused, HasUsed, IsFirstAsking, IsGoing, IsNextInTurn};
 

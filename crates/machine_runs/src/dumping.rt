@@ -2,10 +2,10 @@
 
 ghost use Rattle.std.specs.Prelude.{◌≡◌, ℕ, ◌++◌, [], length, IfOk, OnOk};
 ghost use Rattle.std.specs.List.{flat_map};
-ghost use Rattle.line_rules.specs.Printing.{order_line};
-ghost use Rattle.machine_rules.specs.Calls.{item_bytes};
-ghost use Rattle.machine_rules.specs.Runs.{end_line, stack_lines, error_lines};
-ghost use Rattle.line_rules.specs.Inputs.{pair_lines};
+ghost use Rattle.model_lines.specs.Printing.{order_line};
+ghost use Rattle.model_machine.specs.Calls.{item_bytes};
+ghost use Rattle.model_machine.specs.Runs.{end_line, stack_lines, error_lines};
+ghost use Rattle.model_lines.specs.Inputs.{pair_lines};
 ghost use Rattle.machine_runs.specs.Dumps.{dump_of, newest_pairs, suspended_end, suspended_errors, suspended_stack};
 
 use client_core::Core;
@@ -14,7 +14,7 @@ use dump_text::{
     write_pair_line,
 };
 use fdb_tuple::pack_element_into;
-use machine_rules::ItemValue;
+use model_machine::ItemValue;
 use stack_machine::{End, Machine, State};
 use std::alloc::{AllocError, Global};
 use suspended_machine::SuspendedMachine;

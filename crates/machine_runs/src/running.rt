@@ -2,7 +2,7 @@
 
 ghost use Rattle.std.specs.Prelude.{◌≡◌, ◌∷◌, [], length, if◌then◌else◌, IfOk};
 ghost use Rattle.std.specs.List.{list_all};
-ghost use Rattle.machine_rules.specs.Runs.{has_ended, AreByTurns};
+ghost use Rattle.model_machine.specs.Runs.{has_ended, AreByTurns};
 ghost use Rattle.suspended_machine.specs.SuspendedMachines.{IsSuspended};
 ghost use Rattle.machine_runs.specs.Arguments.{gen_arguments};
 ghost use Rattle.outside.specs.Seeds.{words_from};
@@ -15,10 +15,10 @@ use crate::dumping::render;
 use crate::summing::summarize;
 use client_core::Core;
 use command_words::RunArgs;
-use database_rules::Api;
 use dump_text::Order;
 use key_bytes::{Bytes, Pairs};
-use machine_rules::machine_options;
+use model_database::Api;
+use model_machine::machine_options;
 use outside::PcgWords;
 use stack_machine::{End, State};
 use std::alloc::{AllocError, Global};

@@ -18,7 +18,7 @@ use Rattle.network.specs.Posts.{posts_of, asked_by, asked_in}
 use Rattle.network.specs.Serving.{replies_of}
 use Rattle.network.specs.Pairing.{receipts_of, AsksAsOne, AsksBy}
 use Rattle.network.proofs.Pairing.{same_test}
-use Rattle.thread_laws.specs.Weaving.{places_of, places_over, replies_at}
+use Rattle.laws_threads.specs.Weaving.{places_of, places_over, replies_at}
 use Rattle.threaded_machine.specs.Threaded.{requests_in}
 
 -- an Ask is picked by its machine and by its sender, or by neither

@@ -11,10 +11,10 @@ use Rattle.fdb_tuple.specs.contracts.tuple.Elem as elem
 use Rattle.future_cell.proofs.waiter.Waiter.TheSendSync.{the_field_send as waiter_send}
 use Rattle.future_cell.proofs.wake.Wake.TheSendSync.{the_field_send as wake_send}
 use Rattle.lists.proofs.list.List.TheSendSync.{the_send as list_send}
-use Rattle.machine_rules.proofs.ErrorNote.TheSendSync.{the_field_send as error_send}
-use Rattle.machine_rules.proofs.State.TheSendSync.{the_field_send as state_send}
-use Rattle.machine_rules.specs.contracts.Item as item
-use Rattle.machine_rules.specs.contracts.ItemValue as item_value
+use Rattle.model_machine.proofs.ErrorNote.TheSendSync.{the_field_send as error_send}
+use Rattle.model_machine.proofs.State.TheSendSync.{the_field_send as state_send}
+use Rattle.model_machine.specs.contracts.Item as item
+use Rattle.model_machine.specs.contracts.ItemValue as item_value
 use Rattle.network.proofs.client.Client.TheSendSync.{the_field_send as client_send}
 use Rattle.stack_directories.proofs.directories.Directories.TheSendSync.{the_send as directories_send}
 use Rattle.stack_items.specs.contracts.stack.Stack as stack

@@ -29,7 +29,7 @@ use Rattle.network.specs.Pairing.{receipts_of, AsksAsOne, AsksBy, AsksFor, AsksF
 use Rattle.network.proofs.Pairing.{asks_by, pairs_with_waiters}
 use Rattle.network.proofs.Wholes.{all_taken}
 use Rattle.threaded_machine.specs.declared.threaded.ThreadedMachine.{ThreadedMachine}
-use Rattle.thread_laws.proofs.Lists.{get_set_other, get_set_same, there}
+use Rattle.laws_threads.proofs.Lists.{get_set_other, get_set_same, there}
 use Rattle.machine_threads.specs.declared.closing.Unsettled.{Unsettled}
 use Rattle.threaded_machine.specs.Threaded.{history_of, machine_in, shown_by, HasEnded}
 use Rattle.machine_threads.specs.Closing.{AreNumbered, IsSettledOf, IsTakenOf}

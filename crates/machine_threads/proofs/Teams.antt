@@ -9,11 +9,11 @@ use Rattle.request_line.specs.declared.history.History.{History}
 use Rattle.request_line.specs.History.{lower_half, upper_half, AreTogether, IsInSpan}
 use Rattle.network.specs.declared.post.Post.{Post}
 use Rattle.network.specs.Clients.{client_line}
-use Rattle.machine_rules.specs.declared.MachineOptions.{MachineOptions}
-use Rattle.machine_rules.specs.Machines.{Machine, Progress, silent}
-use Rattle.machine_rules.specs.Runs.{at_rest, start_prefix, started, started_by}
-use Rattle.thread_laws.specs.Alone.{begun_as}
-use Rattle.thread_laws.proofs.Alone.{at_rest_anew, begun_by}
+use Rattle.model_machine.specs.declared.MachineOptions.{MachineOptions}
+use Rattle.model_machine.specs.Machines.{Machine, Progress, silent}
+use Rattle.model_machine.specs.Runs.{at_rest, start_prefix, started, started_by}
+use Rattle.laws_threads.specs.Alone.{begun_as}
+use Rattle.laws_threads.proofs.Alone.{at_rest_anew, begun_by}
 use Rattle.suspended_machine.specs.declared.suspended.SuspendedMachine.{SuspendedMachine}
 use Rattle.suspended_machine.specs.SuspendedMachines.{progress_of}
 use Rattle.threaded_machine.specs.declared.threaded.ThreadedMachine.{ThreadedMachine}

@@ -15,7 +15,7 @@ ghost use Rattle.machine_threads.specs.Closing.{AreNumbered, AreSettled};
 
 use fdb_calls::Reply;
 use future_cell::{Receipt, Waiter, Wake, settle_in_place};
-use input_rules::Order;
+use model_input::Order;
 use network::{Post, Receipts};
 use request_line::Receiver;
 use std::alloc::{AllocError, Global};

@@ -2,14 +2,14 @@
 
 ghost use Rattle.std.specs.Prelude.{◌≡◌, ◌≤◌, ◌<◌, ◌+◌, ◌++◌, true, false};
 ghost use Rattle.std.specs.Thread.{IsSync};
-ghost use Rattle.machine_rules.specs.declared.TheConstants.{MACHINES};
+ghost use Rattle.model_machine.specs.declared.TheConstants.{MACHINES};
 ghost use Rattle.suspended_machine.specs.SuspendedMachines.{progress_of, IsSuspended};
 ghost use Rattle.threaded_machine.specs.Threaded.{history_of, machine_in, replies_to, overs_of, owed_of, starts_to, IsRunning, IsStartedBy};
 ghost use Rattle.machine_threads.specs.Crews.{machines_in, overs_of_all, starts_to_all, AreOver};
 ghost use Rattle.machine_threads.specs.Teams.{IsTeamOf};
 
 use crate::crew::{Crew, Places};
-use machine_rules::MACHINES;
+use model_machine::MACHINES;
 use outside::Gate;
 use std::alloc::Global;
 use std::sync::Wait;

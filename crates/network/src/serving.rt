@@ -8,7 +8,7 @@ ghost use Rattle.network.specs.Serving.{Replies, Serves, taken_since, posts_sinc
 use crate::post::Post;
 use crate::receipts::Receipts;
 use crate::service::Service;
-use input_rules::Order;
+use model_input::Order;
 use request_line::Receiver;
 use std::alloc::Global;
 use std::sync::Wait;

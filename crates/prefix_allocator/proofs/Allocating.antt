@@ -2,17 +2,17 @@
 use Rattle.std.proofs.Common.{◌≡◌, ℕ, ◌+◌, true, List, [], ◌∷◌, ◌++◌, length, Option, Some, None, Result, Ok, Err, refl, sym, ap, subst, ◌∙◌, arith}
 use Rattle.std.specs.Prelude.{⊤}
 use Rattle.std.specs.List.{list_all}
-use Rattle.database_rules.specs.declared.Code.{Code}
-use Rattle.database_rules.specs.Histories.{Setting}
-use Rattle.database_rules.specs.Reads.{GetKeyRange}
-use Rattle.database_rules.specs.Transactions.{Transaction, view, with_granted}
+use Rattle.model_database.specs.declared.Code.{Code}
+use Rattle.model_database.specs.Histories.{Setting}
+use Rattle.model_database.specs.Reads.{GetKeyRange}
+use Rattle.model_database.specs.Transactions.{Transaction, view, with_granted}
 use Rattle.fdb_calls.specs.declared.fault.TrFault.{TrFault}
 use Rattle.fdb_calls.specs.declared.fault.TrFault.TheVariants as tr
-use Rattle.allocator_rules.specs.Acts.{Act, Acted, act_called, acted_by, all_acted, refusal}
-use Rattle.allocator_rules.specs.Counters.{counter_in, greatest_counter, counters_begin, counters_end}
-use Rattle.allocator_rules.specs.Granting.{asks_greatest, counts, opens, tried, claims, Ending, Grants, IsFull, IsNoCounter, IsRefused, Plan, granting, plan, noted, ended, allocated}
-use Rattle.allocator_rules.proofs.Acting.{draws_none, none_drawn, passed-append, refused-append, quiet_behind}
-use Rattle.allocator_rules.proofs.Viewing.{after_read}
+use Rattle.model_allocator.specs.Acts.{Act, Acted, act_called, acted_by, all_acted, refusal}
+use Rattle.model_allocator.specs.Counters.{counter_in, greatest_counter, counters_begin, counters_end}
+use Rattle.model_allocator.specs.Granting.{asks_greatest, counts, opens, tried, claims, Ending, Grants, IsFull, IsNoCounter, IsRefused, Plan, granting, plan, noted, ended, allocated}
+use Rattle.model_allocator.proofs.Acting.{draws_none, none_drawn, passed-append, refused-append, quiet_behind}
+use Rattle.model_allocator.proofs.Viewing.{after_read}
 use Rattle.prefix_allocator.specs.declared.fault.AllocFault.{AllocFault}
 use Rattle.prefix_allocator.specs.declared.fault.AllocFault.TheVariants as fault
 use Rattle.prefix_allocator.specs.Faults.{fault_of}

@@ -1,22 +1,22 @@
 -- What each function did that makes a few calls, by how the last of them ended.
 use Rattle.std.proofs.Common.{◌≡◌, ℕ, Bool, true, false, List, [], ◌∷◌, Option, Result, Ok, Err, refl, sym, ap, subst, ◌∙◌}
 use Rattle.std.specs.Prelude.{not, is_some, unwrap_or, length, ⊤}
-use Rattle.database_rules.specs.declared.AtomicOp.TheVariants as atomic
-use Rattle.database_rules.specs.Atomics.{little_bytes}
-use Rattle.database_rules.specs.Databases.{Set, ClearRange, Atomic}
-use Rattle.database_rules.specs.Histories.{Setting}
-use Rattle.database_rules.specs.Reads.{Get, GetKeyRange}
-use Rattle.database_rules.specs.Slices.{Entries}
-use Rattle.database_rules.specs.Transactions.{Transaction, view}
+use Rattle.model_database.specs.declared.AtomicOp.TheVariants as atomic
+use Rattle.model_database.specs.Atomics.{little_bytes}
+use Rattle.model_database.specs.Databases.{Set, ClearRange, Atomic}
+use Rattle.model_database.specs.Histories.{Setting}
+use Rattle.model_database.specs.Reads.{Get, GetKeyRange}
+use Rattle.model_database.specs.Slices.{Entries}
+use Rattle.model_database.specs.Transactions.{Transaction, view}
 use Rattle.fdb_calls.specs.declared.Reply.TheVariants as reply
 use Rattle.fdb_calls.specs.declared.fault.TrFault.{TrFault}
 use Rattle.fdb_calls.specs.Answers.{Answered}
 use Rattle.fdb_calls.specs.Calling.{read_called}
-use Rattle.allocator_rules.specs.Acts.{Act, Reads, Writes, DisablesWriteConflict, act_called, refusal}
-use Rattle.allocator_rules.specs.Counters.{counter_key, recent_key, counters_begin, counters_end, greatest_counter, one_more, counts_half, is_recent}
-use Rattle.allocator_rules.specs.Granting.{asks_greatest, counts, tries}
-use Rattle.allocator_rules.proofs.Reading.{value_read, pairs_read}
-use Rattle.allocator_rules.proofs.Opening.{count_read, counted_length}
+use Rattle.model_allocator.specs.Acts.{Act, Reads, Writes, DisablesWriteConflict, act_called, refusal}
+use Rattle.model_allocator.specs.Counters.{counter_key, recent_key, counters_begin, counters_end, greatest_counter, one_more, counts_half, is_recent}
+use Rattle.model_allocator.specs.Granting.{asks_greatest, counts, tries}
+use Rattle.model_allocator.proofs.Reading.{value_read, pairs_read}
+use Rattle.model_allocator.proofs.Opening.{count_read, counted_length}
 use Rattle.prefix_allocator.specs.Doing.{Done, first_key, fills_half}
 use Rattle.prefix_allocator.proofs.Steps.{passed, refused, one_done, then_done, ended}
 

@@ -7,9 +7,9 @@ use Rattle.std.proofs.lemmas.List.{append-nil, length-append, length-drop, lengt
 use Rattle.key_bytes.specs.Numbers.{number_low}
 use Rattle.fdb_tuple.specs.Spelling.{least_bytes, low_first, int_spelled, signed_spelled}
 use Rattle.fdb_tuple.proofs.Digits.{length-low_first_le}
-use Rattle.allocator_rules.specs.declared.TheConstants.{GREATEST_COUNTER}
-use Rattle.allocator_rules.specs.Counters.{counter_key, counter_in, counters_prefix}
-use Rattle.allocator_rules.proofs.Codes.{counter_in_is, number_spelled}
+use Rattle.model_allocator.specs.declared.TheConstants.{GREATEST_COUNTER}
+use Rattle.model_allocator.specs.Counters.{counter_key, counter_in, counters_prefix}
+use Rattle.model_allocator.proofs.Codes.{counter_in_is, number_spelled}
 
 -- ---- the digits of a key
 

@@ -1,14 +1,14 @@
 -- Random words that choose numbers, until one is absent.
 use Rattle.std.proofs.Common.{◌≡◌, ℕ, ◌+◌, ◌-◌, Bool, true, false, List, ◌++◌, Option, Some, None, Result, Ok, Err, refl, sym, ap, subst, ◌∙◌, arith}
 use Rattle.std.specs.Prelude.{◌%◌}
-use Rattle.database_rules.specs.Histories.{Setting}
-use Rattle.database_rules.specs.Transactions.{Transaction, view}
+use Rattle.model_database.specs.Histories.{Setting}
+use Rattle.model_database.specs.Transactions.{Transaction, view}
 use Rattle.fdb_calls.specs.declared.fault.TrFault.{TrFault}
 use Rattle.fdb_calls.specs.declared.fault.TrFault.TheVariants as fault
-use Rattle.allocator_rules.specs.Acts.{Act, Acted, all_acted}
-use Rattle.allocator_rules.specs.Granting.{drawn}
-use Rattle.allocator_rules.proofs.Acting.{passed-append, refused-append}
-use Rattle.allocator_rules.specs.Counters.{window}
+use Rattle.model_allocator.specs.Acts.{Act, Acted, all_acted}
+use Rattle.model_allocator.specs.Granting.{drawn}
+use Rattle.model_allocator.proofs.Acting.{passed-append, refused-append}
+use Rattle.model_allocator.specs.Counters.{window}
 use Rattle.prefix_allocator.specs.declared.tries.Drawn.{Drawn}
 use Rattle.prefix_allocator.specs.Doing.{Done, Draws, draws, tries_of, found_in, IsLast}
 use Rattle.prefix_allocator.proofs.Steps.{stopped_done}

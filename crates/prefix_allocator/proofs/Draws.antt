@@ -2,15 +2,15 @@
 use Rattle.std.proofs.Common.{◌≡◌, ℕ, ◌+◌, Bool, true, false, List, [], ◌∷◌, ◌++◌, Some, None, Result, refl, sym, ap, subst, ◌∙◌, map}
 use Rattle.std.specs.Prelude.{if◌then◌else◌, ◌%◌, not}
 use Rattle.std.proofs.lemmas.List.{map-append}
-use Rattle.database_rules.specs.Databases.{Database}
-use Rattle.database_rules.specs.Histories.{Setting}
-use Rattle.database_rules.specs.Transactions.{Transaction, view}
+use Rattle.model_database.specs.Databases.{Database}
+use Rattle.model_database.specs.Histories.{Setting}
+use Rattle.model_database.specs.Transactions.{Transaction, view}
 use Rattle.fdb_calls.specs.declared.fault.TrFault.{TrFault}
-use Rattle.allocator_rules.specs.Acts.{Draws, all_acted}
-use Rattle.allocator_rules.specs.Counters.{is_recent, window}
-use Rattle.allocator_rules.specs.Granting.{Candidate, counting, drawn, above, tries}
-use Rattle.allocator_rules.proofs.Trying.{tries_words}
-use Rattle.allocator_rules.proofs.Windows.{counting-append}
+use Rattle.model_allocator.specs.Acts.{Draws, all_acted}
+use Rattle.model_allocator.specs.Counters.{is_recent, window}
+use Rattle.model_allocator.specs.Granting.{Candidate, counting, drawn, above, tries}
+use Rattle.model_allocator.proofs.Trying.{tries_words}
+use Rattle.model_allocator.proofs.Windows.{counting-append}
 use Rattle.prefix_allocator.specs.Doing.{Done, draws, scans, tries_of, found_in, IsLast}
 use Rattle.prefix_allocator.proofs.Calls.{Present}
 use Rattle.prefix_allocator.proofs.Steps.{passed}

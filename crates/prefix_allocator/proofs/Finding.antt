@@ -4,18 +4,18 @@ use Rattle.std.specs.Prelude.{◌-◌, not, flat_map}
 use Rattle.std.specs.List.{list_all}
 use Rattle.std.proofs.lemmas.Bool.{and_parts, and_from}
 use Rattle.std.proofs.lemmas.List.Folds.{list_all-append}
-use Rattle.database_rules.specs.Databases.{Database, Set}
-use Rattle.database_rules.specs.Histories.{Setting}
-use Rattle.database_rules.specs.Reads.{Get}
-use Rattle.database_rules.specs.Transactions.{Transaction, view}
+use Rattle.model_database.specs.Databases.{Database, Set}
+use Rattle.model_database.specs.Histories.{Setting}
+use Rattle.model_database.specs.Reads.{Get}
+use Rattle.model_database.specs.Transactions.{Transaction, view}
 use Rattle.fdb_calls.specs.declared.fault.TrFault.{TrFault}
 use Rattle.fdb_calls.specs.declared.fault.TrFault.TheVariants as fault
-use Rattle.allocator_rules.specs.declared.TheConstants.{RANDOM_TRIES}
-use Rattle.allocator_rules.specs.Acts.{Act, Acted, Reads, Writes, DisablesWriteConflict, all_acted}
-use Rattle.allocator_rules.specs.Acts as act
-use Rattle.allocator_rules.specs.Counters.{window, recent_key, is_recent}
-use Rattle.allocator_rules.specs.Granting.{Candidate, counting, drawn, tried, tries}
-use Rattle.allocator_rules.proofs.Acting.{draws_none, refused-append, quiet_behind}
+use Rattle.model_allocator.specs.declared.TheConstants.{RANDOM_TRIES}
+use Rattle.model_allocator.specs.Acts.{Act, Acted, Reads, Writes, DisablesWriteConflict, all_acted}
+use Rattle.model_allocator.specs.Acts as act
+use Rattle.model_allocator.specs.Counters.{window, recent_key, is_recent}
+use Rattle.model_allocator.specs.Granting.{Candidate, counting, drawn, tried, tries}
+use Rattle.model_allocator.proofs.Acting.{draws_none, refused-append, quiet_behind}
 use Rattle.prefix_allocator.specs.declared.tries.Drawn.{Drawn}
 use Rattle.prefix_allocator.specs.Allocates.{Leaves}
 use Rattle.prefix_allocator.specs.Doing.{Done, Draws, draws, scans, window_candidates, tries_of, found_in}

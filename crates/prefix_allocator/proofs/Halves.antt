@@ -3,7 +3,7 @@ use Rattle.std.proofs.Common.{◌≡◌, ℕ, ◌*◌, ◌^◌, ◌<◌, Bool, t
 use Rattle.std.specs.Prelude.{◌&&◌, nat_lt, nat_le}
 use Rattle.std.proofs.lemmas.Bool.{lt-ltb}
 use Rattle.key_bytes.specs.Numbers.{number_low}
-use Rattle.allocator_rules.specs.Counters.{window, counts_half}
+use Rattle.model_allocator.specs.Counters.{window, counts_half}
 
 pub half_where_positive : (start : ℕ) (count : List ℕ) (number wide : ℕ) → number ≡ number_low count → number < 2 ^ 63 → wide ≡ window start
     → nat_le wide (2 * number) ≡ counts_half start count

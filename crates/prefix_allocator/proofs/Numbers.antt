@@ -7,7 +7,7 @@ use Rattle.std.proofs.lemmas.List.{length-reverse, take_all}
 use Rattle.fdb_tuple.specs.Spelling.{least_bytes, low_first, signed_spelled, int_code, with_sign}
 use Rattle.fdb_tuple.proofs.Digits.{length-low_first_le, with_sign-false}
 use Rattle.fdb_tuple.proofs.Sizes.{drop-signed_bytes}
-use Rattle.allocator_rules.specs.Counters.{packed}
+use Rattle.model_allocator.specs.Counters.{packed}
 
 pub zero_packed : 20 ∷ [] ≡ packed 0
 unfolding least_bytes low_first signed_spelled

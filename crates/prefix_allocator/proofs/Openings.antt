@@ -1,11 +1,11 @@
 -- The calls that open a window, by how the last of them ended.
 use Rattle.std.proofs.Common.{◌≡◌, ℕ, ◌+◌, Bool, true, List, ◌++◌, Result, Ok, Err, sym, subst, ◌∙◌}
-use Rattle.database_rules.specs.Histories.{Setting}
-use Rattle.database_rules.specs.Transactions.{Transaction, view}
+use Rattle.model_database.specs.Histories.{Setting}
+use Rattle.model_database.specs.Transactions.{Transaction, view}
 use Rattle.fdb_calls.specs.declared.fault.TrFault.{TrFault}
-use Rattle.allocator_rules.specs.Acts.{Act, all_acted}
-use Rattle.allocator_rules.specs.Counters.{window}
-use Rattle.allocator_rules.specs.Granting.{counts, clears_below}
+use Rattle.model_allocator.specs.Acts.{Act, all_acted}
+use Rattle.model_allocator.specs.Counters.{window}
+use Rattle.model_allocator.specs.Granting.{counts, clears_below}
 use Rattle.prefix_allocator.specs.Doing.{Done, fills_half, opens_behind, start_behind}
 use Rattle.prefix_allocator.proofs.Calls.{Halves}
 use Rattle.prefix_allocator.proofs.Steps.{more_done, stopped_done}

@@ -3,19 +3,19 @@ use Rattle.std.proofs.Common.{◌≡◌, ℕ, ◌+◌, ◌<◌, ◌≤◌, Bool,
 use Rattle.std.specs.Prelude.{if◌then◌else◌, flat_map, nat_lt, nat_le}
 use Rattle.std.specs.List.{list_all}
 use Rattle.std.proofs.lemmas.Bool.{leb-true, ltb-true}
-use Rattle.database_rules.specs.Databases.{Database}
-use Rattle.database_rules.specs.Histories.{Setting}
-use Rattle.database_rules.specs.Slices.{Entries}
-use Rattle.database_rules.specs.Transactions.{Transaction, view}
-use Rattle.allocator_rules.specs.declared.TheConstants.{GREATEST_COUNTER}
-use Rattle.allocator_rules.specs.Acts.{Act, all_acted}
-use Rattle.allocator_rules.specs.Counters.{window, counter_in, greatest_counter, is_recent}
-use Rattle.allocator_rules.specs.Granting.{asks_greatest, counts, opens, candidates, tries, claims, Ending, IsNoCounter, Plan, granting, plan_from, plan_at, plan_counter, plan_under, plan}
-use Rattle.allocator_rules.proofs.Acting.{draws_none}
-use Rattle.allocator_rules.proofs.Codes.{counter_in_is}
-use Rattle.allocator_rules.proofs.Opening.{opened_start, recent_opened}
-use Rattle.allocator_rules.proofs.Trying.{tried_same, absent_same}
-use Rattle.allocator_rules.proofs.Windows.{window_bounds, candidates_inside}
+use Rattle.model_database.specs.Databases.{Database}
+use Rattle.model_database.specs.Histories.{Setting}
+use Rattle.model_database.specs.Slices.{Entries}
+use Rattle.model_database.specs.Transactions.{Transaction, view}
+use Rattle.model_allocator.specs.declared.TheConstants.{GREATEST_COUNTER}
+use Rattle.model_allocator.specs.Acts.{Act, all_acted}
+use Rattle.model_allocator.specs.Counters.{window, counter_in, greatest_counter, is_recent}
+use Rattle.model_allocator.specs.Granting.{asks_greatest, counts, opens, candidates, tries, claims, Ending, IsNoCounter, Plan, granting, plan_from, plan_at, plan_counter, plan_under, plan}
+use Rattle.model_allocator.proofs.Acting.{draws_none}
+use Rattle.model_allocator.proofs.Codes.{counter_in_is}
+use Rattle.model_allocator.proofs.Opening.{opened_start, recent_opened}
+use Rattle.model_allocator.proofs.Trying.{tried_same, absent_same}
+use Rattle.model_allocator.proofs.Windows.{window_bounds, candidates_inside}
 use Rattle.prefix_allocator.specs.Doing.{start_in, first_key, fills_half, opens_behind, start_behind, window_candidates, tries_of, found_in}
 
 -- ---- the plan

@@ -1,12 +1,12 @@
 -- The numbers of a window one after the other, until one is absent.
 use Rattle.std.proofs.Common.{◌≡◌, ℕ, ◌+◌, Bool, true, false, List, [], ◌∷◌, ◌++◌, Option, Some, None, Result, Ok, Err, sym, ap, subst, ◌∙◌, arith}
 use Rattle.std.specs.Prelude.{if◌then◌else◌, not}
-use Rattle.database_rules.specs.Databases.{Database}
-use Rattle.database_rules.specs.Histories.{Setting}
-use Rattle.database_rules.specs.Transactions.{Transaction, view}
+use Rattle.model_database.specs.Databases.{Database}
+use Rattle.model_database.specs.Histories.{Setting}
+use Rattle.model_database.specs.Transactions.{Transaction, view}
 use Rattle.fdb_calls.specs.declared.fault.TrFault.{TrFault}
-use Rattle.allocator_rules.specs.Counters.{is_recent}
-use Rattle.allocator_rules.specs.Granting.{above, tries}
+use Rattle.model_allocator.specs.Counters.{is_recent}
+use Rattle.model_allocator.specs.Granting.{above, tries}
 use Rattle.prefix_allocator.specs.Doing.{Done, scans, tries_of, found_in}
 use Rattle.prefix_allocator.proofs.Calls.{Present}
 use Rattle.prefix_allocator.proofs.Steps.{stopped_done}

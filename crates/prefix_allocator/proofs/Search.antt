@@ -3,14 +3,14 @@ use Rattle.std.proofs.Common.{◌≡◌, ℕ, Bool, true, false, cond, List, [],
 use Rattle.std.specs.Prelude.{if◌then◌else◌, flat_map}
 use Rattle.std.proofs.lemmas.Grind.{flat_map-append}
 use Rattle.std.proofs.lemmas.List.{append-nil}
-use Rattle.database_rules.specs.Databases.{Database}
-use Rattle.database_rules.specs.Histories.{Setting}
-use Rattle.database_rules.specs.Transactions.{Transaction, view}
+use Rattle.model_database.specs.Databases.{Database}
+use Rattle.model_database.specs.Histories.{Setting}
+use Rattle.model_database.specs.Transactions.{Transaction, view}
 use Rattle.fdb_calls.specs.declared.fault.TrFault.{TrFault}
-use Rattle.allocator_rules.specs.Acts.{all_acted}
-use Rattle.allocator_rules.specs.Counters.{is_recent}
-use Rattle.allocator_rules.specs.Granting.{Candidate, first_absent, tried, tries}
-use Rattle.allocator_rules.proofs.Trying.{tried-append, absent-append, none_absent, present_same}
+use Rattle.model_allocator.specs.Acts.{all_acted}
+use Rattle.model_allocator.specs.Counters.{is_recent}
+use Rattle.model_allocator.specs.Granting.{Candidate, first_absent, tried, tries}
+use Rattle.model_allocator.proofs.Trying.{tried-append, absent-append, none_absent, present_same}
 use Rattle.prefix_allocator.specs.Doing.{Done, tries_of, found_in}
 use Rattle.prefix_allocator.proofs.Steps.{more_done}
 

@@ -1,15 +1,15 @@
 -- What several calls did, from what each of them did.
 use Rattle.std.proofs.Common.{◌≡◌, List, [], ◌∷◌, ◌++◌, Option, Some, None, Result, Ok, Err, refl, sym, ap, subst, ◌∙◌, inl, inr}
-use Rattle.database_rules.specs.declared.Code.{Code}
-use Rattle.database_rules.specs.Histories.{Setting}
-use Rattle.database_rules.specs.Transactions.{Transaction}
+use Rattle.model_database.specs.declared.Code.{Code}
+use Rattle.model_database.specs.Histories.{Setting}
+use Rattle.model_database.specs.Transactions.{Transaction}
 use Rattle.fdb_calls.specs.declared.Reply.{Reply}
 use Rattle.fdb_calls.specs.declared.fault.TrFault.{TrFault}
 use Rattle.fdb_calls.specs.declared.fault.TrFault.TheVariants as fault
 use Rattle.fdb_calls.specs.Answers.{Answered}
 use Rattle.fdb_calls.specs.Calling.{Called}
-use Rattle.allocator_rules.specs.Acts.{Act, Acted, act_called, acted_by, all_acted, refusal, words_of}
-use Rattle.allocator_rules.proofs.Acting.{passed-append, refused-append}
+use Rattle.model_allocator.specs.Acts.{Act, Acted, act_called, acted_by, all_acted, refusal, words_of}
+use Rattle.model_allocator.proofs.Acting.{passed-append, refused-append}
 use Rattle.prefix_allocator.specs.Allocates.{StopsIn}
 use Rattle.prefix_allocator.specs.Doing.{Done}
 

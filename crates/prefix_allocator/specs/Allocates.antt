@@ -1,9 +1,9 @@
 -- What a call of the allocator answers, and what stands after it.
 use Rattle.std.specs.Prelude.{◌≡◌, ◌⊎◌, ℕ, ◌+◌, List, [], ◌∷◌, None, Result, Ok, Err}
-use Rattle.database_rules.specs.Histories.{Setting}
-use Rattle.database_rules.specs.Transactions.{Transaction, view}
-use Rattle.allocator_rules.specs.Acts.{Act, act_called, refusal}
-use Rattle.allocator_rules.specs.Granting.{Ending, Grants, IsFull, IsNoCounter, IsRefused, Allocated, allocated, plan}
+use Rattle.model_database.specs.Histories.{Setting}
+use Rattle.model_database.specs.Transactions.{Transaction, view}
+use Rattle.model_allocator.specs.Acts.{Act, act_called, refusal}
+use Rattle.model_allocator.specs.Granting.{Ending, Grants, IsFull, IsNoCounter, IsRefused, Allocated, allocated, plan}
 use Rattle.prefix_allocator.specs.declared.fault.AllocFault.{AllocFault}
 use Rattle.prefix_allocator.specs.declared.fault.AllocFault.TheVariants as fault
 

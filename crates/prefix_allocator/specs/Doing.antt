@@ -1,14 +1,14 @@
 -- What a function did that made a list of calls on a transaction, by what it answers.
 use Rattle.std.specs.Prelude.{◌≡◌, ℕ, ◌+◌, Bool, true, false, List, [], ◌∷◌, ◌++◌, map, flat_map, Option, Some, None, unwrap_or, Result, Ok, Err, ⊤}
-use Rattle.database_rules.specs.Databases.{Database}
-use Rattle.database_rules.specs.Histories.{Setting}
-use Rattle.database_rules.specs.Slices.{Entries}
-use Rattle.database_rules.specs.Transactions.{Transaction}
+use Rattle.model_database.specs.Databases.{Database}
+use Rattle.model_database.specs.Histories.{Setting}
+use Rattle.model_database.specs.Slices.{Entries}
+use Rattle.model_database.specs.Transactions.{Transaction}
 use Rattle.fdb_calls.specs.declared.fault.TrFault.{TrFault}
 use Rattle.fdb_calls.specs.declared.fault.TrFault.TheVariants as fault
-use Rattle.allocator_rules.specs.Acts.{Act, all_acted}
-use Rattle.allocator_rules.specs.Counters.{window, counter_in, counted, counts_half, is_recent}
-use Rattle.allocator_rules.specs.Granting.{Candidate, drawn, above, candidates, counting, first_absent, tried, tries, counts, clears_below}
+use Rattle.model_allocator.specs.Acts.{Act, all_acted}
+use Rattle.model_allocator.specs.Counters.{window, counter_in, counted, counts_half, is_recent}
+use Rattle.model_allocator.specs.Granting.{Candidate, drawn, above, candidates, counting, first_absent, tried, tries, counts, clears_below}
 use Rattle.prefix_allocator.specs.Allocates.{StopsIn, Leaves}
 
 -- ---- calls

@@ -1,6 +1,6 @@
 -- What the keys of counters say.
 use Rattle.std.specs.Prelude.{◌≡◌, ℕ, List, Option, Some, None, Result, Ok, Err, ⊤}
-use Rattle.allocator_rules.specs.Counters.{counter_in}
+use Rattle.model_allocator.specs.Counters.{counter_in}
 use Rattle.prefix_allocator.specs.declared.fault.AllocFault.{AllocFault}
 use Rattle.prefix_allocator.specs.declared.fault.AllocFault.TheVariants as fault
 use Rattle.prefix_allocator.specs.Doing.{start_in}

@@ -4,9 +4,9 @@ ghost use Rattle.std.specs.Prelude.{◌≡◌};
 ghost use Rattle.prefix_allocator.specs.Faults.{fault_of};
 ghost use Rattle.prefix_allocator.specs.declared.fault.AllocFault.TheVariants as fault;
 
-use database_rules::Code;
 use fdb_calls::TrFault;
 use key_bytes::Key;
+use model_database::Code;
 use std::alloc::{AllocError, AllocFailed};
 use thiserror::Error;
 

@@ -2,8 +2,8 @@
 
 ghost use Rattle.std.specs.Prelude.{◌≡◌, ◌+◌, [], ◌∷◌, ◌++◌, length, drop, IfOk};
 ghost use Rattle.fdb_tuple.specs.Spelling.{least_bytes};
-ghost use Rattle.allocator_rules.specs.Counters.{packed, counters_prefix, recent_prefix, counter_key, recent_key};
-ghost use Rattle.allocator_rules.specs.Counters.{counters_begin, counters_end};
+ghost use Rattle.model_allocator.specs.Counters.{packed, counters_prefix, recent_prefix, counter_key, recent_key};
+ghost use Rattle.model_allocator.specs.Counters.{counters_begin, counters_end};
 
 use fdb_subspace::{Subspace, range_behind};
 use key_bytes::{Bytes, Key, KeyRange};

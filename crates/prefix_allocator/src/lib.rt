@@ -1,13 +1,13 @@
 //! The high-contention allocator (directory layer's documentation, "High-contention allocator"): short numbers that
 //! transactions which commit side by side do not both get.
 //!
-//! `allocate` grants the number that its definition grants (`allocator_rules`, `specs/Granting.antt`), by the reads, writes
+//! `allocate` grants the number that its definition grants (`model_allocator`, `specs/Granting.antt`), by the reads, writes
 //! and write conflict ranges that are listed there, in that order, and by no other that a transaction keeps, over any transaction that
 //! answers as the definitions say (`Tr`).
 #![tactic(auto)]
 
-ghost use Rattle.database_rules.specs.Histories.{Setting};
-ghost use Rattle.database_rules.specs.Transactions.{Transaction};
+ghost use Rattle.model_database.specs.Histories.{Setting};
+ghost use Rattle.model_database.specs.Transactions.{Transaction};
 ghost use Rattle.prefix_allocator.specs.Allocates.{IsAllocated};
 
 mod fault;

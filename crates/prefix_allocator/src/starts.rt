@@ -2,13 +2,13 @@
 
 ghost use Rattle.std.specs.Prelude.{◌≡◌, ◌≤◌, ◌<◌, length, reverse, IfOk, MatchOption};
 ghost use Rattle.key_bytes.specs.Numbers.{number_low};
-ghost use Rattle.allocator_rules.specs.Counters.{counter_in};
+ghost use Rattle.model_allocator.specs.Counters.{counter_in};
 ghost use Rattle.prefix_allocator.specs.Keyed.{Starts};
 
 use crate::fault::AllocFault;
 use crate::keys::AllocatorKeys;
-use allocator_rules::GREATEST_COUNTER;
 use key_bytes::Key;
+use model_allocator::GREATEST_COUNTER;
 use std::alloc::AllocError;
 
 /// The start that the greatest key of the counters says: without one it is 0.

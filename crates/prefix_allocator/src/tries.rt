@@ -1,18 +1,18 @@
 //! Trying numbers of a window, until one is absent.
 
 ghost use Rattle.std.specs.Prelude.{◌≡◌, ◌≤◌, ℕ, ◌+◌, ◌-◌, not, false, Some, IfOk, ⊤};
-ghost use Rattle.database_rules.specs.Histories.{Setting};
-ghost use Rattle.database_rules.specs.Transactions.{Transaction, view};
-ghost use Rattle.allocator_rules.specs.declared.TheConstants.{RANDOM_TRIES, GREATEST_COUNTER};
-ghost use Rattle.allocator_rules.specs.Acts.{all_acted};
-ghost use Rattle.allocator_rules.specs.Counters.{window, is_recent};
-ghost use Rattle.allocator_rules.specs.Granting.{tries, claims, drawn};
+ghost use Rattle.model_database.specs.Histories.{Setting};
+ghost use Rattle.model_database.specs.Transactions.{Transaction, view};
+ghost use Rattle.model_allocator.specs.declared.TheConstants.{RANDOM_TRIES, GREATEST_COUNTER};
+ghost use Rattle.model_allocator.specs.Acts.{all_acted};
+ghost use Rattle.model_allocator.specs.Counters.{window, is_recent};
+ghost use Rattle.model_allocator.specs.Granting.{tries, claims, drawn};
 ghost use Rattle.prefix_allocator.specs.Doing.{Done, Draws, draws, scans, window_candidates, tries_of, found_in, IsLast};
 
 use crate::keys::AllocatorKeys;
 use crate::windows::window;
-use allocator_rules::RANDOM_TRIES;
 use fdb_calls::{Tr, TrFault};
+use model_allocator::RANDOM_TRIES;
 use outside::Words;
 
 // The last number that was drawn.

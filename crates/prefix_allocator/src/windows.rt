@@ -1,18 +1,18 @@
 //! The window out of which a number is granted.
 
 ghost use Rattle.std.specs.Prelude.{◌≡◌, ◌≤◌, ◌+◌, [], ◌∷◌, ◌++◌, length, unwrap_or, IfOk, ⊤};
-ghost use Rattle.database_rules.specs.Histories.{Setting};
-ghost use Rattle.database_rules.specs.Transactions.{Transaction, view};
-ghost use Rattle.allocator_rules.specs.declared.TheConstants.{GREATEST_COUNTER};
-ghost use Rattle.allocator_rules.specs.Counters.{window, counter_in, counts_half, greatest_counter};
-ghost use Rattle.allocator_rules.specs.Granting.{asks_greatest, counts, clears_below};
+ghost use Rattle.model_database.specs.Histories.{Setting};
+ghost use Rattle.model_database.specs.Transactions.{Transaction, view};
+ghost use Rattle.model_allocator.specs.declared.TheConstants.{GREATEST_COUNTER};
+ghost use Rattle.model_allocator.specs.Counters.{window, counter_in, counts_half, greatest_counter};
+ghost use Rattle.model_allocator.specs.Granting.{asks_greatest, counts, clears_below};
 ghost use Rattle.prefix_allocator.specs.Doing.{Done, first_key, fills_half, opens_behind, start_behind};
 
 use crate::keys::AllocatorKeys;
 use byteorder::{ByteOrder, LittleEndian};
-use database_rules::AtomicOp;
 use fdb_calls::{Tr, TrFault};
 use key_bytes::{Bytes, Key, Pairs};
+use model_database::AtomicOp;
 
 // 1 as 8 bytes, the lowest first.
 const ONE_MORE: [u8; 8] = [1, 0, 0, 0, 0, 0, 0, 0];

@@ -1,11 +1,11 @@
 -- Pages that are read one behind another, for callers.
 use Rattle.std.proofs.Common.{◌≡◌, ℕ, ◌<◌, ◌-◌, Bool, true, false, List, ◌++◌, length, take, nat_lt, sym, ap, ◌∙◌, arith, ltb-true, append_assoc, length-append}
 use Rattle.std.proofs.lemmas.List.{length-take}
-use Rattle.database_rules.specs.Databases.{Database}
-use Rattle.database_rules.specs.declared.mode.Mode.{Mode}
-use Rattle.database_rules.specs.Modes.{lacks_limit}
+use Rattle.model_database.specs.Databases.{Database}
+use Rattle.model_database.specs.declared.mode.Mode.{Mode}
+use Rattle.model_database.specs.Modes.{lacks_limit}
 use Rattle.range_read.specs.Pages.{page_size}
-use Rattle.database_rules.specs.Slices.{Entries, slice}
+use Rattle.model_database.specs.Slices.{Entries, slice}
 use Rattle.range_read.specs.Left.{slice_behind, last_key}
 use Rattle.range_read.specs.Walks.{begin_behind, end_behind}
 use Rattle.range_read.proofs.Pages.{IsSize-page, behind_is}

@@ -6,12 +6,12 @@ use Rattle.std.proofs.lemmas.Bool.{eqb-false, eqb-true}
 use Rattle.std.proofs.lemmas.List.{take-take, length-take, append-nil}
 use Rattle.std.proofs.lemmas.Option.{same_Some}
 use Rattle.std.specs.Option.{option_map_or}
-use Rattle.database_rules.specs.Databases.{Database}
-use Rattle.database_rules.specs.declared.mode.Mode.{Mode}
-use Rattle.database_rules.specs.declared.mode.Mode.TheVariants.{WantAll, Iterator, Exact, Small, Medium, Large, Serial}
-use Rattle.database_rules.specs.Modes.{lacks_limit}
+use Rattle.model_database.specs.Databases.{Database}
+use Rattle.model_database.specs.declared.mode.Mode.{Mode}
+use Rattle.model_database.specs.declared.mode.Mode.TheVariants.{WantAll, Iterator, Exact, Small, Medium, Large, Serial}
+use Rattle.model_database.specs.Modes.{lacks_limit}
 use Rattle.range_read.specs.Pages.{capped, page_size}
-use Rattle.database_rules.specs.Slices.{Entries, cut, span, slice}
+use Rattle.model_database.specs.Slices.{Entries, cut, span, slice}
 use Rattle.range_read.specs.Left.{slice_behind, last_key}
 use Rattle.range_read.specs.Walks.{begin_behind, end_behind, has_more}
 use Rattle.range_read.proofs.Lists.{last-append}

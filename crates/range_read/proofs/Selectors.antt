@@ -8,11 +8,11 @@ use Rattle.std.proofs.lemmas.Int.{ints}
 use Rattle.std.proofs.lemmas.List.{get_or-append-add, get_or_append_left, get_or-reverse, get_or_past, get_or_default, length-reverse, map-append}
 use Rattle.std.proofs.lemmas.List.Sums.{length-filter}
 use Rattle.key_bytes.specs.Keys.{key_lt, key_le, after, top}
-use Rattle.database_rules.specs.Databases.{Database}
-use Rattle.database_rules.specs.declared.selector.Selector.{Selector}
-use Rattle.database_rules.specs.Intervals.{start_of}
-use Rattle.database_rules.specs.Selecting.{select, key_at, sorted_keys, stands_before}
-use Rattle.database_rules.specs.Slices.{Entries}
+use Rattle.model_database.specs.Databases.{Database}
+use Rattle.model_database.specs.declared.selector.Selector.{Selector}
+use Rattle.model_database.specs.Intervals.{start_of}
+use Rattle.model_database.specs.Selecting.{select, key_at, sorted_keys, stands_before}
+use Rattle.model_database.specs.Slices.{Entries}
 use Rattle.range_read.specs.Walks.{onward}
 use Rattle.range_read.proofs.Lists.{filter-reverse, reverse-cons}
 use Rattle.key_bytes.proofs.Orders.{lt_after, above_not_below, le_lt}

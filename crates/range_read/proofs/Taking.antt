@@ -3,8 +3,8 @@ use Rattle.std.proofs.Common.{◌≡◌, ℕ, zero, suc, ◌<◌, ◌≤◌, ◌
 use Rattle.std.proofs.lemmas.List.{append-nil, take_all}
 use Rattle.std.specs.Map.{keys_of}
 use Rattle.key_map.specs.Ends.{first}
-use Rattle.database_rules.specs.Databases.{Database}
-use Rattle.database_rules.specs.Slices.{Entries, cut, span}
+use Rattle.model_database.specs.Databases.{Database}
+use Rattle.model_database.specs.Slices.{Entries, cut, span}
 use Rattle.range_read.specs.Walks.{onward, behind, begin_behind, end_behind}
 use Rattle.range_read.proofs.Lists.{first_is}
 use Rattle.range_read.proofs.Walks.{Entry, onward_behind, span_behind}

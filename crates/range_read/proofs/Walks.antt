@@ -7,8 +7,8 @@ use Rattle.key_bytes.specs.Keys.{key_cmp, key_lt, key_le, after, within}
 use Rattle.key_bytes.proofs.Orders.{irreflexive}
 use Rattle.key_map.specs.Ends.{first}
 use Rattle.key_map.proofs.Spans.{filter-within-backward}
-use Rattle.database_rules.specs.Databases.{Database}
-use Rattle.database_rules.specs.Slices.{Entries, span, turned}
+use Rattle.model_database.specs.Databases.{Database}
+use Rattle.model_database.specs.Slices.{Entries, span, turned}
 use Rattle.range_read.specs.Walks.{is_onward, onward, behind, near, begin_behind, end_behind}
 use Rattle.range_read.proofs.Lists.{filter-reverse}
 use Rattle.key_bytes.proofs.Orders.{lt_trans, le_lt, lt_after, above_not_below}

@@ -3,8 +3,8 @@ use Rattle.std.specs.Prelude.{ℕ, Bool, true, false, List, []}
 use Rattle.std.specs.Option.{option_map_or}
 use Rattle.key_bytes.specs.Keys.{after}
 use Rattle.key_map.specs.Ends.{last}
-use Rattle.database_rules.specs.Databases.{Database}
-use Rattle.database_rules.specs.Slices.{Entries, slice}
+use Rattle.model_database.specs.Databases.{Database}
+use Rattle.model_database.specs.Slices.{Entries, slice}
 
 -- what is left of a slice behind pairs of which this is the last key: in order from the key after it on, else up to it
 abbrev pub slice_behind : Database → (begin end : List ℕ) → (limit : ℕ) → (backward : Bool) → List ℕ → Entries

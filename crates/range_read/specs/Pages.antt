@@ -1,9 +1,9 @@
 -- How many pairs a page has.
 use Rattle.std.specs.Prelude.{◌≡◌, ℕ, ◌-◌, ◌*◌, ◌^◌, ◌==◌, true, false, if◌then◌else◌, min}
-use Rattle.database_rules.specs.declared.mode.Mode.{Mode}
-use Rattle.database_rules.specs.declared.options.RangeOptions.{RangeOptions}
-use Rattle.database_rules.specs.declared.mode.Mode.TheVariants.{WantAll, Iterator, Exact, Small, Medium, Large, Serial}
-use Rattle.database_rules.specs.Modes.{lacks_limit}
+use Rattle.model_database.specs.declared.mode.Mode.{Mode}
+use Rattle.model_database.specs.declared.options.RangeOptions.{RangeOptions}
+use Rattle.model_database.specs.declared.mode.Mode.TheVariants.{WantAll, Iterator, Exact, Small, Medium, Large, Serial}
+use Rattle.model_database.specs.Modes.{lacks_limit}
 use Rattle.range_read.specs.declared.fault.RangeFault.{RangeFault}
 use Rattle.range_read.specs.declared.fault.RangeFault.TheVariants.{NoLimit, NoMemory}
 

@@ -4,8 +4,8 @@ use Rattle.std.specs.FinMap as finite
 use Rattle.std.specs.List.{filter}
 use Rattle.key_bytes.specs.Keys.{after, key_le, key_lt}
 use Rattle.key_map.specs.Ends.{first}
-use Rattle.database_rules.specs.Databases.{Database}
-use Rattle.database_rules.specs.Slices.{Entries, turned}
+use Rattle.model_database.specs.Databases.{Database}
+use Rattle.model_database.specs.Slices.{Entries, turned}
 
 -- a walk up from a key meets this key: it is not below; a walk down meets it: it is below
 abbrev pub is_onward : List ℕ → Bool → List ℕ → Bool

@@ -4,7 +4,7 @@
 //! A view answers the first pair from a key on, the last pair below a key, and the pairs that it comes to at once at the near
 //! end of a range (`OrderedView`). From these alone
 //! `resolve` answers the key that a selector means (`select`; `start_key` is where it begins to look), `all` the pairs of a range,
-//! in order or reversed, up to a limit (`slice`; both are words of `database_rules`), and `page` the first so many of these, and
+//! in order or reversed, up to a limit (`slice`; both are words of `model_database`), and `page` the first so many of these, and
 //! whether more follow (`page_size`, in `specs/Pages.antt`). Where more follow, the slice is the page followed by the
 //! slice of what is left, so pages that are read one behind another until no more follow are together the slice.
 //!
@@ -23,9 +23,9 @@ mod taken;
 mod view;
 mod walking;
 
-pub use database_rules::{Mode, RangeOptions, Selector};
 pub use fault::RangeFault;
 pub use mode::lacks_limit;
+pub use model_database::{Mode, RangeOptions, Selector};
 pub use paged::Page;
 pub use reading::{all, page};
 pub use resolving::{resolve, start_key};

@@ -1,10 +1,10 @@
 //! How many pairs a page of a streaming mode has.
 
 ghost use Rattle.std.specs.Prelude.{◌≡◌, ◌<◌, ◌≤◌, ◌*◌, ◌^◌, ◌-◌, min};
-ghost use Rattle.database_rules.specs.Modes.{lacks_limit};
+ghost use Rattle.model_database.specs.Modes.{lacks_limit};
 ghost use Rattle.range_read.specs.Pages.{capped, full_size, page_size};
 
-use database_rules::{Mode, RangeOptions};
+use model_database::{Mode, RangeOptions};
 
 /// Tells whether the mode of the options wants a limit that is not there: a read of a range is then refused with 2210
 /// (API reference of release 6.3, "fdb_transaction_get_range", `EXACT`).

@@ -1,8 +1,8 @@
 //! Slices of a range, whole and by pages.
 
 ghost use Rattle.std.specs.Prelude.{◌≡◌, ◌≤◌, ◌++◌, ◌-◌, true, false, IfOk, IfErr, take, length, nat_lt};
-ghost use Rattle.database_rules.specs.Modes.{lacks_limit};
-ghost use Rattle.database_rules.specs.Slices.{slice, span};
+ghost use Rattle.model_database.specs.Modes.{lacks_limit};
+ghost use Rattle.model_database.specs.Slices.{slice, span};
 ghost use Rattle.range_read.specs.Left.{slice_behind, last_key};
 ghost use Rattle.range_read.specs.Pages.{page_size, IsRefused};
 ghost use Rattle.range_read.specs.Walks.{has_more};
@@ -12,8 +12,8 @@ use crate::mode::{lacks_limit, size_of_page};
 use crate::paged::Page;
 use crate::view::OrderedView;
 use crate::walking::{first_inside, walk};
-use database_rules::RangeOptions;
 use key_bytes::{KeyRange, Pairs};
+use model_database::RangeOptions;
 use std::alloc::AllocError;
 
 // Refuses a mode that wants a limit which is not there.

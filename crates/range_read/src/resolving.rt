@@ -3,14 +3,14 @@
 ghost use Rattle.std.specs.Prelude.{◌≡◌, IfOk, slice_get, slice_index_or};
 ghost use Rattle.std.specs.Map.{keys_of};
 ghost use Rattle.range_read.specs.Courses.{IsCourse};
-ghost use Rattle.database_rules.specs.Intervals.{start_of};
-ghost use Rattle.database_rules.specs.Selecting.{select};
+ghost use Rattle.model_database.specs.Intervals.{start_of};
+ghost use Rattle.model_database.specs.Selecting.{select};
 ghost use Rattle.range_read.specs.Walks.{onward};
 
 use crate::view::OrderedView;
 use crate::walking::{go_on, step};
-use database_rules::Selector;
 use key_bytes::{Bytes, Key};
+use model_database::Selector;
 use std::alloc::{AllocError, Global};
 
 // The key at a place of those that a walk from a key meets, counted from 0. No step is made behind the last key.

@@ -7,8 +7,8 @@ ghost use Rattle.std.specs.Option.{option_map};
 ghost use Rattle.key_bytes.specs.Entries.{entry_of};
 ghost use Rattle.key_bytes.specs.Keys.{key_le, key_lt};
 ghost use Rattle.key_map.specs.Ends.{first, last};
-ghost use Rattle.database_rules.specs.Databases.{Database};
-ghost use Rattle.database_rules.specs.Slices.{span};
+ghost use Rattle.model_database.specs.Databases.{Database};
+ghost use Rattle.model_database.specs.Slices.{span};
 
 use crate::taken::Taken;
 use key_bytes::{Key, KeyRange, Pair};

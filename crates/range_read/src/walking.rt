@@ -4,7 +4,7 @@ ghost use Rattle.std.specs.Prelude.{◌≡◌, ◌<◌, ◌≤◌, ◌++◌, ℕ
 ghost use Rattle.std.specs.Option.{option_map};
 ghost use Rattle.key_bytes.specs.Entries.{entry_of};
 ghost use Rattle.key_map.specs.Ends.{first};
-ghost use Rattle.database_rules.specs.Slices.{slice, span};
+ghost use Rattle.model_database.specs.Slices.{slice, span};
 ghost use Rattle.range_read.specs.Walks.{begin_behind, behind, end_behind, near, onward};
 
 use crate::taken::Taken;

@@ -1,24 +1,24 @@
 -- What a call answers, by what its steps did.
 use Rattle.std.proofs.Common.{◌≡◌, ℕ, zero, suc, Bool, false, List, [], ◌∷◌, ◌++◌, take, Option, Some, None, Result, Ok, Err, refl, sym, ap, ◌∙◌, subst}
 use Rattle.std.specs.FinMap as finite
-use Rattle.database_rules.specs.declared.Code.{Code}
-use Rattle.database_rules.specs.Databases.{Mutation, Set, Clear}
-use Rattle.database_rules.specs.Histories.{Setting}
-use Rattle.database_rules.specs.Reads.{Read, Get, GetKeyRange}
-use Rattle.database_rules.specs.Slices.{Entries, slice}
-use Rattle.database_rules.specs.Transactions.{Transaction, view}
+use Rattle.model_database.specs.declared.Code.{Code}
+use Rattle.model_database.specs.Databases.{Mutation, Set, Clear}
+use Rattle.model_database.specs.Histories.{Setting}
+use Rattle.model_database.specs.Reads.{Read, Get, GetKeyRange}
+use Rattle.model_database.specs.Slices.{Entries, slice}
+use Rattle.model_database.specs.Transactions.{Transaction, view}
 use Rattle.fdb_calls.specs.declared.Reply.{Reply}
 use Rattle.fdb_calls.specs.declared.Reply.TheVariants as reply
 use Rattle.fdb_calls.specs.declared.fault.TrFault.{TrFault}
 use Rattle.fdb_calls.specs.declared.fault.TrFault.TheVariants as tr
 use Rattle.fdb_calls.specs.Answers.{Answered}
-use Rattle.allocator_rules.specs.Acts.{Act, Reads, Writes, act_called, all_acted, refusal}
-use Rattle.allocator_rules.proofs.Reading.{value_read, pairs_read}
-use Rattle.recipe_rules.specs.declared.fault.RecipeFault.{RecipeFault}
-use Rattle.recipe_rules.specs.declared.fault.RecipeFault.TheVariants as fault
-use Rattle.recipe_rules.specs.Faults.{fault_of, from_tr}
-use Rattle.recipe_rules.specs.Turns.{Turn, Call, replying, turned_by, acts, acts_behind, ending, written, EndsIn, StopsIn, IsAnswered}
-use Rattle.recipe_rules.proofs.Calling.{each_through, behind_through, refused_first, none_acted}
+use Rattle.model_allocator.specs.Acts.{Act, Reads, Writes, act_called, all_acted, refusal}
+use Rattle.model_allocator.proofs.Reading.{value_read, pairs_read}
+use Rattle.model_recipes.specs.declared.fault.RecipeFault.{RecipeFault}
+use Rattle.model_recipes.specs.declared.fault.RecipeFault.TheVariants as fault
+use Rattle.model_recipes.specs.Faults.{fault_of, from_tr}
+use Rattle.model_recipes.specs.Turns.{Turn, Call, replying, turned_by, acts, acts_behind, ending, written, EndsIn, StopsIn, IsAnswered}
+use Rattle.model_recipes.proofs.Calling.{each_through, behind_through, refused_first, none_acted}
 use Rattle.recipe_layers.specs.Steps.{IsRead, Tells, IsWritten}
 
 -- ---- memory ran out

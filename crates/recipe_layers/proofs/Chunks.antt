@@ -5,15 +5,15 @@ use Rattle.std.proofs.lemmas.Bool.{cases_eq, eq-eqb, ne_eqb, eqb-true, eqb-false
 use Rattle.std.proofs.lemmas.List.{at_drop_more, at_drop_all, map-append, length-drop, length-map}
 use Rattle.key_bytes.specs.declared.pairs.Pair.{Pair}
 use Rattle.key_bytes.specs.Entries.{entry_of, entries_of}
-use Rattle.database_rules.specs.Databases.{Mutation, Set}
-use Rattle.database_rules.specs.Slices.{Entries}
-use Rattle.allocator_rules.specs.Granting.{counting}
-use Rattle.allocator_rules.proofs.Windows.{counting-append}
-use Rattle.recipe_rules.specs.declared.fault.RecipeFault.{RecipeFault}
-use Rattle.recipe_rules.specs.declared.fault.RecipeFault.TheVariants as fault
-use Rattle.recipe_rules.specs.declared.TheConstants.{CHUNK_LIMIT, SIZE_LIMIT}
-use Rattle.recipe_rules.specs.Queues.{index_key}
-use Rattle.recipe_rules.specs.Blobs.{joined, has_size, is_none_left, is_chunk, spoiled_from, told_bytes, bytes_in, put_over, overwritten, chunk, sets_chunks}
+use Rattle.model_database.specs.Databases.{Mutation, Set}
+use Rattle.model_database.specs.Slices.{Entries}
+use Rattle.model_allocator.specs.Granting.{counting}
+use Rattle.model_allocator.proofs.Windows.{counting-append}
+use Rattle.model_recipes.specs.declared.fault.RecipeFault.{RecipeFault}
+use Rattle.model_recipes.specs.declared.fault.RecipeFault.TheVariants as fault
+use Rattle.model_recipes.specs.declared.TheConstants.{CHUNK_LIMIT, SIZE_LIMIT}
+use Rattle.model_recipes.specs.Queues.{index_key}
+use Rattle.model_recipes.specs.Blobs.{joined, has_size, is_none_left, is_chunk, spoiled_from, told_bytes, bytes_in, put_over, overwritten, chunk, sets_chunks}
 
 -- ---- pairs as chunks
 

@@ -6,11 +6,11 @@ use Rattle.std.proofs.lemmas.Bool.{and_from, ne_eqb, eq-eqb, le-ltb, lt-ltb}
 use Rattle.std.proofs.lemmas.List.{at_drop_more, at_drop_all}
 use Rattle.key_bytes.specs.declared.pairs.Pair.{Pair}
 use Rattle.key_bytes.specs.Entries.{entry_of, entries_of}
-use Rattle.recipe_rules.specs.declared.Count.{Count}
-use Rattle.recipe_rules.specs.declared.fault.RecipeFault.{RecipeFault}
-use Rattle.recipe_rules.specs.declared.fault.RecipeFault.TheVariants as fault
-use Rattle.recipe_rules.specs.declared.TheConstants.{GREATEST_COUNT}
-use Rattle.recipe_rules.specs.Multimaps.{count_said, count_in, before_others, counts_in}
+use Rattle.model_recipes.specs.declared.Count.{Count}
+use Rattle.model_recipes.specs.declared.fault.RecipeFault.{RecipeFault}
+use Rattle.model_recipes.specs.declared.fault.RecipeFault.TheVariants as fault
+use Rattle.model_recipes.specs.declared.TheConstants.{GREATEST_COUNT}
+use Rattle.model_recipes.specs.Multimaps.{count_said, count_in, before_others, counts_in}
 use Rattle.recipe_layers.specs.Steps.{Tells}
 
 -- those that were found, and the others behind them

@@ -7,10 +7,10 @@ use Rattle.std.proofs.lemmas.List.{append-nil, length-append, length-drop, lengt
 use Rattle.key_bytes.specs.Numbers.{number_low}
 use Rattle.fdb_tuple.specs.Spelling.{least_bytes, low_first, int_spelled}
 use Rattle.fdb_tuple.proofs.Digits.{length-low_first_le}
-use Rattle.allocator_rules.proofs.Codes.{number_spelled}
-use Rattle.recipe_rules.specs.declared.TheConstants.{GREATEST_INDEX}
-use Rattle.recipe_rules.specs.Queues.{index_key, index_in}
-use Rattle.recipe_rules.proofs.Indexes.{index_in_is}
+use Rattle.model_allocator.proofs.Codes.{number_spelled}
+use Rattle.model_recipes.specs.declared.TheConstants.{GREATEST_INDEX}
+use Rattle.model_recipes.specs.Queues.{index_key, index_in}
+use Rattle.model_recipes.proofs.Indexes.{index_in_is}
 
 -- ---- the digits of a key
 

@@ -1,11 +1,11 @@
 -- Sets of chunks, up to the last that was made.
 use Rattle.std.proofs.Common.{◌≡◌, ℕ, ◌+◌, ◌-◌, ◌<◌, ◌≤◌, List, [], ◌∷◌, Result, Ok, sym, subst, arith}
-use Rattle.database_rules.specs.Databases.{Mutation, Set}
-use Rattle.database_rules.specs.Histories.{Setting}
-use Rattle.database_rules.specs.Transactions.{Transaction}
-use Rattle.recipe_rules.specs.declared.fault.RecipeFault.{RecipeFault}
-use Rattle.recipe_rules.specs.Queues.{index_key}
-use Rattle.recipe_rules.specs.Blobs.{chunk, sets_chunks}
+use Rattle.model_database.specs.Databases.{Mutation, Set}
+use Rattle.model_database.specs.Histories.{Setting}
+use Rattle.model_database.specs.Transactions.{Transaction}
+use Rattle.model_recipes.specs.declared.fault.RecipeFault.{RecipeFault}
+use Rattle.model_recipes.specs.Queues.{index_key}
+use Rattle.model_recipes.specs.Blobs.{chunk, sets_chunks}
 use Rattle.recipe_layers.specs.Steps.{IsWritten}
 use Rattle.recipe_layers.proofs.Answering.{none_written, written_more}
 use Rattle.recipe_layers.proofs.Chunks.{sets_at}

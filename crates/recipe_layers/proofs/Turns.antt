@@ -3,16 +3,16 @@ use Rattle.std.proofs.Common.{◌≡◌, ℕ, zero, suc, ◌-◌, Bool, true, fa
 use Rattle.std.specs.Prelude.{◌==◌}
 use Rattle.std.specs.FinMap as finite
 use Rattle.std.proofs.lemmas.Bool.{ne_eqb}
-use Rattle.database_rules.specs.Databases.{Database, Set, Clear}
-use Rattle.database_rules.specs.Histories.{Setting}
-use Rattle.database_rules.specs.Reads.{Get, GetKeyRange}
-use Rattle.database_rules.specs.Transactions.{Transaction}
-use Rattle.recipe_rules.specs.declared.fault.RecipeFault.{RecipeFault}
-use Rattle.database_rules.specs.Slices.{Entries, slice}
-use Rattle.recipe_rules.specs.Turns.{Turn, writing, replying, turned_by, space_begin, space_end, first_pair}
-use Rattle.recipe_rules.specs.Queues.{next_key, push_call, popping, pop_call}
-use Rattle.recipe_rules.specs.Multimaps.{pair_key, count_at, one_more, sets_count, add_call, there, lowers, subtract_call, key_space, counts_in, values_call}
-use Rattle.recipe_rules.specs.Blobs.{bytes_in, bytes_seen, size_call, part, read_call, sets_piece, put_in, write_call}
+use Rattle.model_database.specs.Databases.{Database, Set, Clear}
+use Rattle.model_database.specs.Histories.{Setting}
+use Rattle.model_database.specs.Reads.{Get, GetKeyRange}
+use Rattle.model_database.specs.Transactions.{Transaction}
+use Rattle.model_recipes.specs.declared.fault.RecipeFault.{RecipeFault}
+use Rattle.model_database.specs.Slices.{Entries, slice}
+use Rattle.model_recipes.specs.Turns.{Turn, writing, replying, turned_by, space_begin, space_end, first_pair}
+use Rattle.model_recipes.specs.Queues.{next_key, push_call, popping, pop_call}
+use Rattle.model_recipes.specs.Multimaps.{pair_key, count_at, one_more, sets_count, add_call, there, lowers, subtract_call, key_space, counts_in, values_call}
+use Rattle.model_recipes.specs.Blobs.{bytes_in, bytes_seen, size_call, part, read_call, sets_piece, put_in, write_call}
 use Rattle.recipe_layers.specs.Steps.{IsRead}
 
 -- what a push does with the key that was found

@@ -2,14 +2,14 @@
 use Rattle.std.specs.Prelude.{◌≡◌, ⊤, ℕ, false, List, Option, Some, None, Result, Ok, Err}
 use Rattle.key_bytes.specs.declared.pairs.Pair.{Pair}
 use Rattle.key_bytes.specs.Entries.{entry_of}
-use Rattle.database_rules.specs.Databases.{Mutation}
-use Rattle.database_rules.specs.Histories.{Setting}
-use Rattle.database_rules.specs.Reads.{Read}
-use Rattle.database_rules.specs.Transactions.{Transaction}
-use Rattle.allocator_rules.specs.Acts.{Reads, act_called, all_acted, refusal}
-use Rattle.recipe_rules.specs.declared.fault.RecipeFault.{RecipeFault}
-use Rattle.recipe_rules.specs.declared.fault.RecipeFault.TheVariants as fault
-use Rattle.recipe_rules.specs.Turns.{RefusedIn, StopsIn, written}
+use Rattle.model_database.specs.Databases.{Mutation}
+use Rattle.model_database.specs.Histories.{Setting}
+use Rattle.model_database.specs.Reads.{Read}
+use Rattle.model_database.specs.Transactions.{Transaction}
+use Rattle.model_allocator.specs.Acts.{Reads, act_called, all_acted, refusal}
+use Rattle.model_recipes.specs.declared.fault.RecipeFault.{RecipeFault}
+use Rattle.model_recipes.specs.declared.fault.RecipeFault.TheVariants as fault
+use Rattle.model_recipes.specs.Turns.{RefusedIn, StopsIn, written}
 
 -- a pair, as contracts see it
 abbrev pub pair_of : Option Pair → Option (List ℕ × List ℕ)

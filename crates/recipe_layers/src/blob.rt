@@ -2,12 +2,12 @@
 
 ghost use Rattle.std.specs.Prelude.{◌≡◌, ◌+◌, ◌-◌, ◌≤◌, ◌&&◌, length, drop, nat_lt, bytes_eq, IfOk};
 ghost use Rattle.key_bytes.specs.Entries.{entry_of};
-ghost use Rattle.database_rules.specs.Histories.{Setting};
-ghost use Rattle.database_rules.specs.Transactions.{Transaction};
-ghost use Rattle.recipe_rules.specs.declared.TheConstants.{CHUNK_LIMIT, SIZE_LIMIT};
-ghost use Rattle.recipe_rules.specs.Queues.{index_key};
-ghost use Rattle.recipe_rules.specs.Blobs.{has_size, bytes_in, part, overwritten, put_over, chunk, first_chunk, chunk_end, sets_chunks};
-ghost use Rattle.recipe_rules.specs.Blobs.{IsSized, ArePart, IsOverwritten};
+ghost use Rattle.model_database.specs.Histories.{Setting};
+ghost use Rattle.model_database.specs.Transactions.{Transaction};
+ghost use Rattle.model_recipes.specs.declared.TheConstants.{CHUNK_LIMIT, SIZE_LIMIT};
+ghost use Rattle.model_recipes.specs.Queues.{index_key};
+ghost use Rattle.model_recipes.specs.Blobs.{has_size, bytes_in, part, overwritten, put_over, chunk, first_chunk, chunk_end, sets_chunks};
+ghost use Rattle.model_recipes.specs.Blobs.{IsSized, ArePart, IsOverwritten};
 ghost use Rattle.recipe_layers.specs.Steps.{Tells, IsWritten};
 
 use crate::keys::index_key;
@@ -15,7 +15,7 @@ use crate::reading::read_pairs;
 use fdb_calls::Tr;
 use fdb_subspace::Subspace;
 use key_bytes::{Bytes, Pair, Pairs};
-use recipe_rules::{CHUNK_BYTES, CHUNK_LIMIT, RecipeFault, SIZE_LIMIT};
+use model_recipes::{CHUNK_BYTES, CHUNK_LIMIT, RecipeFault, SIZE_LIMIT};
 use std::alloc::AllocError;
 
 /// Returns how many bytes the byte string in the subspace has.

@@ -5,13 +5,13 @@ ghost use Rattle.key_bytes.specs.Numbers.{number_low};
 ghost use Rattle.fdb_tuple.specs.Tuples.{Empty};
 ghost use Rattle.fdb_tuple.specs.Listed.{before};
 ghost use Rattle.fdb_tuple.specs.Spelling.{spelling};
-ghost use Rattle.recipe_rules.specs.Turns.{space_begin, space_end};
-ghost use Rattle.recipe_rules.specs.Queues.{index_key, index_in};
+ghost use Rattle.model_recipes.specs.Turns.{space_begin, space_end};
+ghost use Rattle.model_recipes.specs.Queues.{index_key, index_in};
 
 use fdb_subspace::Subspace;
 use fdb_tuple::{Elem, pack_element_into};
 use key_bytes::{Bytes, Key, KeyRange};
-use recipe_rules::GREATEST_INDEX;
+use model_recipes::GREATEST_INDEX;
 use std::alloc::AllocError;
 
 /// The range of the packed tuples behind a key.

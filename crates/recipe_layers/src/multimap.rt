@@ -4,10 +4,10 @@ ghost use Rattle.std.specs.Prelude.{◌≡◌, IfOk, Ok};
 ghost use Rattle.key_bytes.specs.Entries.{entry_of};
 ghost use Rattle.key_bytes.specs.Keys.{IsByteString};
 ghost use Rattle.fdb_subspace.specs.Inside.{key_read};
-ghost use Rattle.database_rules.specs.Histories.{Setting};
-ghost use Rattle.database_rules.specs.Transactions.{Transaction};
-ghost use Rattle.recipe_rules.specs.Multimaps.{pair_key, key_space, count_said, count_at, one_more, there, bytes_alone, counted, count_in, counts_in};
-ghost use Rattle.recipe_rules.specs.Multimaps.{IsAdded, IsSubtracted, AreValues};
+ghost use Rattle.model_database.specs.Histories.{Setting};
+ghost use Rattle.model_database.specs.Transactions.{Transaction};
+ghost use Rattle.model_recipes.specs.Multimaps.{pair_key, key_space, count_said, count_at, one_more, there, bytes_alone, counted, count_in, counts_in};
+ghost use Rattle.model_recipes.specs.Multimaps.{IsAdded, IsSubtracted, AreValues};
 ghost use Rattle.recipe_layers.specs.Steps.{Tells};
 
 use crate::keys::packed_behind;
@@ -17,7 +17,7 @@ use fdb_subspace::{SubFault, Subspace};
 use fdb_tuple::{Elem, Tuple};
 use key_bytes::{Bytes, Key, Pair, Pairs};
 use lists::List;
-use recipe_rules::{Count, Counts, GREATEST_COUNT, RecipeFault};
+use model_recipes::{Count, Counts, GREATEST_COUNT, RecipeFault};
 use std::alloc::AllocError;
 
 /// Adds one to the count of the pair of `k` and `v`.

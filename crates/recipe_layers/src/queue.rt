@@ -1,9 +1,9 @@
 //! The queue.
 
 ghost use Rattle.std.specs.Prelude.{◌≡◌};
-ghost use Rattle.database_rules.specs.Histories.{Setting};
-ghost use Rattle.database_rules.specs.Transactions.{Transaction};
-ghost use Rattle.recipe_rules.specs.Queues.{next_key, IsPushed, IsPopped};
+ghost use Rattle.model_database.specs.Histories.{Setting};
+ghost use Rattle.model_database.specs.Transactions.{Transaction};
+ghost use Rattle.model_recipes.specs.Queues.{next_key, IsPushed, IsPopped};
 ghost use Rattle.recipe_layers.specs.Steps.{Tells, pair_of};
 
 use crate::keys::{index_in, index_key};
@@ -11,7 +11,7 @@ use crate::reading::{first_of, from_tr, read_pairs};
 use fdb_calls::Tr;
 use fdb_subspace::Subspace;
 use key_bytes::{Bytes, Key, Pair};
-use recipe_rules::{GREATEST_INDEX, RecipeFault};
+use model_recipes::{GREATEST_INDEX, RecipeFault};
 
 /// Adds `v` at the end of the queue in the subspace.
 ///

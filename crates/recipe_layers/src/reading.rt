@@ -2,19 +2,19 @@
 
 ghost use Rattle.std.specs.Prelude.{◌≡◌, true, false};
 ghost use Rattle.std.specs.FinMap as finite;
-ghost use Rattle.database_rules.specs.Histories.{Setting};
-ghost use Rattle.database_rules.specs.Reads.{Get, GetKeyRange};
-ghost use Rattle.database_rules.specs.Slices.{slice};
-ghost use Rattle.database_rules.specs.Transactions.{Transaction, view};
-ghost use Rattle.recipe_rules.specs.Turns.{space_begin, space_end, first_pair};
-ghost use Rattle.recipe_rules.specs.Faults.{from_tr};
+ghost use Rattle.model_database.specs.Histories.{Setting};
+ghost use Rattle.model_database.specs.Reads.{Get, GetKeyRange};
+ghost use Rattle.model_database.specs.Slices.{slice};
+ghost use Rattle.model_database.specs.Transactions.{Transaction, view};
+ghost use Rattle.model_recipes.specs.Turns.{space_begin, space_end, first_pair};
+ghost use Rattle.model_recipes.specs.Faults.{from_tr};
 ghost use Rattle.recipe_layers.specs.Steps.{IsRead, pair_of};
 
 use crate::keys::range_behind;
 use fdb_calls::{Tr, TrFault};
 use fdb_subspace::Subspace;
 use key_bytes::{Bytes, Key, KeyRange, Pair, Pairs};
-use recipe_rules::RecipeFault;
+use model_recipes::RecipeFault;
 
 /// What a call of the transaction answered, with the fault of a call of a layer.
 pub(crate) fn from_tr<X>(answer: Result<X, TrFault>) -> Result<X, RecipeFault>

@@ -10,12 +10,12 @@ use Rattle.key_bytes.specs.declared.range.KeyRange.{KeyRange}
 use Rattle.key_bytes.specs.Keys.{key_le, key_lt, within, after}
 use Rattle.key_bytes.specs.Ranges.{meets}
 use Rattle.key_bytes.proofs.Orders.{irreflexive, le_lt, lt_trans}
-use Rattle.database_rules.specs.declared.AtomicOp.{AtomicOp}
-use Rattle.database_rules.specs.Atomics.{is_versionstamped}
-use Rattle.database_rules.specs.Databases.{Mutation, Set, Clear, ClearRange, Atomic}
-use Rattle.database_rules.specs.Intervals.{decided_by, decided}
-use Rattle.database_rules.specs.States.{KeyState, Unmodified, Decided, Depends, after_atomic, state_after, states_after, state_under, covers, unreadable}
-use Rattle.database_rules.proofs.States.{or_assoc, covers-append}
+use Rattle.model_database.specs.declared.AtomicOp.{AtomicOp}
+use Rattle.model_database.specs.Atomics.{is_versionstamped}
+use Rattle.model_database.specs.Databases.{Mutation, Set, Clear, ClearRange, Atomic}
+use Rattle.model_database.specs.Intervals.{decided_by, decided}
+use Rattle.model_database.specs.States.{KeyState, Unmodified, Decided, Depends, after_atomic, state_after, states_after, state_under, covers, unreadable}
+use Rattle.model_database.proofs.States.{or_assoc, covers-append}
 use Rattle.range_map.proofs.Bounded.{within_one}
 use Rattle.write_map.specs.Answers.{IsStateUnder}
 use Rattle.write_map.specs.declared.state.KeyState.{KeyState as Shown}

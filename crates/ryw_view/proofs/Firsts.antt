@@ -12,8 +12,8 @@ use Rattle.std.specs.Ordering.{is_eq, is_lt, ordering_reverse}
 use Rattle.key_bytes.specs.Keys.{key_cmp, key_lt}
 use Rattle.key_bytes.proofs.Orders.{above_not_below, irreflexive, less}
 use Rattle.key_map.specs.Ends.{first, last}
-use Rattle.database_rules.specs.Databases.{Database}
-use Rattle.database_rules.specs.Slices.{Entries, turned}
+use Rattle.model_database.specs.Databases.{Database}
+use Rattle.model_database.specs.Slices.{Entries, turned}
 use Rattle.range_read.specs.Walks.{is_onward, onward}
 use Rattle.range_read.proofs.Lists.{filter-reverse, first-reverse}
 use Rattle.range_read.proofs.Rising.{Rises, first_passes}

@@ -6,7 +6,7 @@ use Rattle.key_bytes.specs.declared.range.KeyRange.{KeyRange}
 use Rattle.key_bytes.specs.Keys.{key_le, key_lt, lesser, greater}
 use Rattle.key_bytes.specs.Ranges.{has, meets}
 use Rattle.key_bytes.proofs.Orders.{above_not_below, irreflexive, le_lt, lt_le, lt_trans}
-use Rattle.database_rules.specs.States.{covers}
+use Rattle.model_database.specs.States.{covers}
 use Rattle.range_map.proofs.Bounded.{within_backward}
 
 -- the greater of two is below neither

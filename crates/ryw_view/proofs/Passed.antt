@@ -9,7 +9,7 @@ use Rattle.key_map.specs.Ends.{first, last}
 use Rattle.range_read.proofs.Lists.{filter-reverse, first-reverse}
 use Rattle.range_read.proofs.Rising.{first_passes}
 use Rattle.ryw_view.proofs.Lists.{has_first, has_reversed, fewer}
-use Rattle.database_rules.specs.Databases.{Database}
+use Rattle.model_database.specs.Databases.{Database}
 use Rattle.range_read.specs.Walks.{is_onward}
 use Rattle.range_read.proofs.Walks.{Entry}
 use Rattle.ryw_view.specs.Walks.{meets_first, is_inside, IsFirstMet}

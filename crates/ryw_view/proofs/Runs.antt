@@ -6,9 +6,9 @@ use Rattle.std.specs.List.{filter}
 use Rattle.key_bytes.specs.Keys.{after, key_lt, within}
 use Rattle.key_bytes.proofs.Orders.{above_not_below, lt_after, lt_le}
 use Rattle.key_map.specs.Ends.{first}
-use Rattle.database_rules.specs.Databases.{Database, Mutation}
-use Rattle.database_rules.specs.Slices.{Entries, span}
-use Rattle.database_rules.specs.States.{seen}
+use Rattle.model_database.specs.Databases.{Database, Mutation}
+use Rattle.model_database.specs.Slices.{Entries, span}
+use Rattle.model_database.specs.States.{seen}
 use Rattle.range_read.specs.Walks.{onward}
 use Rattle.range_read.proofs.Taking.{step_whole}
 use Rattle.range_read.proofs.Walks.{Entry, inside_none, inside_past, inside_some, span_behind, turned_rises}

@@ -3,9 +3,9 @@ use Rattle.std.proofs.Common.{◌≡◌, ℕ, Bool, true, false, cond, List, Opt
 use Rattle.std.specs.Prelude.{not}
 use Rattle.std.specs.FinMap as finite
 use Rattle.std.proofs.lemmas.Map.Lookups.{exact_bytes}
-use Rattle.database_rules.specs.Databases.{Database, Mutation, do_all}
-use Rattle.database_rules.specs.States.{KeyState, state_under, value_in, covers, unreadable, seen}
-use Rattle.database_rules.proofs.States.{get-under}
+use Rattle.model_database.specs.Databases.{Database, Mutation, do_all}
+use Rattle.model_database.specs.States.{KeyState, state_under, value_in, covers, unreadable, seen}
+use Rattle.model_database.proofs.States.{get-under}
 
 cond_not : (b : Bool) (old : Option (List ℕ)) → cond (not b) old None ≡ cond b None old
 cond_not true old = refl

@@ -12,8 +12,8 @@ use Rattle.range_read.proofs.Rising.{first_passes}
 use Rattle.write_map.specs.Answers.{IsStateUnder}
 use Rattle.write_map.specs.declared.state.KeyState.{KeyState as Shown}
 use Rattle.write_map.specs.declared.state.KeyState.TheVariants as shown
-use Rattle.database_rules.specs.Databases.{Database, Mutation}
-use Rattle.database_rules.specs.States.{KeyState, Unmodified, Decided, Depends, state_under, value_in, all_atoms, covers, unreadable, is_unmodified, seen}
+use Rattle.model_database.specs.Databases.{Database, Mutation}
+use Rattle.model_database.specs.States.{KeyState, Unmodified, Decided, Depends, state_under, value_in, all_atoms, covers, unreadable, is_unmodified, seen}
 use Rattle.range_map.specs.Boundaries.{IsBelowBoundary}
 use Rattle.range_read.specs.Walks.{is_onward}
 use Rattle.range_read.proofs.Walks.{Entry}

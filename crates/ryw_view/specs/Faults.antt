@@ -1,7 +1,7 @@
 -- Why a key was not read.
 use Rattle.std.specs.Prelude.{◌≡◌, ℕ, true, false, List}
-use Rattle.database_rules.specs.Databases.{Mutation}
-use Rattle.database_rules.specs.States.{covers, unreadable}
+use Rattle.model_database.specs.Databases.{Mutation}
+use Rattle.model_database.specs.States.{covers, unreadable}
 use Rattle.ryw_view.specs.declared.fault.ViewFault.{ViewFault}
 use Rattle.ryw_view.specs.declared.fault.ViewFault.TheVariants.{Unreadable, NoMemory}
 

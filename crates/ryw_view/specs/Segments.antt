@@ -3,8 +3,8 @@ use Rattle.std.specs.Prelude.{◌≡◌, ℕ, Bool, true, false, not, ◌&&◌, 
 use Rattle.std.specs.List.{filter}
 use Rattle.key_bytes.specs.Keys.{key_le, key_lt}
 use Rattle.key_map.specs.Ends.{first}
-use Rattle.database_rules.specs.Databases.{Mutation}
-use Rattle.database_rules.specs.States.{covers, is_unmodified, state_under, unreadable}
+use Rattle.model_database.specs.Databases.{Mutation}
+use Rattle.model_database.specs.States.{covers, is_unmodified, state_under, unreadable}
 use Rattle.range_read.specs.Walks.{is_onward}
 use Rattle.write_map.specs.declared.state.KeyState.{KeyState as Shown}
 use Rattle.write_map.specs.declared.state.KeyState.TheVariants as shown

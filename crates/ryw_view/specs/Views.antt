@@ -1,6 +1,6 @@
 -- The database that a view shows.
-use Rattle.database_rules.specs.Databases.{Database}
-use Rattle.database_rules.specs.States.{seen}
+use Rattle.model_database.specs.Databases.{Database}
+use Rattle.model_database.specs.States.{seen}
 use Rattle.version_store.specs.Versions.{at}
 use Rattle.ryw_view.specs.declared.view.View.{View}
 

@@ -3,8 +3,8 @@ use Rattle.std.specs.Prelude.{◌≡◌, ℕ, Bool, true, false, if◌then◌els
 use Rattle.std.specs.FinMap as finite
 use Rattle.std.specs.List.{filter}
 use Rattle.key_bytes.specs.Keys.{after, key_le, key_lt, within}
-use Rattle.database_rules.specs.Databases.{Database}
-use Rattle.database_rules.specs.Slices.{Entries}
+use Rattle.model_database.specs.Databases.{Database}
+use Rattle.model_database.specs.Slices.{Entries}
 use Rattle.range_read.specs.Walks.{is_onward}
 
 -- a walk meets the one key before the other

@@ -1,8 +1,8 @@
 //! What a list of atomic operations makes of a value.
 
 ghost use Rattle.std.specs.Prelude.{◌≡◌, IfOk, option_copied};
-ghost use Rattle.database_rules.specs.Atomics.{atom};
-ghost use Rattle.database_rules.specs.States.{all_atoms};
+ghost use Rattle.model_database.specs.Atomics.{atom};
+ghost use Rattle.model_database.specs.States.{all_atoms};
 ghost use Rattle.write_map.specs.Edits.{edits_of};
 
 use key_bytes::Bytes;
@@ -20,7 +20,7 @@ pub(crate) fn copied(alloc: Global, value: Option<&[u8]>) -> Result<Option<Bytes
 }
 
 // What one operation makes of a value; one with a versionstamp changes nothing before the commit.
-#[tactic(auto, using(database_rules::proofs::KeyByKey::versionstamped_same))]
+#[tactic(auto, using(model_database::proofs::KeyByKey::versionstamped_same))]
 fn after_edit(
     alloc: Global,
     edit: &AtomicEdit,

@@ -2,7 +2,7 @@
 //!
 //! A `View` is the pending mutations of a transaction beside a store and a version. It shows the database at that
 //! version after the mutations, those with a versionstamp left out, without the keys that these make unreadable (`seen`
-//! of `database_rules`). `get` answers the value of a key, and tells an unreadable key from one without a value. As an
+//! of `model_database`). `get` answers the value of a key, and tells an unreadable key from one without a value. As an
 //! `OrderedView` it answers the pair from a key on, or below a key, so the reads of `range_read` are read of it.
 //!
 //! `add_undecided` says which keys of a range are the read conflict range of a read of it: those that the mutations leave

@@ -5,8 +5,8 @@ ghost use Rattle.std.specs.Prelude.{◌≡◌, ◌<◌, ◌≤◌, ◌++◌, ℕ
 ghost use Rattle.std.specs.Map.Iter.{deref_pair};
 ghost use Rattle.std.specs.Option.{ForSome};
 ghost use Rattle.key_bytes.specs.Keys.{key_lt};
-ghost use Rattle.database_rules.specs.Slices.{span};
-ghost use Rattle.database_rules.specs.States.{seen};
+ghost use Rattle.model_database.specs.Slices.{span};
+ghost use Rattle.model_database.specs.States.{seen};
 ghost use Rattle.version_store.specs.Versions.{at};
 ghost use Rattle.ryw_view.specs.Segments.{AreBare};
 ghost use Rattle.ryw_view.specs.Views.{seen_of};

@@ -4,8 +4,8 @@ ghost use Rattle.std.specs.Prelude.{◌≡◌, ℕ, List, true, not, ◌&&◌, �
 ghost use Rattle.std.specs.List.{list_any};
 ghost use Rattle.key_bytes.specs.Keys.{within};
 ghost use Rattle.key_bytes.specs.Ranges.{has, meets};
-ghost use Rattle.database_rules.specs.Intervals.{decided};
-ghost use Rattle.database_rules.specs.States.{covers, unreadable};
+ghost use Rattle.model_database.specs.Intervals.{decided};
+ghost use Rattle.model_database.specs.States.{covers, unreadable};
 ghost use Rattle.write_map.specs.Answers.{IsStateUnder};
 ghost use Rattle.ryw_view.specs.Segments.{is_hidden, is_open, AreAlikeUpTo, IsBoundaryBelow};
 

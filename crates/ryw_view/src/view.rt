@@ -25,7 +25,7 @@ pub struct View<'a> {
 impl<'a> View<'a> {
     ghost use Rattle.std.specs.Prelude.{◌≡◌, false, IfOk, IfErr};
     ghost use Rattle.std.specs.FinMap as finite;
-    ghost use Rattle.database_rules.specs.States.{covers, seen, unreadable};
+    ghost use Rattle.model_database.specs.States.{covers, seen, unreadable};
     ghost use Rattle.version_store.specs.Versions.{at};
     ghost use Rattle.write_map.specs.Answers.{IsStateUnder};
     ghost use Rattle.ryw_view.specs.Faults.{IsUnread};

@@ -4,7 +4,7 @@ ghost use Rattle.std.specs.Prelude.{◌≡◌, true, false, Some, IfOk, option_c
 ghost use Rattle.std.specs.FinMap as finite;
 ghost use Rattle.std.specs.Map.Iter.{deref_pair};
 ghost use Rattle.key_bytes.specs.Entries.{entry_of};
-ghost use Rattle.database_rules.specs.States.{seen};
+ghost use Rattle.model_database.specs.States.{seen};
 ghost use Rattle.version_store.specs.Versions.{at};
 ghost use Rattle.write_map.specs.Answers.{IsStateUnder};
 ghost use Rattle.ryw_view.specs.Segments.{IsSegment};

@@ -2,25 +2,25 @@
 use Rattle.std.proofs.Common.{◌≡◌, ◌⊎◌, inl, inr, ℕ, Bool, true, false, List, [], ◌++◌, Option, Some, None, Result, Ok, Err, refl, sym, ap, subst, ◌∙◌}
 use Rattle.std.specs.Prelude.{is_some}
 use Rattle.std.specs.FinMap as finite
-use Rattle.database_rules.specs.declared.Code.{Code}
-use Rattle.database_rules.specs.Databases.{Database}
-use Rattle.database_rules.specs.Histories.{Setting}
-use Rattle.database_rules.specs.Transactions.{Transaction, view}
-use Rattle.allocator_rules.specs.Acts.{Acted, Reads, act_called, all_acted}
+use Rattle.model_database.specs.declared.Code.{Code}
+use Rattle.model_database.specs.Databases.{Database}
+use Rattle.model_database.specs.Histories.{Setting}
+use Rattle.model_database.specs.Transactions.{Transaction, view}
+use Rattle.model_allocator.specs.Acts.{Acted, Reads, act_called, all_acted}
 use Rattle.fdb_calls.specs.declared.Request.TheVariants as request
 use Rattle.fdb_calls.specs.declared.TxnCall.TheVariants as call
 use Rattle.fdb_calls.specs.Calling.{Called}
 use Rattle.fdb_calls.specs.Calling as calling
-use Rattle.machine_rules.specs.Worlds.{World, Stepped, next_life, transaction_of, with_named, stepped, step}
+use Rattle.model_machine.specs.Worlds.{World, Stepped, next_life, transaction_of, with_named, stepped, step}
 use Rattle.client_core.specs.Stands.{CoreModel, StandsFor}
 use Rattle.core_tr.specs.Standing.{IsSettled, AreAlikeElse, StandsIn, Stands, Stays, KeepsRest}
 use Rattle.core_tr.specs.StandLaws.{alike_still, stands_alike, kept_there}
 use Rattle.core_tr.proofs.Calls.{IsPlain, all_plain}
 use Rattle.core_tr.proofs.Steps.{step_is, step_named, named_there, named_setting, named_words, left_there, settled_left, both_left, setting_kept}
-use Rattle.recipe_rules.specs.declared.fault.RecipeFault.{RecipeFault}
-use Rattle.recipe_rules.specs.Turns.{Turn, Call, acts, acts_behind}
-use Rattle.shell_rules.specs.Requests.{Did, name, followed, error_line}
-use Rattle.shell_rules.specs.Recipes.{fault_text, read_of, writes_behind, calls_of, called_each, ended, layered}
+use Rattle.model_recipes.specs.declared.fault.RecipeFault.{RecipeFault}
+use Rattle.model_recipes.specs.Turns.{Turn, Call, acts, acts_behind}
+use Rattle.model_shell.specs.Requests.{Did, name, followed, error_line}
+use Rattle.model_shell.specs.Recipes.{fault_text, read_of, writes_behind, calls_of, called_each, ended, layered}
 use Rattle.shell_recipes.specs.declared.calls.End.{End}
 use Rattle.shell_recipes.specs.Running.{text_of, is_stopped, Ends, HasRun}
 use Rattle.shell_recipes.proofs.Plain.{ArePlain}

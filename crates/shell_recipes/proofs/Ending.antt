@@ -2,15 +2,15 @@
 use Rattle.std.proofs.Common.{◌≡◌, ℕ, true, false, List, ◌++◌, Option, Some, None, Result, Ok, Err, refl, sym, ap, ◌∙◌}
 use Rattle.std.specs.Prelude.{IfOk, decimal}
 use Rattle.std.specs.declared.alloc.AllocError.{AllocError}
-use Rattle.database_rules.specs.declared.Code.{Code}
-use Rattle.database_rules.specs.Histories.{Setting}
-use Rattle.database_rules.specs.Transactions.{Transaction}
-use Rattle.allocator_rules.specs.Acts.{Acted, all_acted}
-use Rattle.recipe_rules.specs.declared.fault.RecipeFault.{RecipeFault}
-use Rattle.recipe_rules.specs.declared.fault.RecipeFault.TheVariants as fault
-use Rattle.recipe_rules.specs.Turns.{Turn, Call, acts, ending, IsAnswered, EndsIn}
-use Rattle.shell_rules.specs.Requests.{error_line}
-use Rattle.shell_rules.specs.Recipes.{fault_text}
+use Rattle.model_database.specs.declared.Code.{Code}
+use Rattle.model_database.specs.Histories.{Setting}
+use Rattle.model_database.specs.Transactions.{Transaction}
+use Rattle.model_allocator.specs.Acts.{Acted, all_acted}
+use Rattle.model_recipes.specs.declared.fault.RecipeFault.{RecipeFault}
+use Rattle.model_recipes.specs.declared.fault.RecipeFault.TheVariants as fault
+use Rattle.model_recipes.specs.Turns.{Turn, Call, acts, ending, IsAnswered, EndsIn}
+use Rattle.model_shell.specs.Requests.{error_line}
+use Rattle.model_shell.specs.Recipes.{fault_text}
 use Rattle.shell_recipes.specs.declared.calls.End.{End}
 use Rattle.shell_recipes.specs.Running.{is_refused, Finishes, text_of, is_stopped, Ends}
 

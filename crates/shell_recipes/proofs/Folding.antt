@@ -3,26 +3,26 @@ use Rattle.std.proofs.Common.{◌≡◌, ℕ, true, false, List, [], ◌∷◌, 
 use Rattle.std.specs.Prelude.{⊤, decimal, is_some}
 use Rattle.std.specs.List.{AllByRecursion}
 use Rattle.std.specs.FinMap as finite
-use Rattle.database_rules.specs.declared.Code.{Code}
-use Rattle.database_rules.specs.Databases.{Mutation, Set, Clear, ClearRange, Atomic}
-use Rattle.database_rules.specs.Histories.{Setting}
-use Rattle.database_rules.specs.Reads.{Read, Get, GetKey, GetKeyRange, GetRange}
-use Rattle.database_rules.specs.Transactions.{Transaction, set_code, clear_code, range_code}
-use Rattle.allocator_rules.specs.Acts.{Act, Reads, Writes, Acted, act_called, acted_by, all_acted, refusal, words_of}
+use Rattle.model_database.specs.declared.Code.{Code}
+use Rattle.model_database.specs.Databases.{Mutation, Set, Clear, ClearRange, Atomic}
+use Rattle.model_database.specs.Histories.{Setting}
+use Rattle.model_database.specs.Reads.{Read, Get, GetKey, GetKeyRange, GetRange}
+use Rattle.model_database.specs.Transactions.{Transaction, set_code, clear_code, range_code}
+use Rattle.model_allocator.specs.Acts.{Act, Reads, Writes, Acted, act_called, acted_by, all_acted, refusal, words_of}
 use Rattle.fdb_calls.specs.declared.Reply.{Reply}
 use Rattle.fdb_calls.specs.declared.Reply.TheVariants as reply
 use Rattle.fdb_calls.specs.declared.Request.TheVariants as request
 use Rattle.fdb_calls.specs.declared.TxnCall.{TxnCall}
 use Rattle.fdb_calls.specs.Calling.{Called}
 use Rattle.fdb_calls.specs.Calling as calling
-use Rattle.machine_rules.specs.Worlds.{World, Stepped, next_life, stepped, step}
+use Rattle.model_machine.specs.Worlds.{World, Stepped, next_life, stepped, step}
 use Rattle.core_tr.specs.Standing.{IsSettled, AreAlikeElse}
 use Rattle.core_tr.specs.StandLaws.{alike_still}
 use Rattle.core_tr.proofs.Calls.{IsPlain, read_plain, write_plain}
 use Rattle.core_tr.proofs.Steps.{step_is, left_there, alike_left, settled_left}
-use Rattle.recipe_rules.specs.Turns.{written}
-use Rattle.shell_rules.specs.Requests.{Did, told, says, silent, name, followed, error_line}
-use Rattle.shell_rules.specs.Recipes.{read_of, write_of, called_each}
+use Rattle.model_recipes.specs.Turns.{written}
+use Rattle.model_shell.specs.Requests.{Did, told, says, silent, name, followed, error_line}
+use Rattle.model_shell.specs.Recipes.{read_of, write_of, called_each}
 
 -- what is printed of calls that were made: the code of the one that was refused, if one was
 abbrev pub stop_text : Option Code → List ℕ

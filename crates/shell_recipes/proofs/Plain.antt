@@ -2,13 +2,13 @@
 use Rattle.std.proofs.Common.{ℕ, zero, suc, ◌==◌, Bool, true, false, cond, List, [], ◌∷◌, length, map, Option, Some, None, Result, Ok, Err}
 use Rattle.std.specs.List.{AllByRecursion}
 use Rattle.std.specs.FinMap as finite
-use Rattle.database_rules.specs.Databases.{Database, Mutation, Set, Clear}
-use Rattle.recipe_rules.specs.declared.Count.{Count}
-use Rattle.recipe_rules.specs.declared.fault.RecipeFault.{RecipeFault}
-use Rattle.recipe_rules.specs.Turns.{Turn, writing, replying, turned_by}
-use Rattle.recipe_rules.specs.Queues.{index_key, push_call, pop_call, popping}
-use Rattle.recipe_rules.specs.Multimaps.{pair_key, there, count_at, add_call, subtract_call, values_call, sets_count, lowers}
-use Rattle.recipe_rules.specs.Blobs.{size_call, read_call, write_call, part, chunk, sets_piece}
+use Rattle.model_database.specs.Databases.{Database, Mutation, Set, Clear}
+use Rattle.model_recipes.specs.declared.Count.{Count}
+use Rattle.model_recipes.specs.declared.fault.RecipeFault.{RecipeFault}
+use Rattle.model_recipes.specs.Turns.{Turn, writing, replying, turned_by}
+use Rattle.model_recipes.specs.Queues.{index_key, push_call, pop_call, popping}
+use Rattle.model_recipes.specs.Multimaps.{pair_key, there, count_at, add_call, subtract_call, values_call, sets_count, lowers}
+use Rattle.model_recipes.specs.Blobs.{size_call, read_call, write_call, part, chunk, sets_piece}
 use Rattle.shell_recipes.proofs.Folding.{IsPlainWrite}
 
 abbrev pub AllPlain : List Mutation → Type 0

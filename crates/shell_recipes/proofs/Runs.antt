@@ -1,15 +1,15 @@
 -- Each call of a layer on a core is the one of the shell's definition.
 use Rattle.std.proofs.Common.{◌≡◌, ℕ, Bool, false, List, ◌∙◌, subst}
-use Rattle.machine_rules.specs.Worlds.{World}
+use Rattle.model_machine.specs.Worlds.{World}
 use Rattle.client_core.specs.Stands.{CoreModel, StandsFor}
 use Rattle.core_tr.specs.Standing.{Stands, KeepsRest}
-use Rattle.recipe_rules.specs.Queues.{push_call, pop_call}
-use Rattle.recipe_rules.specs.Multimaps.{add_call, subtract_call, values_call}
-use Rattle.recipe_rules.specs.Blobs.{size_call, read_call, write_call}
-use Rattle.shell_rules.specs.Requests.{name}
-use Rattle.shell_rules.specs.declared.recipe.Recipe.{Recipe}
-use Rattle.shell_rules.specs.declared.recipe.Recipe.TheVariants as recipe
-use Rattle.shell_rules.specs.Recipes.{queue_space, multi_space, blob_space, nothing_said, item_said, counts_said, bytes_said, size_said, recipe_done}
+use Rattle.model_recipes.specs.Queues.{push_call, pop_call}
+use Rattle.model_recipes.specs.Multimaps.{add_call, subtract_call, values_call}
+use Rattle.model_recipes.specs.Blobs.{size_call, read_call, write_call}
+use Rattle.model_shell.specs.Requests.{name}
+use Rattle.model_shell.specs.declared.recipe.Recipe.{Recipe}
+use Rattle.model_shell.specs.declared.recipe.Recipe.TheVariants as recipe
+use Rattle.model_shell.specs.Recipes.{queue_space, multi_space, blob_space, nothing_said, item_said, counts_said, bytes_said, size_said, recipe_done}
 use Rattle.shell_recipes.specs.declared.calls.End.{End}
 use Rattle.shell_recipes.specs.Running.{Makes, HasRun}
 use Rattle.shell_recipes.proofs.Plain.{push_plain, pop_plain, add_plain, subtract_plain, values_plain, write_plain, read_plain, size_plain}

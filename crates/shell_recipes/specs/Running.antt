@@ -1,21 +1,21 @@
 -- How a call of a layer ended, and what was printed of it.
 use Rattle.std.specs.Prelude.{◌≡◌, ℕ, Bool, true, false, List, ◌++◌, Option, Some, None, Result, Ok, Err, decimal}
-use Rattle.database_rules.specs.declared.Code.{Code}
-use Rattle.database_rules.specs.Histories.{Setting}
-use Rattle.database_rules.specs.Transactions.{Transaction, view}
-use Rattle.allocator_rules.specs.Acts.{all_acted}
-use Rattle.machine_rules.specs.Worlds.{World}
+use Rattle.model_database.specs.declared.Code.{Code}
+use Rattle.model_database.specs.Histories.{Setting}
+use Rattle.model_database.specs.Transactions.{Transaction, view}
+use Rattle.model_allocator.specs.Acts.{all_acted}
+use Rattle.model_machine.specs.Worlds.{World}
 use Rattle.client_core.specs.Stands.{CoreModel, StandsFor}
-use Rattle.recipe_rules.specs.declared.fault.RecipeFault.{RecipeFault}
-use Rattle.recipe_rules.specs.declared.fault.RecipeFault.TheVariants as fault
-use Rattle.recipe_rules.specs.Turns.{Turn, Call, acts}
-use Rattle.recipe_rules.specs.Queues.{push_call, pop_call}
-use Rattle.recipe_rules.specs.Multimaps.{add_call, subtract_call, values_call}
-use Rattle.recipe_rules.specs.Blobs.{size_call, read_call, write_call}
-use Rattle.shell_rules.specs.Requests.{Did, error_line}
-use Rattle.shell_rules.specs.declared.recipe.Recipe.{Recipe}
-use Rattle.shell_rules.specs.declared.recipe.Recipe.TheVariants as recipe
-use Rattle.shell_rules.specs.Recipes.{queue_space, multi_space, blob_space, nothing_said, item_said, counts_said, bytes_said, size_said, fault_text}
+use Rattle.model_recipes.specs.declared.fault.RecipeFault.{RecipeFault}
+use Rattle.model_recipes.specs.declared.fault.RecipeFault.TheVariants as fault
+use Rattle.model_recipes.specs.Turns.{Turn, Call, acts}
+use Rattle.model_recipes.specs.Queues.{push_call, pop_call}
+use Rattle.model_recipes.specs.Multimaps.{add_call, subtract_call, values_call}
+use Rattle.model_recipes.specs.Blobs.{size_call, read_call, write_call}
+use Rattle.model_shell.specs.Requests.{Did, error_line}
+use Rattle.model_shell.specs.declared.recipe.Recipe.{Recipe}
+use Rattle.model_shell.specs.declared.recipe.Recipe.TheVariants as recipe
+use Rattle.model_shell.specs.Recipes.{queue_space, multi_space, blob_space, nothing_said, item_said, counts_said, bytes_said, size_said, fault_text}
 use Rattle.shell_recipes.specs.declared.calls.End.{End}
 use Rattle.shell_recipes.specs.declared.calls.End.TheVariants as end
 

@@ -1,20 +1,20 @@
 //! Each call, on any transaction.
 
 ghost use Rattle.std.specs.Prelude.{◌≡◌, IfOk};
-ghost use Rattle.database_rules.specs.Histories.{Setting};
-ghost use Rattle.database_rules.specs.Transactions.{Transaction, view};
-ghost use Rattle.recipe_rules.specs.Queues.{push_call, pop_call};
-ghost use Rattle.recipe_rules.specs.Multimaps.{add_call, subtract_call, values_call};
-ghost use Rattle.recipe_rules.specs.Blobs.{size_call, read_call, write_call};
-ghost use Rattle.shell_rules.specs.Recipes.{space_of, queue_space, multi_space, blob_space, nothing_said, item_said, counts_said, bytes_said, size_said};
+ghost use Rattle.model_database.specs.Histories.{Setting};
+ghost use Rattle.model_database.specs.Transactions.{Transaction, view};
+ghost use Rattle.model_recipes.specs.Queues.{push_call, pop_call};
+ghost use Rattle.model_recipes.specs.Multimaps.{add_call, subtract_call, values_call};
+ghost use Rattle.model_recipes.specs.Blobs.{size_call, read_call, write_call};
+ghost use Rattle.model_shell.specs.Recipes.{space_of, queue_space, multi_space, blob_space, nothing_said, item_said, counts_said, bytes_said, size_said};
 ghost use Rattle.shell_recipes.specs.Running.{Refuses, Finishes, Ends, Makes};
 
 use fdb_calls::Tr;
 use fdb_subspace::{Subspace, packed_behind};
 use fdb_tuple::{Elem, pack_element};
 use key_bytes::Bytes;
+use model_shell::Recipe;
 use recipe_layers::{Counts, RecipeFault, add, pop, push, read, size, subtract, values, write};
-use shell_rules::Recipe;
 use shell_text::{add_bytes, add_code, add_counts, add_error, add_item, add_size};
 use std::alloc::AllocError;
 
@@ -28,7 +28,7 @@ pub enum End {
 }
 
 // The subspace of a kind of layer and a name.
-#[tactic(auto, unfolding(shell_rules::specs::Recipes::space_of))]
+#[tactic(auto, unfolding(model_shell::specs::Recipes::space_of))]
 fn space_of(kind: &[u8], name: &Bytes) -> Result<Subspace, AllocError>
     ensures { IfOk result (λ space. space.prefix ≡ space_of kind.now name.now) }
 {

@@ -1,6 +1,6 @@
 //! Calls of layers for the shell: each is made on the transaction of a name in a core, and what is printed of it is added to a text.
 //!
-//! `run` is the call; `shell_rules` (`specs/Recipes.antt`) says what a call asks and prints. `calls.rt` makes each call on any
+//! `run` is the call; `model_shell` (`specs/Recipes.antt`) says what a call asks and prints. `calls.rt` makes each call on any
 //! transaction, and `on_core.rt` makes it on one of a core (`core_tr`).
 //!
 //! # Choices

@@ -1,17 +1,17 @@
 //! A call of a layer on the shell's transaction of a core.
 
 ghost use Rattle.std.specs.Prelude.{◌≡◌, IfOk};
-ghost use Rattle.machine_rules.specs.Worlds.{World};
+ghost use Rattle.model_machine.specs.Worlds.{World};
 ghost use Rattle.client_core.specs.Stands.{StandsFor};
-ghost use Rattle.shell_rules.specs.Requests.{name};
-ghost use Rattle.shell_rules.specs.Recipes.{recipe_done};
+ghost use Rattle.model_shell.specs.Requests.{name};
+ghost use Rattle.model_shell.specs.Recipes.{recipe_done};
 ghost use Rattle.shell_recipes.specs.Running.{HasRun};
 
 use crate::calls::{End, make};
 use client_core::Core;
 use core_tr::CoreTr;
 use key_bytes::Bytes;
-use shell_rules::Recipe;
+use model_shell::Recipe;
 use std::alloc::AllocError;
 
 // Makes a call of a layer on a transaction of the shell's name.

@@ -3,7 +3,7 @@ use Rattle.std.proofs.Common.{◌≡◌, ℕ, List, [], ◌∷◌, ◌++◌, ref
 use Rattle.std.specs.List.{flat_map}
 use Rattle.key_bytes.specs.Entries.{entries_of}
 use Rattle.key_bytes.specs.declared.pairs.Pair.{Pair}
-use Rattle.shell_rules.specs.Requests.{pair_text}
+use Rattle.model_shell.specs.Requests.{pair_text}
 
 pub each_entry : (pairs : List Pair)
     → flat_map (λ (pair : Pair). pair_text pair.key pair.value) pairs

@@ -1,7 +1,7 @@
 -- The first word of bytes ends at their first space, or is all of them.
 use Rattle.std.proofs.Common.{◌≡◌, ℕ, zero, suc, ◌<◌, true, false, ◌==◌, List, [], ◌∷◌, length, take, drop, get_or, refl, arith}
 use Rattle.std.proofs.lemmas.Bool.{false_from_ne_true}
-use Rattle.shell_rules.specs.Tokens.{words_of}
+use Rattle.model_shell.specs.Tokens.{words_of}
 
 abbrev pub IsSpace : List ℕ → ℕ → Type 0
 IsSpace bytes k = (get_or bytes k 0 == 32) ≡ true

@@ -5,14 +5,14 @@ use Rattle.std.specs.List.{AllByRecursion}
 use Rattle.std.proofs.lemmas.List.{length-append}
 use Rattle.std.proofs.lemmas.List.Elements.{All-from_recursion, recursion_from_All}
 use Rattle.key_bytes.specs.Keys.{IsByteString}
-use Rattle.line_rules.specs.Printing.{space, printed_but, printable_but}
+use Rattle.model_lines.specs.Printing.{space, printed_but, printable_but}
 use Rattle.dump_reading.specs.declared.fault.PrintableFault.{PrintableFault}
 use Rattle.dump_reading.specs.declared.fault.PrintableFault.TheVariants as printable
 use Rattle.dump_reading.specs.Printable.{IsFaultOf}
 use Rattle.dump_reading.specs.Spellings.{Front, byte_at, spelled}
 use Rattle.dump_reading.proofs.Spellings.{byte_again, length-spelling}
 use Rattle.dump_reading.proofs.Texts.{byte_was, not_bad}
-use Rattle.shell_rules.specs.Tokens.{with_byte, spelled_up_to}
+use Rattle.model_shell.specs.Tokens.{with_byte, spelled_up_to}
 use Rattle.shell_text.specs.Reading.{unread_is, Fails}
 
 abbrev AreBytes : List ℕ → Type 0

@@ -2,7 +2,7 @@
 use Rattle.std.specs.Prelude.{◌≡◌, ⊤, ℕ, List, [], Option, Some, None, Result, Ok, Err}
 use Rattle.dump_reading.specs.declared.fault.PrintableFault.{PrintableFault}
 use Rattle.dump_reading.specs.declared.fault.PrintableFault.TheVariants as printable
-use Rattle.shell_rules.specs.Tokens.{words_of}
+use Rattle.model_shell.specs.Tokens.{words_of}
 use Rattle.shell_text.specs.declared.words.Words.{Words}
 use Rattle.shell_text.specs.declared.words.Words.TheVariants as words
 use Rattle.shell_text.specs.declared.words.Unread.{Unread}

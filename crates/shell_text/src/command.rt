@@ -1,13 +1,13 @@
 //! The command that a line is.
 
 ghost use Rattle.std.specs.Prelude.{◌∷◌};
-ghost use Rattle.shell_rules.specs.Commands.{command_of, command_named, get_of, get_range_of, set_of, clear_of, clear_range_of, limit_of, lone};
+ghost use Rattle.model_shell.specs.Commands.{command_of, command_named, get_of, get_range_of, set_of, clear_of, clear_range_of, limit_of, lone};
 ghost use Rattle.shell_text.specs.Reading.{words_left, Gives};
 
 use crate::recipe::recipe_named;
 use crate::words::{Unread, Words, first_word, next_token, number_in};
 use key_bytes::KeyRange;
-use shell_rules::Command;
+use model_shell::Command;
 use std::alloc::Global;
 
 // How many pairs `getrange` reads at most where no number says it.
@@ -53,7 +53,7 @@ fn limit_of(words: Words<'_>) -> Result<u32, Unread>
     limit_alone(word, rest)
 }
 
-#[tactic(auto, unfolding(shell_rules::specs::Commands::get_of))]
+#[tactic(auto, unfolding(model_shell::specs::Commands::get_of))]
 fn get_of(alloc: Global, words: Words<'_>) -> Result<Command, Unread>
     ensures { Gives (λ command. command) result (get_of (words_left words.entry)) }
 {
@@ -61,7 +61,7 @@ fn get_of(alloc: Global, words: Words<'_>) -> Result<Command, Unread>
     lone(rest, Command::Get { key })
 }
 
-#[tactic(auto, unfolding(shell_rules::specs::Commands::get_range_of))]
+#[tactic(auto, unfolding(model_shell::specs::Commands::get_range_of))]
 fn get_range_of(alloc: Global, words: Words<'_>) -> Result<Command, Unread>
     ensures { Gives (λ command. command) result (get_range_of (words_left words.entry)) }
 {
@@ -74,7 +74,7 @@ fn get_range_of(alloc: Global, words: Words<'_>) -> Result<Command, Unread>
     })
 }
 
-#[tactic(auto, unfolding(shell_rules::specs::Commands::set_of))]
+#[tactic(auto, unfolding(model_shell::specs::Commands::set_of))]
 fn set_of(alloc: Global, words: Words<'_>) -> Result<Command, Unread>
     ensures { Gives (λ command. command) result (set_of (words_left words.entry)) }
 {
@@ -83,7 +83,7 @@ fn set_of(alloc: Global, words: Words<'_>) -> Result<Command, Unread>
     lone(words, Command::Set { key, value })
 }
 
-#[tactic(auto, unfolding(shell_rules::specs::Commands::clear_of))]
+#[tactic(auto, unfolding(model_shell::specs::Commands::clear_of))]
 fn clear_of(alloc: Global, words: Words<'_>) -> Result<Command, Unread>
     ensures { Gives (λ command. command) result (clear_of (words_left words.entry)) }
 {
@@ -91,7 +91,7 @@ fn clear_of(alloc: Global, words: Words<'_>) -> Result<Command, Unread>
     lone(words, Command::Clear { key })
 }
 
-#[tactic(auto, unfolding(shell_rules::specs::Commands::clear_range_of))]
+#[tactic(auto, unfolding(model_shell::specs::Commands::clear_range_of))]
 fn clear_range_of(alloc: Global, words: Words<'_>) -> Result<Command, Unread>
     ensures { Gives (λ command. command) result (clear_range_of (words_left words.entry)) }
 {
@@ -106,7 +106,7 @@ fn clear_range_of(alloc: Global, words: Words<'_>) -> Result<Command, Unread>
 }
 
 // Reads the command of a name from the words behind it.
-#[tactic(auto, unfolding(shell_rules::specs::Commands::command_named))]
+#[tactic(auto, unfolding(model_shell::specs::Commands::command_named))]
 fn command_named(alloc: Global, name: &[u8], words: Words<'_>) -> Result<Command, Unread>
     ensures { Gives (λ command. command) result (command_named name.now (words_left words.entry)) }
 {
@@ -132,7 +132,7 @@ fn command_named(alloc: Global, name: &[u8], words: Words<'_>) -> Result<Command
 }
 
 /// Reads the command that a line is. It is Bad exactly where the line is none.
-#[tactic(auto, unfolding(shell_rules::specs::Commands::command_of))]
+#[tactic(auto, unfolding(model_shell::specs::Commands::command_of))]
 pub fn command_of(alloc: Global, line: &[u8]) -> Result<Command, Unread>
     ensures { Gives (λ command. command) result (command_of line.now) }
 {

@@ -1,6 +1,6 @@
 //! Lines of the shell, both ways: the command that a line is, and what is printed.
 //!
-//! `shell_rules` has the tokens, the commands and the printed lines. `command_of` reads a line, and is Bad exactly where the line is no
+//! `model_shell` has the tokens, the commands and the printed lines. `command_of` reads a line, and is Bad exactly where the line is no
 //! command. Each `add_` call adds a printed line, or the lines of a reply, to a text; after a refusal a part of it may stand there.
 #![tactic(auto)]
 

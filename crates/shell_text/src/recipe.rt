@@ -1,12 +1,12 @@
 //! The calls of layers that a line may be.
 
 ghost use Rattle.std.specs.Prelude.{◌≤◌, IfOk};
-ghost use Rattle.shell_rules.specs.Commands.{next_number, push_of, pop_of, add_of, subtract_of, values_of, write_of, read_of, size_of, recipe_named};
+ghost use Rattle.model_shell.specs.Commands.{next_number, push_of, pop_of, add_of, subtract_of, values_of, write_of, read_of, size_of, recipe_named};
 ghost use Rattle.shell_text.specs.Reading.{words_left, Gives};
 
 use crate::command::lone;
 use crate::words::{Unread, Words, first_word, next_token, number_in};
-use shell_rules::{Command, Recipe};
+use model_shell::{Command, Recipe};
 use std::alloc::Global;
 
 // Reads the next word, which is to be a number up to this one; returns it and the words behind it.
@@ -22,7 +22,7 @@ fn next_number<'a>(most: u64, words: Words<'a>) -> Result<(u64, Words<'a>), Unre
     Ok((number, rest))
 }
 
-#[tactic(auto, unfolding(shell_rules::specs::Commands::push_of))]
+#[tactic(auto, unfolding(model_shell::specs::Commands::push_of))]
 fn push_of(alloc: Global, words: Words<'_>) -> Result<Command, Unread>
     ensures { Gives (λ command. command) result (push_of (words_left words.entry)) }
 {
@@ -32,7 +32,7 @@ fn push_of(alloc: Global, words: Words<'_>) -> Result<Command, Unread>
     lone(words, Command::Recipe { recipe })
 }
 
-#[tactic(auto, unfolding(shell_rules::specs::Commands::pop_of))]
+#[tactic(auto, unfolding(model_shell::specs::Commands::pop_of))]
 fn pop_of(alloc: Global, words: Words<'_>) -> Result<Command, Unread>
     ensures { Gives (λ command. command) result (pop_of (words_left words.entry)) }
 {
@@ -41,7 +41,7 @@ fn pop_of(alloc: Global, words: Words<'_>) -> Result<Command, Unread>
     lone(words, Command::Recipe { recipe })
 }
 
-#[tactic(auto, unfolding(shell_rules::specs::Commands::add_of))]
+#[tactic(auto, unfolding(model_shell::specs::Commands::add_of))]
 fn add_of(alloc: Global, words: Words<'_>) -> Result<Command, Unread>
     ensures { Gives (λ command. command) result (add_of (words_left words.entry)) }
 {
@@ -52,7 +52,7 @@ fn add_of(alloc: Global, words: Words<'_>) -> Result<Command, Unread>
     lone(words, Command::Recipe { recipe })
 }
 
-#[tactic(auto, unfolding(shell_rules::specs::Commands::subtract_of))]
+#[tactic(auto, unfolding(model_shell::specs::Commands::subtract_of))]
 fn subtract_of(alloc: Global, words: Words<'_>) -> Result<Command, Unread>
     ensures { Gives (λ command. command) result (subtract_of (words_left words.entry)) }
 {
@@ -63,7 +63,7 @@ fn subtract_of(alloc: Global, words: Words<'_>) -> Result<Command, Unread>
     lone(words, Command::Recipe { recipe })
 }
 
-#[tactic(auto, unfolding(shell_rules::specs::Commands::values_of))]
+#[tactic(auto, unfolding(model_shell::specs::Commands::values_of))]
 fn values_of(alloc: Global, words: Words<'_>) -> Result<Command, Unread>
     ensures { Gives (λ command. command) result (values_of (words_left words.entry)) }
 {
@@ -73,7 +73,7 @@ fn values_of(alloc: Global, words: Words<'_>) -> Result<Command, Unread>
     lone(words, Command::Recipe { recipe })
 }
 
-#[tactic(auto, unfolding(shell_rules::specs::Commands::write_of))]
+#[tactic(auto, unfolding(model_shell::specs::Commands::write_of))]
 fn write_of(alloc: Global, words: Words<'_>) -> Result<Command, Unread>
     ensures { Gives (λ command. command) result (write_of (words_left words.entry)) }
 {
@@ -84,7 +84,7 @@ fn write_of(alloc: Global, words: Words<'_>) -> Result<Command, Unread>
     lone(words, Command::Recipe { recipe })
 }
 
-#[tactic(auto, unfolding(shell_rules::specs::Commands::read_of))]
+#[tactic(auto, unfolding(model_shell::specs::Commands::read_of))]
 fn read_of(alloc: Global, words: Words<'_>) -> Result<Command, Unread>
     ensures { Gives (λ command. command) result (read_of (words_left words.entry)) }
 {
@@ -96,7 +96,7 @@ fn read_of(alloc: Global, words: Words<'_>) -> Result<Command, Unread>
     lone(words, Command::Recipe { recipe })
 }
 
-#[tactic(auto, unfolding(shell_rules::specs::Commands::size_of))]
+#[tactic(auto, unfolding(model_shell::specs::Commands::size_of))]
 fn size_of(alloc: Global, words: Words<'_>) -> Result<Command, Unread>
     ensures { Gives (λ command. command) result (size_of (words_left words.entry)) }
 {
@@ -106,7 +106,7 @@ fn size_of(alloc: Global, words: Words<'_>) -> Result<Command, Unread>
 }
 
 /// Reads the call of a layer of a name from the words behind it.
-#[tactic(auto, unfolding(shell_rules::specs::Commands::recipe_named))]
+#[tactic(auto, unfolding(model_shell::specs::Commands::recipe_named))]
 pub(crate) fn recipe_named(alloc: Global, name: &[u8], words: Words<'_>) -> Result<Command, Unread>
     ensures { Gives (λ command. command) result (recipe_named name.now (words_left words.entry)) }
 {

@@ -1,16 +1,16 @@
 //! What is printed of the calls of layers.
 
 ghost use Rattle.std.specs.Prelude.{◌≡◌, ◌++◌, flat_map, OnOk};
-ghost use Rattle.shell_rules.specs.Recipes.{item_said, count_text, counts_said, bytes_said, size_said};
+ghost use Rattle.model_shell.specs.Recipes.{item_said, count_text, counts_said, bytes_said, size_said};
 
 use crate::text::{add_line, add_token};
 use itoa::Buffer;
 use key_bytes::Bytes;
-use recipe_rules::{Count, Counts};
+use model_recipes::{Count, Counts};
 use std::alloc::AllocError;
 
 /// Adds the line of an item that was taken from a queue, or that there was none.
-#[tactic(auto, unfolding(shell_rules::specs::Recipes::item_said, shell_rules::specs::Recipes::bytes_said))]
+#[tactic(auto, unfolding(model_shell::specs::Recipes::item_said, model_shell::specs::Recipes::bytes_said))]
 pub fn add_item(to: &mut Bytes, item: &Option<Bytes>) -> Result<(), AllocError>
     ensures { OnOk result (to.new ≡ to.old ++ item_said item.now) }
 {
@@ -21,7 +21,7 @@ pub fn add_item(to: &mut Bytes, item: &Option<Bytes>) -> Result<(), AllocError>
 }
 
 /// Adds the line of bytes.
-#[tactic(auto, unfolding(shell_rules::specs::Recipes::bytes_said))]
+#[tactic(auto, unfolding(model_shell::specs::Recipes::bytes_said))]
 pub fn add_bytes(to: &mut Bytes, bytes: &[u8]) -> Result<(), AllocError>
     ensures { OnOk result (to.new ≡ to.old ++ bytes_said bytes.now) }
 {
@@ -30,7 +30,7 @@ pub fn add_bytes(to: &mut Bytes, bytes: &[u8]) -> Result<(), AllocError>
 }
 
 /// Adds the line of a number of bytes.
-#[tactic(auto, unfolding(shell_rules::specs::Recipes::size_said))]
+#[tactic(auto, unfolding(model_shell::specs::Recipes::size_said))]
 pub fn add_size(to: &mut Bytes, size: u64) -> Result<(), AllocError>
     ensures { OnOk result (to.new ≡ to.old ++ size_said size) }
 {
@@ -39,7 +39,7 @@ pub fn add_size(to: &mut Bytes, size: u64) -> Result<(), AllocError>
 }
 
 // Adds the line of a value and its count.
-#[tactic(auto, unfolding(shell_rules::specs::Recipes::count_text))]
+#[tactic(auto, unfolding(model_shell::specs::Recipes::count_text))]
 fn add_count(to: &mut Bytes, count: &Count) -> Result<(), AllocError>
     ensures { OnOk result (to.new ≡ to.old ++ count_text count.now) }
 {
@@ -60,7 +60,7 @@ fn add_each_count(to: &mut Bytes, counts: &[Count]) -> Result<(), AllocError>
 }
 
 /// Adds the lines of values with their counts, or that there is none.
-#[tactic(auto, unfolding(shell_rules::specs::Recipes::counts_said))]
+#[tactic(auto, unfolding(model_shell::specs::Recipes::counts_said))]
 pub fn add_counts(to: &mut Bytes, counts: &Counts) -> Result<(), AllocError>
     ensures { OnOk result (to.new ≡ to.old ++ counts_said counts.now) }
 {

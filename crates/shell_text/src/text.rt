@@ -2,18 +2,18 @@
 
 ghost use Rattle.std.specs.Prelude.{◌≡◌, ◌++◌, flat_map, OnOk, codes, decimal};
 ghost use Rattle.std.specs.Fmt.{signed_decimal};
-ghost use Rattle.shell_rules.specs.Tokens.{token};
-ghost use Rattle.shell_rules.specs.Requests.{printed_line, error_line, pair_text, missing_text, committed_text, pairs_text, value_said, pairs_said, version_said};
+ghost use Rattle.model_shell.specs.Tokens.{token};
+ghost use Rattle.model_shell.specs.Requests.{printed_line, error_line, pair_text, missing_text, committed_text, pairs_text, value_said, pairs_said, version_said};
 
-use database_rules::Code;
 use dump_text::write_printable;
 use fdb_calls::Reply;
 use itoa::Buffer;
 use key_bytes::{Bytes, Pair, Pairs};
+use model_database::Code;
 use std::alloc::AllocError;
 
 /// Adds the token of bytes.
-#[tactic(auto, unfolding(shell_rules::specs::Tokens::token))]
+#[tactic(auto, unfolding(model_shell::specs::Tokens::token))]
 pub(crate) fn add_token(to: &mut Bytes, bytes: &[u8]) -> Result<(), AllocError>
     ensures { OnOk result (to.new ≡ to.old ++ token bytes.now) }
 {
@@ -48,7 +48,7 @@ pub fn add_code(to: &mut Bytes, code: Code) -> Result<(), AllocError>
 }
 
 // Adds the line of a key and its value.
-#[tactic(auto, unfolding(shell_rules::specs::Requests::pair_text))]
+#[tactic(auto, unfolding(model_shell::specs::Requests::pair_text))]
 fn add_pair(to: &mut Bytes, key: &[u8], value: &[u8]) -> Result<(), AllocError>
     ensures { OnOk result (to.new ≡ to.old ++ pair_text key.now value.now) }
 {
@@ -59,7 +59,7 @@ fn add_pair(to: &mut Bytes, key: &[u8], value: &[u8]) -> Result<(), AllocError>
 }
 
 // Adds the line of a key that has no value.
-#[tactic(auto, unfolding(shell_rules::specs::Requests::missing_text))]
+#[tactic(auto, unfolding(model_shell::specs::Requests::missing_text))]
 fn add_missing(to: &mut Bytes, key: &[u8]) -> Result<(), AllocError>
     ensures { OnOk result (to.new ≡ to.old ++ missing_text key.now) }
 {
@@ -85,7 +85,7 @@ fn add_closed(to: &mut Bytes, number: i64) -> Result<(), AllocError>
 }
 
 // Adds the line of the version that a commit made.
-#[tactic(auto, unfolding(shell_rules::specs::Requests::committed_text))]
+#[tactic(auto, unfolding(model_shell::specs::Requests::committed_text))]
 fn add_committed(to: &mut Bytes, version: i64) -> Result<(), AllocError>
     ensures { OnOk result (to.new ≡ to.old ++ committed_text version) }
 {

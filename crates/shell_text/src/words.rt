@@ -1,8 +1,8 @@
 //! The words of a line: tokens and numbers.
 
 ghost use Rattle.std.specs.Prelude.{◌≡◌, ◌≤◌, ◌∷◌, length, Ok, IfOk};
-ghost use Rattle.shell_rules.specs.Tokens.{words_of, spelled_up_to, bytes_in, bounded, number_in};
-ghost use Rattle.shell_rules.specs.Commands.{next_token};
+ghost use Rattle.model_shell.specs.Tokens.{words_of, spelled_up_to, bytes_in, bounded, number_in};
+ghost use Rattle.model_shell.specs.Commands.{next_token};
 ghost use Rattle.shell_text.specs.Reading.{words_left, unread_is, Gives};
 ghost use Rattle.shell_text.specs.declared.words.Unread.TheVariants.{NoMemory};
 
@@ -76,7 +76,7 @@ fn spelled_in(alloc: Global, word: &[u8]) -> Result<Bytes, Unread>
 }
 
 // Reads the bytes that a word spells as a token.
-#[tactic(auto, unfolding(shell_rules::specs::Tokens::bytes_in))]
+#[tactic(auto, unfolding(model_shell::specs::Tokens::bytes_in))]
 fn bytes_in(alloc: Global, word: &[u8]) -> Result<Bytes, Unread>
     ensures { Gives (λ bytes. bytes) result (bytes_in word.now) }
 {
@@ -114,7 +114,7 @@ fn bounded(least: u64, number: u64, rest: &[u8]) -> Result<u64, Unread>
 }
 
 /// Reads the number that a word spells, if it lies within these bounds.
-#[tactic(auto, unfolding(shell_rules::specs::Tokens::number_in))]
+#[tactic(auto, unfolding(model_shell::specs::Tokens::number_in))]
 pub fn number_in(least: u64, most: u64, word: &[u8]) -> Result<u64, Unread>
     ensures value { Gives (λ number. number) result (number_in least most word.now) }
     ensures within { IfOk result (λ number. number ≤ most) }

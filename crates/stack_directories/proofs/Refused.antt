@@ -1,7 +1,7 @@
 -- A look that never finds too little memory is one that may, and what goes on with an operand is refused as it is.
 use Rattle.std.proofs.Common.{List, ap}
-use Rattle.machine_rules.specs.declared.Item.{Item}
-use Rattle.machine_rules.specs.Operands.{◌>>=◌, Popped}
+use Rattle.model_machine.specs.declared.Item.{Item}
+use Rattle.model_machine.specs.Operands.{◌>>=◌, Popped}
 use Rattle.stack_items.specs.declared.fault.StackFault.{StackFault}
 use Rattle.stack_items.specs.declared.fault.StackFault.TheVariants as fault
 use Rattle.stack_items.specs.Looks.{Refuses, RefusesOnly}

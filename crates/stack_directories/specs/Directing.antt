@@ -5,9 +5,9 @@ use Rattle.fdb_tuple.specs.declared.tuple.Elem.{Elem}
 use Rattle.fdb_tuple.specs.Tuples.{Elements}
 use Rattle.fdb_tuple.specs.Listed.{IsElement, tuple_of}
 use Rattle.fdb_tuple.specs.Spelling.{spelling}
-use Rattle.machine_rules.specs.declared.Item.{Item}
-use Rattle.machine_rules.specs.Operands.{◌>>=◌, Popped, element_operand, operands_by}
-use Rattle.machine_rules.specs.Directories.{Directed, Appends, Gives, Chooses, FallsTo, Faults, Asks}
+use Rattle.model_machine.specs.declared.Item.{Item}
+use Rattle.model_machine.specs.Operands.{◌>>=◌, Popped, element_operand, operands_by}
+use Rattle.model_machine.specs.Directories.{Directed, Appends, Gives, Chooses, FallsTo, Faults, Asks}
 use Rattle.stack_items.specs.declared.fault.StackFault.{StackFault}
 use Rattle.stack_items.specs.Looks.{Look, left_in, Refuses}
 use Rattle.stack_directories.specs.declared.outcomes.Directed.{Directed as Answer}

@@ -1,9 +1,9 @@
 //! The operations that call a directory layer (directoryLayerTester.md).
 
 ghost use Rattle.std.specs.Prelude.{◌≡◌, Some, IfOk};
-ghost use Rattle.machine_rules.specs.declared.Awaits.TheVariants.{Opened};
-ghost use Rattle.machine_rules.specs.Calls.{is_snapshot};
-ghost use Rattle.machine_rules.specs.Directories.{name_in, args_on, layer_called, create_or_open, create_directory, open_directory, move_directory, moved_to, move_to, on_path, path_of, layer_name_of, log_directory};
+ghost use Rattle.model_machine.specs.declared.Awaits.TheVariants.{Opened};
+ghost use Rattle.model_machine.specs.Calls.{is_snapshot};
+ghost use Rattle.model_machine.specs.Directories.{name_in, args_on, layer_called, create_or_open, create_directory, open_directory, move_directory, moved_to, move_to, on_path, path_of, layer_name_of, log_directory};
 ghost use Rattle.stack_items.specs.Looks.{LooksUnlessFull};
 ghost use Rattle.stack_directories.specs.Directing.{said, GivesElements};
 
@@ -14,7 +14,7 @@ use crate::outcomes::{Directed, ListFault};
 use directory_types::{Boxed, DirArgs, DirKind, Layer, Path};
 use fdb_calls::Request;
 use key_bytes::Bytes;
-use machine_rules::{Awaits, Object, Scope};
+use model_machine::{Awaits, Object, Scope};
 use stack_items::{Operands, StackFault};
 use std::alloc::{AllocError, Global};
 

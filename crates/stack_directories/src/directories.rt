@@ -1,11 +1,11 @@
 //! A machine's list of directories.
 
 ghost use Rattle.std.specs.Prelude.{◌≡◌, ◌<◌, length, Some, None, IfOk, OnOk, OnErr, MatchOption, option_map, unwrap_or, slice_get};
-ghost use Rattle.machine_rules.specs.Directories.{first_directories, default_layer, with_object, object_at};
+ghost use Rattle.model_machine.specs.Directories.{first_directories, default_layer, with_object, object_at};
 
 use directory_types::Layer;
 use key_bytes::Bytes;
-use machine_rules::Object;
+use model_machine::Object;
 use std::alloc::{AllocError, Global};
 use std::marker::Model;
 
@@ -19,11 +19,11 @@ pub struct Directories {
 }
 
 impl Model for Directories {
-    ghost use Rattle.machine_rules.specs.Directories.{Directories as DirectoriesSaid};
+    ghost use Rattle.model_machine.specs.Directories.{Directories as DirectoriesSaid};
 
     ghost Value = { DirectoriesSaid };
 
-    ghost use Rattle.machine_rules.specs.contracts.directories.Object as object;
+    ghost use Rattle.model_machine.specs.contracts.directories.Object as object;
     ghost use Rattle.std.specs.Coded.{codes};
 
     ghost coded = { Prim.hlevel (codes, object.the_row.coded) };

@@ -1,7 +1,7 @@
 //! The names of the faults of a directory layer.
 
 ghost use Rattle.std.specs.Prelude.{◌≡◌, decimal, IfOk};
-ghost use Rattle.machine_rules.specs.Directories.{fault_name};
+ghost use Rattle.model_machine.specs.Directories.{fault_name};
 
 use directory_types::DirFault;
 use itoa::Buffer;

@@ -1,7 +1,7 @@
 //! The operations on objects and indices (directoryLayerTester.md).
 
 ghost use Rattle.std.specs.Prelude.{◌≡◌, ◌<◌, Some, length, IfOk, option_copied, slice_get};
-ghost use Rattle.machine_rules.specs.Directories.{create_subspace, create_layer, layered, layer_over, change, change_to, set_error_index, fall_to, index_in};
+ghost use Rattle.model_machine.specs.Directories.{create_subspace, create_layer, layered, layer_over, change, change_to, set_error_index, fall_to, index_in};
 ghost use Rattle.stack_items.specs.Looks.{LooksUnlessFull};
 ghost use Rattle.stack_directories.specs.Directing.{said, GivesElements};
 
@@ -10,7 +10,7 @@ use crate::objects::{is_null, prefix_of};
 use crate::operands::packed_operand;
 use crate::outcomes::{Directed, ListFault};
 use directory_types::Layer;
-use machine_rules::Object;
+use model_machine::Object;
 use stack_items::{Operands, StackFault};
 use std::alloc::{AllocError, Global};
 

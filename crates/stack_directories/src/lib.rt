@@ -2,7 +2,7 @@
 //!
 //! `Directories` is the list, and `directed` says what an operation comes to, by its operands on the stack: an object that is
 //! appended, elements that are pushed, an index that is set, a fault, or a request to a directory layer. What each operation
-//! pops and comes to stands in `machine_rules` (`specs/Directories.antt`), and each call here answers what is said there.
+//! pops and comes to stands in `model_machine` (`specs/Directories.antt`), and each call here answers what is said there.
 #![tactic(auto)]
 
 mod calls;

@@ -1,13 +1,13 @@
 //! What can be asked of an object of the list, and copies of what it holds.
 
 ghost use Rattle.std.specs.Prelude.{◌≡◌, ◌++◌, IfOk, OnOk, option_map};
-ghost use Rattle.machine_rules.specs.Directories.{layer_of, prefix_of, path_of, layer_name_of, is_null, below};
+ghost use Rattle.model_machine.specs.Directories.{layer_of, prefix_of, path_of, layer_name_of, is_null, below};
 
-use directory_rules::is_partition;
 use directory_types::{Layer, Path};
 use fdb_tuple::Text;
 use key_bytes::Bytes;
-use machine_rules::Object;
+use model_directory::is_partition;
+use model_machine::Object;
 use std::alloc::{AllocError, Global};
 
 // The layer that an object asks for directories, where it can.

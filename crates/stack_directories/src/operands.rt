@@ -1,8 +1,8 @@
 //! The operands of the operations on directories.
 
 ghost use Rattle.std.specs.Prelude.{◌≡◌};
-ghost use Rattle.machine_rules.specs.Operands.{operand_by, operands_by, tuple_operand};
-ghost use Rattle.machine_rules.specs.Directories.{text_of, path_operand, name_operand, given_in, given_of, path_where, path_if_given};
+ghost use Rattle.model_machine.specs.Operands.{operand_by, operands_by, tuple_operand};
+ghost use Rattle.model_machine.specs.Directories.{text_of, path_operand, name_operand, given_in, given_of, path_where, path_if_given};
 ghost use Rattle.stack_items.specs.Looks.{Looks, LooksUnlessFull};
 ghost use Rattle.stack_directories.specs.Directing.{LooksPacked, counted_tuple};
 

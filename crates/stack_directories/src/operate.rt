@@ -1,7 +1,7 @@
 //! Each operation on the directories by its name.
 
 ghost use Rattle.std.specs.Prelude.{IfOk};
-ghost use Rattle.machine_rules.specs.Directories.{directed};
+ghost use Rattle.model_machine.specs.Directories.{directed};
 ghost use Rattle.stack_items.specs.Looks.{LooksUnlessFull};
 ghost use Rattle.stack_directories.specs.Directing.{said, GivesElements};
 
@@ -16,7 +16,7 @@ use crate::subspaces::{
     contains, log_subspace, open_subspace, pack_key, range, strip_prefix, unpack_key,
 };
 use key_bytes::Bytes;
-use machine_rules::{DirectoryOperation, Object, Scope};
+use model_machine::{DirectoryOperation, Object, Scope};
 use stack_items::{Operands, StackFault};
 use std::alloc::Global;
 
@@ -24,7 +24,7 @@ use std::alloc::Global;
 /// there is no item it answers Underflow; where an operand is of another kind it answers Operand, and the look
 /// came past it; where an item waits that is to be popped it answers Waits; where memory runs out it answers
 /// NoMemory. The directories stay as they are.
-#[tactic(auto, unfolding(machine_rules::specs::Directories::directed))]
+#[tactic(auto, unfolding(model_machine::specs::Directories::directed))]
 pub fn directed(
     operands: &mut Operands<'_>,
     alloc: Global,

@@ -5,7 +5,7 @@ ghost use Rattle.stack_directories.specs.Directing.{name_of};
 
 use fdb_calls::Request;
 use fdb_tuple::Elem;
-use machine_rules::{Awaits, Object};
+use model_machine::{Awaits, Object};
 
 /// What an operation on the directories comes to.
 #[derive(Debug, Drop)]

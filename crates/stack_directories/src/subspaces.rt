@@ -6,7 +6,7 @@ ghost use Rattle.fdb_tuple.specs.Tuples.{Single, Int, Empty};
 ghost use Rattle.fdb_tuple.specs.Listed.{IsElement};
 ghost use Rattle.fdb_tuple.specs.Spelling.{spelling};
 ghost use Rattle.fdb_tuple.specs.Reading.{read_tuple};
-ghost use Rattle.machine_rules.specs.Directories.{pack_key, range, open_subspace, unpack_key, strip_prefix, contains, log_subspace, inside, unpacked, behind, one_or_zero, Gives};
+ghost use Rattle.model_machine.specs.Directories.{pack_key, range, open_subspace, unpack_key, strip_prefix, contains, log_subspace, inside, unpacked, behind, one_or_zero, Gives};
 ghost use Rattle.stack_items.specs.Looks.{LooksUnlessFull};
 ghost use Rattle.stack_directories.specs.Directing.{said, GivesElements};
 
@@ -17,7 +17,7 @@ use crate::outcomes::{Directed, ListFault};
 use fdb_calls::{Request, TxnCall};
 use fdb_tuple::{Elem, UnpackFault, pack_element_into, unpack};
 use key_bytes::{Bytes, Key};
-use machine_rules::{Awaits, Object};
+use model_machine::{Awaits, Object};
 use stack_items::{Operands, StackFault};
 use std::alloc::{AllocError, Global};
 

@@ -2,10 +2,10 @@
 use Rattle.std.proofs.Common.{◌≡◌, ℕ, zero, suc, ◌+◌, List, [], ◌∷◌, ◌++◌, drop, Option, Some, None, Ok, refl, sym, ap, ◌∙◌, subst, arith}
 use Rattle.std.proofs.lemmas.List.{append_assoc}
 use Rattle.fdb_tuple.specs.declared.tuple.Elem.{Elem}
-use Rattle.machine_rules.specs.declared.Item.{Item}
-use Rattle.machine_rules.specs.declared.ItemValue.{ItemValue}
-use Rattle.machine_rules.specs.declared.ItemValue.TheVariants as value
-use Rattle.machine_rules.specs.Operands.{◌>>=◌, Popped, left_of, known_by, fitting, operand_by, element_operand}
+use Rattle.model_machine.specs.declared.Item.{Item}
+use Rattle.model_machine.specs.declared.ItemValue.{ItemValue}
+use Rattle.model_machine.specs.declared.ItemValue.TheVariants as value
+use Rattle.model_machine.specs.Operands.{◌>>=◌, Popped, left_of, known_by, fitting, operand_by, element_operand}
 use Rattle.stack_items.specs.Items.{EndsIn}
 
 pub EndsIn-refl : (items : List Item) → EndsIn items items

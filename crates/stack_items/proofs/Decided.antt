@@ -3,10 +3,10 @@ use Rattle.std.proofs.Common.{◌≡◌, ℕ, zero, suc, ◌<◌, List, [], ◌�
 use Rattle.std.specs.Prelude.{slice_get, unwrap_or, IfSome}
 use Rattle.std.proofs.lemmas.List.{length-reverse, reverse-append, reverse-reverse, take_at}
 use Rattle.fdb_tuple.specs.declared.tuple.Elem.{Elem}
-use Rattle.machine_rules.specs.declared.Item.{Item}
-use Rattle.machine_rules.specs.declared.ItemValue.{ItemValue}
-use Rattle.machine_rules.specs.declared.ItemValue.TheVariants as value
-use Rattle.machine_rules.specs.Machines.{known_or, with_known, below_waiting}
+use Rattle.model_machine.specs.declared.Item.{Item}
+use Rattle.model_machine.specs.declared.ItemValue.{ItemValue}
+use Rattle.model_machine.specs.declared.ItemValue.TheVariants as value
+use Rattle.model_machine.specs.Machines.{known_or, with_known, below_waiting}
 use Rattle.stack_items.specs.Items.{IsWaiting, place_by, waiting_place, known_at}
 
 -- a stack with its items from the oldest on

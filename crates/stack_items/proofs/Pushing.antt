@@ -2,9 +2,9 @@
 use Rattle.std.proofs.Common.{◌≡◌, ℕ, List, [], ◌∷◌, ◌++◌, map, refl, sym, ap, ◌∙◌}
 use Rattle.std.proofs.lemmas.List.{map_push}
 use Rattle.fdb_tuple.specs.declared.tuple.Elem.{Elem}
-use Rattle.machine_rules.specs.declared.Item.{Item}
-use Rattle.machine_rules.specs.declared.ItemValue.TheVariants as value
-use Rattle.machine_rules.specs.StackOperations.{pushed}
+use Rattle.model_machine.specs.declared.Item.{Item}
+use Rattle.model_machine.specs.declared.ItemValue.TheVariants as value
+use Rattle.model_machine.specs.StackOperations.{pushed}
 use Rattle.stack_items.specs.Items.{EndsIn}
 use Rattle.stack_items.proofs.Below.{EndsIn-refl, EndsIn-below, EndsIn-trans}
 

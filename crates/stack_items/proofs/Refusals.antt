@@ -4,9 +4,9 @@ use Rattle.std.specs.Prelude.{IsOkUnless}
 use Rattle.fdb_tuple.specs.declared.tuple.Elem.{Elem}
 use Rattle.fdb_tuple.specs.Tuples.{Elements}
 use Rattle.fdb_tuple.specs.Listed.{tuple_of, elements_of, tuple_of-elements_of}
-use Rattle.machine_rules.specs.declared.Item.{Item}
-use Rattle.machine_rules.specs.Operands.{◌>>=◌, Popped, count_operand, element_operand, operands_by, tuple_operand}
-use Rattle.machine_rules.specs.StackOperations.{Operated}
+use Rattle.model_machine.specs.declared.Item.{Item}
+use Rattle.model_machine.specs.Operands.{◌>>=◌, Popped, count_operand, element_operand, operands_by, tuple_operand}
+use Rattle.model_machine.specs.StackOperations.{Operated}
 use Rattle.stack_items.specs.declared.fault.StackFault.{StackFault}
 use Rattle.stack_items.specs.declared.fault.StackFault.TheVariants as fault
 use Rattle.stack_items.specs.Pops.{PopsUnlessFull, Does}

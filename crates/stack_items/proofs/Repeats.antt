@@ -2,8 +2,8 @@
 use Rattle.std.proofs.Common.{◌≡◌, ℕ, zero, suc, ◌+◌, ◌-◌, ◌<◌, ◌≤◌, List, [], ◌∷◌, ◌++◌, Ok, Err, IsOk, refl, sym, ap, ◌∙◌, arith}
 use Rattle.std.proofs.lemmas.List.{append-nil, append_assoc}
 use Rattle.fdb_tuple.specs.declared.tuple.Elem.{Elem}
-use Rattle.machine_rules.specs.declared.Item.{Item}
-use Rattle.machine_rules.specs.Operands.{Refusal, Missing, Unfit, Waiting, ◌>>=◌, Popped, left_of, item_operand, element_operand, operands_by}
+use Rattle.model_machine.specs.declared.Item.{Item}
+use Rattle.model_machine.specs.Operands.{Refusal, Missing, Unfit, Waiting, ◌>>=◌, Popped, left_of, item_operand, element_operand, operands_by}
 use Rattle.stack_items.specs.declared.fault.StackFault.{StackFault}
 use Rattle.stack_items.specs.declared.fault.StackFault.TheVariants as fault
 use Rattle.stack_items.specs.Items.{EndsIn}

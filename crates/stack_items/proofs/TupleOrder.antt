@@ -18,9 +18,9 @@ use Rattle.fdb_tuple.specs.Spelling.{spelling}
 use Rattle.fdb_tuple.specs.Order.{tuple_cmp}
 use Rattle.fdb_tuple.specs.OrderLaws.{key_cmp-spelling}
 use Rattle.fdb_tuple.specs.Reading.{read_tuple}
-use Rattle.machine_rules.specs.declared.Item.{Item}
-use Rattle.machine_rules.specs.Operands.{◌>>=◌, Popped, byte_strings_operand}
-use Rattle.machine_rules.specs.StackOperations.{Operated, pushed, read_with, read_tuples, inserted, in_order, packed_tuple, pushed_in_order, tuple_sort}
+use Rattle.model_machine.specs.declared.Item.{Item}
+use Rattle.model_machine.specs.Operands.{◌>>=◌, Popped, byte_strings_operand}
+use Rattle.model_machine.specs.StackOperations.{Operated, pushed, read_with, read_tuples, inserted, in_order, packed_tuple, pushed_in_order, tuple_sort}
 use Rattle.stack_items.specs.declared.fault.StackFault.{StackFault}
 use Rattle.stack_items.specs.declared.fault.StackFault.TheVariants as fault
 use Rattle.stack_items.specs.Pops.{Does}

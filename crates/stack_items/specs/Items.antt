@@ -3,9 +3,9 @@ use Rattle.std.specs.Prelude.{◌≡◌, ℕ, zero, suc, List, [], ◌∷◌, �
 use Rattle.std.specs.List.{AllByRecursion}
 use Rattle.fdb_tuple.specs.declared.tuple.Elem.{Elem}
 use Rattle.fdb_tuple.specs.Listed.{IsElement}
-use Rattle.machine_rules.specs.declared.Item.{Item}
-use Rattle.machine_rules.specs.declared.ItemValue.{ItemValue}
-use Rattle.machine_rules.specs.declared.ItemValue.TheVariants as value
+use Rattle.model_machine.specs.declared.Item.{Item}
+use Rattle.model_machine.specs.declared.ItemValue.{ItemValue}
+use Rattle.model_machine.specs.declared.ItemValue.TheVariants as value
 
 -- an element of some tuple, whatever pushed it, or no element yet
 abbrev pub IsItemValue : ItemValue → Type 0

@@ -2,9 +2,9 @@
 use Rattle.std.specs.Prelude.{◌≡◌, ℕ, List, [], ◌∷◌, drop, Option, Some, None, Result, Ok, Err, ⊤}
 use Rattle.std.specs.Borrow.{Bor}
 use Rattle.fdb_tuple.specs.declared.tuple.Elem.{Elem}
-use Rattle.machine_rules.specs.declared.Item.{Item}
-use Rattle.machine_rules.specs.Operands.{Missing, Unfit, Waiting, ◌>>=◌, Popped, fitting, string_operand, two_operands}
-use Rattle.machine_rules.specs.StackOperations.{joined}
+use Rattle.model_machine.specs.declared.Item.{Item}
+use Rattle.model_machine.specs.Operands.{Missing, Unfit, Waiting, ◌>>=◌, Popped, fitting, string_operand, two_operands}
+use Rattle.model_machine.specs.StackOperations.{joined}
 use Rattle.stack_items.specs.declared.fault.StackFault.{StackFault}
 use Rattle.stack_items.specs.declared.fault.StackFault.TheVariants as fault
 

@@ -1,11 +1,11 @@
 //! The kinds of operands: which elements are of a kind, and what the operand is.
 
 ghost use Rattle.std.specs.Prelude.{◌≡◌, option_map};
-ghost use Rattle.machine_rules.specs.Operands.{bytes_of, string_of, int_of, flag_of, count_in, code_in, offset_in, limit_in, mode_in};
+ghost use Rattle.model_machine.specs.Operands.{bytes_of, string_of, int_of, flag_of, count_in, code_in, offset_in, limit_in, mode_in};
 
-use database_rules::Mode;
 use fdb_tuple::Elem;
 use key_bytes::Bytes;
+use model_database::Mode;
 
 // The greatest limit of a range.
 const LIMIT_MOST: u128 = (1 << 31) - 1;

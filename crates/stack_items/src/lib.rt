@@ -1,7 +1,7 @@
 //! The stack of a machine: its items, and the operations on them.
 //!
 //! Contracts see a `Stack` as the list of its items, the top first; `get` counts from the oldest. What an operand of a
-//! kind is, and what each operation leaves, stands in `machine_rules` (`specs/Operands.antt`,
+//! kind is, and what each operation leaves, stands in `model_machine` (`specs/Operands.antt`,
 //! `specs/StackOperations.antt`): each call here does what is said there, and says what stands after a refusal. Where an
 //! operation comes to an operand that waits, all items stay, so that it can be run again once the item is known.
 #![tactic(auto)]
@@ -19,6 +19,6 @@ mod waiting;
 
 pub use fault::StackFault;
 pub use kinds::bytes_of;
-pub use machine_rules::{Item, ItemValue, StackOperation};
+pub use model_machine::{Item, ItemValue, StackOperation};
 pub use operands::Operands;
 pub use stack::Stack;

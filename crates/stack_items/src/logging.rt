@@ -6,14 +6,14 @@ ghost use Rattle.fdb_tuple.specs.Tuples.{Int, Empty, Single};
 ghost use Rattle.fdb_tuple.specs.Listed.{before};
 ghost use Rattle.fdb_tuple.specs.Spelling.{spelling};
 ghost use Rattle.key_bytes.specs.Entries.{entry_of};
-ghost use Rattle.machine_rules.specs.Calls.{item_bytes, log_entry, log_entries};
-ghost use Rattle.machine_rules.specs.Machines.{first_life};
+ghost use Rattle.model_machine.specs.Calls.{item_bytes, log_entry, log_entries};
+ghost use Rattle.model_machine.specs.Machines.{first_life};
 
 use crate::stack::Stack;
 use crate::waiting::uppermost_life;
 use fdb_tuple::{Elem, pack_element_into};
 use key_bytes::{Bytes, Key, Pair, Pairs};
-use machine_rules::{Item, ItemValue, LOG_BATCH, LOGGED_BYTES};
+use model_machine::{Item, ItemValue, LOG_BATCH, LOGGED_BYTES};
 use std::alloc::{AllocError, Global};
 
 impl Stack {

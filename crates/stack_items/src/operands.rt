@@ -5,9 +5,9 @@
 //! came to an item that waits.
 
 ghost use Rattle.std.specs.Prelude.{◌≡◌, reverse};
-ghost use Rattle.machine_rules.specs.Operands.{code_operand, flag_operand, offset_operand, limit_operand, mode_operand, bytes_operand};
-ghost use Rattle.machine_rules.specs.Operands.{string_operand, int_operand, count_operand, element_operand, operands_by, two_operands};
-ghost use Rattle.machine_rules.specs.Operands.{elements_operand, byte_strings_operand};
+ghost use Rattle.model_machine.specs.Operands.{code_operand, flag_operand, offset_operand, limit_operand, mode_operand, bytes_operand};
+ghost use Rattle.model_machine.specs.Operands.{string_operand, int_operand, count_operand, element_operand, operands_by, two_operands};
+ghost use Rattle.model_machine.specs.Operands.{elements_operand, byte_strings_operand};
 ghost use Rattle.stack_items.specs.Looks.{ComesPast, Looks, LooksUnlessFull, Passes};
 
 use crate::fault::StackFault;
@@ -15,10 +15,10 @@ use crate::kinds::{
     bytes_of, code_in, count_in, flag_of, int_of, limit_in, mode_in, offset_in, string_of,
 };
 use crate::stack::top_of;
-use database_rules::Mode;
 use fdb_tuple::Elem;
 use key_bytes::Bytes;
-use machine_rules::{Item, ItemValue};
+use model_database::Mode;
+use model_machine::{Item, ItemValue};
 use std::marker::Model;
 
 /// A look at the operands of an operation, from the top of a stack on. It takes no item off. Contracts see the items of the
@@ -39,7 +39,7 @@ impl<'a> Model for Operands<'a> {
 
     ghost Value = { Look };
 
-    ghost use Rattle.machine_rules.specs.contracts.Item as item;
+    ghost use Rattle.model_machine.specs.contracts.Item as item;
     ghost use Rattle.std.specs.Coded.{codes};
 
     ghost coded = { Prim.hlevel (codes, item.the_row.coded) };

@@ -1,16 +1,16 @@
 //! Each operation by its name.
 
-ghost use Rattle.machine_rules.specs.StackOperations.{operated};
+ghost use Rattle.model_machine.specs.StackOperations.{operated};
 ghost use Rattle.stack_items.specs.Pops.{Does};
 
 use crate::fault::StackFault;
 use crate::stack::Stack;
-use machine_rules::StackOperation;
+use model_machine::StackOperation;
 
 impl Stack {
     /// Does one operation, run as the instruction of this number. What each does, and what it leaves after a refusal, is
     /// said at its own call.
-    #[tactic(auto, unfolding(machine_rules::specs::StackOperations::operated))]
+    #[tactic(auto, unfolding(model_machine::specs::StackOperations::operated))]
     pub fn operate(&mut self, operation: StackOperation, instruction: u64) -> Result<(), StackFault>
         ensures { Does result (operated operation instruction self.old) self.old self.new }
     {

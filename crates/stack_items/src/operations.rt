@@ -6,8 +6,8 @@
 
 ghost use Rattle.std.specs.Prelude.{◌≡◌, ◌≢◌, [], ◌∷◌, Ok, Err, IsOk, IfOk, OnOk, OnErr, IsOkUnless};
 ghost use Rattle.fdb_tuple.specs.Listed.{IsElement};
-ghost use Rattle.machine_rules.specs.Operands.{bytes_operand, string_operand, int_operand, two_operands, left_of};
-ghost use Rattle.machine_rules.specs.StackOperations.{dup, swap_by_depth, pop, sub, concat, wait_future, get_approximate_size, get_estimated_range_size, joined, pushed};
+ghost use Rattle.model_machine.specs.Operands.{bytes_operand, string_operand, int_operand, two_operands, left_of};
+ghost use Rattle.model_machine.specs.StackOperations.{dup, swap_by_depth, pop, sub, concat, wait_future, get_approximate_size, get_estimated_range_size, joined, pushed};
 ghost use Rattle.stack_items.specs.Looks.{left_in, LooksUnlessFull, joined_operand, Joins};
 ghost use Rattle.stack_items.specs.Pops.{Does};
 
@@ -16,7 +16,7 @@ use crate::operands::Operands;
 use crate::stack::Stack;
 use fdb_tuple::Elem;
 use key_bytes::Bytes;
-use machine_rules::{Item, ItemValue};
+use model_machine::{Item, ItemValue};
 use std::alloc::AllocError;
 
 impl Stack {

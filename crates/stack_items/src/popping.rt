@@ -2,9 +2,9 @@
 
 ghost use Rattle.std.specs.Prelude.{◌≡◌, ◌≢◌, [], ◌∷◌, ◌++◌, Ok, Err, IsOk, IfOk, OnOk, OnErr, IsOkUnless};
 ghost use Rattle.fdb_tuple.specs.Listed.{elements_of, IsElement};
-ghost use Rattle.machine_rules.specs.Operands.{left_of, item_operand, bytes_operand, count_operand, element_operand, operands_by};
-ghost use Rattle.machine_rules.specs.Operands.{tuple_operand, byte_strings_operand, two_operands};
-ghost use Rattle.machine_rules.specs.StackOperations.{wait_future};
+ghost use Rattle.model_machine.specs.Operands.{left_of, item_operand, bytes_operand, count_operand, element_operand, operands_by};
+ghost use Rattle.model_machine.specs.Operands.{tuple_operand, byte_strings_operand, two_operands};
+ghost use Rattle.model_machine.specs.StackOperations.{wait_future};
 ghost use Rattle.stack_items.specs.Items.{IsItem, EndsIn};
 ghost use Rattle.stack_items.specs.Pops.{Pops, PopsUnlessFull, Does, Knows, settled};
 
@@ -14,7 +14,7 @@ use crate::operands::Operands;
 use crate::stack::Stack;
 use fdb_tuple::{Elem, Tuple};
 use key_bytes::Bytes;
-use machine_rules::{Item, ItemValue};
+use model_machine::{Item, ItemValue};
 
 impl Stack {
     /// Looks at the operands of an operation, from the top item on.

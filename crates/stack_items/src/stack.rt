@@ -2,14 +2,14 @@
 
 ghost use Rattle.std.specs.Prelude.{◌≡◌, ◌==◌, ◌<◌, [], ◌∷◌, Some, length, take, drop, reverse, slice_get, IfSome, OnOk, OnErr, IsOkUnless};
 ghost use Rattle.std.specs.List.{swap};
-ghost use Rattle.machine_rules.specs.StackOperations.{pushed};
+ghost use Rattle.model_machine.specs.StackOperations.{pushed};
 ghost use Rattle.stack_items.specs.Items.{IsItem, AreItems, IsWaiting, known_at};
 ghost use Rattle.stack_items.specs.Pops.{SeesTop};
 ghost use Rattle.fdb_tuple.specs.Listed.{IsElement};
 
 use crate::fault::StackFault;
 use fdb_tuple::Elem;
-use machine_rules::{Item, ItemValue};
+use model_machine::{Item, ItemValue};
 use std::alloc::{AllocError, Global};
 use std::marker::Model;
 
@@ -22,12 +22,12 @@ pub struct Stack {
 
 impl Model for Stack {
     ghost use Rattle.std.specs.Prelude.{List, reverse};
-    ghost use Rattle.machine_rules.specs.declared.Item.{Item};
+    ghost use Rattle.model_machine.specs.declared.Item.{Item};
     ghost use Rattle.stack_items.specs.Items.{AreItems};
 
     ghost Value = { List Item };
 
-    ghost use Rattle.machine_rules.specs.contracts.Item as item;
+    ghost use Rattle.model_machine.specs.contracts.Item as item;
     ghost use Rattle.std.specs.Coded.{codes};
 
     ghost coded = { Prim.hlevel (codes, item.the_row.coded) };

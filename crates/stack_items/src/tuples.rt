@@ -8,8 +8,8 @@ ghost use Rattle.std.specs.Prelude.{◌≡◌, ◌+◌, ◌^◌, ◌<◌, length
 ghost use Rattle.fdb_tuple.specs.Listed.{elements_of};
 ghost use Rattle.fdb_tuple.specs.Spelling.{spelling};
 ghost use Rattle.fdb_tuple.specs.Stamps.{stamp_packed};
-ghost use Rattle.machine_rules.specs.Operands.{bytes_operand, tuple_operand, byte_strings_operand, two_operands, left_of};
-ghost use Rattle.machine_rules.specs.StackOperations.{tuple_pack, tuple_pack_with_versionstamp, tuple_unpack, tuple_range, tuple_sort, pushed, packed_alone, stamp_answer};
+ghost use Rattle.model_machine.specs.Operands.{bytes_operand, tuple_operand, byte_strings_operand, two_operands, left_of};
+ghost use Rattle.model_machine.specs.StackOperations.{tuple_pack, tuple_pack_with_versionstamp, tuple_unpack, tuple_range, tuple_sort, pushed, packed_alone, stamp_answer};
 ghost use Rattle.stack_items.specs.Items.{EndsIn};
 ghost use Rattle.stack_items.specs.Pops.{Does};
 ghost use Rattle.stack_items.specs.Unpacked.{Unpacks, UnpacksEach};

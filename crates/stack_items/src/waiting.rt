@@ -2,14 +2,14 @@
 
 ghost use Rattle.std.specs.Prelude.{◌≡◌, ◌<◌, ◌∷◌, length, reverse, slice_get, IfSome, OnOk, OnErr, IsOkUnless};
 ghost use Rattle.fdb_tuple.specs.Listed.{IsElement};
-ghost use Rattle.machine_rules.specs.declared.ItemValue.TheVariants.{Waits};
-ghost use Rattle.machine_rules.specs.Machines.{first_life, with_known, below_waiting};
+ghost use Rattle.model_machine.specs.declared.ItemValue.TheVariants.{Waits};
+ghost use Rattle.model_machine.specs.Machines.{first_life, with_known, below_waiting};
 ghost use Rattle.stack_items.specs.Items.{IsWaiting, waiting_place};
 
 use crate::fault::StackFault;
 use crate::stack::Stack;
 use fdb_tuple::Elem;
-use machine_rules::{Item, ItemValue};
+use model_machine::{Item, ItemValue};
 
 impl Stack {
     /// Puts an item on top that waits for the versionstamp of the commit of this life, with the number of the instruction that

@@ -2,10 +2,10 @@
 use Rattle.std.proofs.Common.{◌≡◌, ◌+◌, Bool, true, false, Option, Some, None, Result, Ok, Err, refl, sym, ap, ◌∙◌}
 use Rattle.std.specs.Prelude.{slice_get, IfOk}
 use Rattle.fdb_calls.specs.declared.Reply.{Reply}
-use Rattle.machine_rules.specs.declared.State.{State}
-use Rattle.machine_rules.specs.declared.State.TheVariants as state
-use Rattle.machine_rules.specs.Machines.{Machine, Progress, Act, Does, Stops, Asks, silent, acted, next_act, replied_act}
-use Rattle.machine_rules.specs.Machines.{advance_by, advance, resumed, resumed_by}
+use Rattle.model_machine.specs.declared.State.{State}
+use Rattle.model_machine.specs.declared.State.TheVariants as state
+use Rattle.model_machine.specs.Machines.{Machine, Progress, Act, Does, Stops, Asks, silent, acted, next_act, replied_act}
+use Rattle.model_machine.specs.Machines.{advance_by, advance, resumed, resumed_by}
 use Rattle.stack_machine.specs.MachineModel.{MachineModel}
 use Rattle.stack_machine.specs.Steps.{IsDue, MayStep, moved, answer_of, Moves}
 use Rattle.stack_machine.specs.declared.machine.Step.{Step}

@@ -1,11 +1,11 @@
 -- A reply that no poll awaits is used by what is awaited.
 use Rattle.std.proofs.Common.{◌≡◌, ℕ, List, refl, sym, ap, subst, ◌∙◌}
 use Rattle.fdb_calls.specs.declared.Reply.{Reply}
-use Rattle.machine_rules.specs.declared.Awaits.{Awaits}
-use Rattle.machine_rules.specs.declared.Awaits.TheVariants as awaits
-use Rattle.machine_rules.specs.declared.State.TheVariants as state
-use Rattle.machine_rules.specs.declared.Wait.{Wait}
-use Rattle.machine_rules.specs.Machines.{Machine, Progress, Registers, Act, Does, Stops, Asks, acted, replied_act, resumed, resumed_by, use_of, used}
+use Rattle.model_machine.specs.declared.Awaits.{Awaits}
+use Rattle.model_machine.specs.declared.Awaits.TheVariants as awaits
+use Rattle.model_machine.specs.declared.State.TheVariants as state
+use Rattle.model_machine.specs.declared.Wait.{Wait}
+use Rattle.model_machine.specs.Machines.{Machine, Progress, Registers, Act, Does, Stops, Asks, acted, replied_act, resumed, resumed_by, use_of, used}
 use Rattle.machine_registers.specs.Acts.{act_with}
 use Rattle.machine_registers.specs.declared.act.Act.{Act as Answer}
 use Rattle.stack_machine.specs.declared.machine.Step.{Step}

@@ -1,7 +1,7 @@
 -- Pairs packed as one tuple.
 use Rattle.std.proofs.Common.{◌≡◌, [], ◌∷◌, refl, ap}
-use Rattle.database_rules.specs.Slices.{Entries}
-use Rattle.machine_rules.specs.Machines.{pairs_within}
+use Rattle.model_database.specs.Slices.{Entries}
+use Rattle.model_machine.specs.Machines.{pairs_within}
 
 -- every key begins with the empty prefix
 pub every_pair_within : (pairs : Entries) → pairs_within [] pairs ≡ pairs

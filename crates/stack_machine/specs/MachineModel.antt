@@ -1,8 +1,8 @@
 -- What contracts see of a machine.
 use Rattle.std.specs.Prelude.{ℕ, ◌<◌, ◌≤◌, Bool, List, map}
-use Rattle.machine_rules.specs.declared.State.{State}
-use Rattle.machine_rules.specs.declared.State.TheVariants as state
-use Rattle.machine_rules.specs.Machines.{Machine}
+use Rattle.model_machine.specs.declared.State.{State}
+use Rattle.model_machine.specs.declared.State.TheVariants as state
+use Rattle.model_machine.specs.Machines.{Machine}
 
 -- the machine of the definitions, and whether it ran out of memory, after which it does nothing more
 pub record MachineModel : Type 0 where

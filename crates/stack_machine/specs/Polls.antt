@@ -1,10 +1,10 @@
 -- What a poll comes to.
 use Rattle.std.specs.Prelude.{◌≡◌, ℕ, Bool, true, false}
 use Rattle.fdb_calls.specs.declared.Request.TheVariants as request
-use Rattle.machine_rules.specs.declared.Awaits.{Awaits}
-use Rattle.machine_rules.specs.declared.Wait.{Wait}
-use Rattle.machine_rules.specs.declared.End.TheVariants as end
-use Rattle.machine_rules.specs.Machines.{Registers, Act, Does, Stops, Asks, polled_once, with_stack, below_waiting}
+use Rattle.model_machine.specs.declared.Awaits.{Awaits}
+use Rattle.model_machine.specs.declared.Wait.{Wait}
+use Rattle.model_machine.specs.declared.End.TheVariants as end
+use Rattle.model_machine.specs.Machines.{Registers, Act, Does, Stops, Asks, polled_once, with_stack, below_waiting}
 use Rattle.stack_machine.specs.declared.polls.Polled.{Polled}
 use Rattle.stack_machine.specs.declared.polls.Polled.TheVariants as polled
 

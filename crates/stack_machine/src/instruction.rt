@@ -1,17 +1,17 @@
 //! The instruction that a machine reads under its API version.
 
 ghost use Rattle.std.specs.Prelude.{◌≡◌, IfOk};
-ghost use Rattle.machine_rules.specs.Instructions.{instruction_under};
+ghost use Rattle.model_machine.specs.Instructions.{instruction_under};
 ghost use Rattle.machine_instructions.specs.Pushes.{PushesAnElement};
 
-use database_rules::Api;
 use machine_instructions::instruction_of;
-use machine_rules::{Instruction, StackOperation};
+use model_database::Api;
+use model_machine::{Instruction, StackOperation};
 use std::alloc::{AllocError, Global};
 
 /// Returns the instruction that a value packs: a tuple of a name, a Unicode or a byte string, and for PUSH one
 /// element more. None where the value is no such tuple, or the name none of this API version.
-#[tactic(auto, unfolding(machine_rules::specs::Instructions::instruction_under))]
+#[tactic(auto, unfolding(model_machine::specs::Instructions::instruction_under))]
 pub fn instruction_under(
     alloc: Global,
     api: Api,

@@ -1,6 +1,6 @@
 //! The stack machine of the bindings tester: it runs its instructions, asks requests and uses their replies.
 //!
-//! A `Machine` is the machine of `machine_rules` (`specs/Machines.antt`), kept in a struct: each `step` is one
+//! A `Machine` is the machine of `model_machine` (`specs/Machines.antt`), kept in a struct: each `step` is one
 //! step of those definitions. It runs one instruction, asks one request, uses one reply, or says how it stopped.
 //!
 //! # Choices
@@ -23,4 +23,4 @@ mod replies;
 
 pub use machine::{Machine, Step};
 pub use machine_registers::Errors;
-pub use machine_rules::{End, ErrorNote, State};
+pub use model_machine::{End, ErrorNote, State};

@@ -1,9 +1,9 @@
 //! A machine and its steps.
 
 ghost use Rattle.std.specs.Prelude.{◌≡◌, ◌+◌, ◌<◌, false, true, pos, [], length, Some, Ok, option_copied, slice_get, IfOk, IsErr, OnErr};
-ghost use Rattle.machine_rules.specs.declared.State.TheVariants.{Running};
-ghost use Rattle.machine_rules.specs.Machines.{stopped, done, silent, acted, instruction_at, next_act, advance, resumed};
-ghost use Rattle.machine_rules.specs.Directories.{first_directories};
+ghost use Rattle.model_machine.specs.declared.State.TheVariants.{Running};
+ghost use Rattle.model_machine.specs.Machines.{stopped, done, silent, acted, instruction_at, next_act, advance, resumed};
+ghost use Rattle.model_machine.specs.Directories.{first_directories};
 ghost use Rattle.machine_instructions.specs.Pushes.{PushesAnElement};
 ghost use Rattle.machine_registers.specs.Acts.{act_with};
 
@@ -13,7 +13,7 @@ use crate::replies::use_reply;
 use fdb_calls::{Reply, SharedRequest};
 use key_bytes::{Bytes, Pairs};
 use machine_registers::{Act, Errors, Registers};
-use machine_rules::{Awaits, End, Instruction, MachineOptions, State};
+use model_machine::{Awaits, End, Instruction, MachineOptions, State};
 use stack_items::Stack;
 use std::alloc::{AllocError, Global};
 use std::marker::Model;
@@ -66,7 +66,7 @@ impl Model for Machine {
 
     ghost Value = { MachineModel };
 
-    ghost use Rattle.machine_rules.specs.contracts.Item as item;
+    ghost use Rattle.model_machine.specs.contracts.Item as item;
     ghost use Rattle.std.specs.Coded.{codes};
 
     ghost coded = { Prim.hlevel (codes, item.the_row.coded) };
@@ -228,7 +228,7 @@ impl Machine {
         }
     }
 
-    #[tactic(auto, unfolding(machine_rules::specs::Machines::advance))]
+    #[tactic(auto, unfolding(model_machine::specs::Machines::advance))]
     fn advance(&mut self) -> Result<Step, AllocError>
         requires { self.old.is_out_of_memory ≡ false }
         ensures { IfOk result (λ step. Moves self.old (advance self.old.machine) step self.new) }
@@ -240,7 +240,7 @@ impl Machine {
         }
     }
 
-    #[tactic(auto, unfolding(machine_rules::specs::Machines::resumed))]
+    #[tactic(auto, unfolding(model_machine::specs::Machines::resumed))]
     fn resume(&mut self, reply: &Reply) -> Result<Step, AllocError>
         requires { self.old.is_out_of_memory ≡ false }
         ensures { IfOk result (λ step. Moves self.old (resumed self.old.machine reply.now) step self.new) }

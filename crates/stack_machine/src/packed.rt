@@ -1,9 +1,9 @@
 //! Pairs packed as one tuple of their keys and values in turn.
 
 ghost use Rattle.std.specs.Prelude.{◌≡◌, List, ◌∷◌, ◌++◌, IfOk, OnOk};
-ghost use Rattle.database_rules.specs.Slices.{Entries};
+ghost use Rattle.model_database.specs.Slices.{Entries};
 ghost use Rattle.key_bytes.specs.Entries.{entry_of, entries_of};
-ghost use Rattle.machine_rules.specs.Machines.{packed_pairs, pairs_within};
+ghost use Rattle.model_machine.specs.Machines.{packed_pairs, pairs_within};
 ghost use Rattle.stack_machine.specs.Packed.{spelled_within};
 
 use fdb_tuple::{Elem, pack_element_into};
@@ -11,7 +11,7 @@ use key_bytes::{Bytes, Pair};
 use std::alloc::{AllocError, Global};
 
 /// Returns the keys and values in turn of the pairs with keys that begin with the prefix, as one packed tuple.
-#[tactic(auto, unfolding(machine_rules::specs::Machines::packed_pairs))]
+#[tactic(auto, unfolding(model_machine::specs::Machines::packed_pairs))]
 pub fn pack_within(alloc: Global, prefix: &[u8], pairs: &[Pair]) -> Result<Bytes, AllocError>
     ensures { IfOk result (λ packed. Elem.Bytes packed ≡ packed_pairs (pairs_within prefix.now (entries_of pairs.now))) }
 {

@@ -2,9 +2,9 @@
 //! "WAIT_EMPTY").
 
 ghost use Rattle.std.specs.Prelude.{◌≡◌, ◌<◌, ◌+◌, decimal, nat_lt, length, IfOk};
-ghost use Rattle.machine_rules.specs.declared.Awaits.{Awaits as AwaitsSaid};
-ghost use Rattle.machine_rules.specs.declared.Wait.{Wait as WaitSaid};
-ghost use Rattle.machine_rules.specs.Machines.{Registers as RegistersSaid, Act as ActSaid, act_of, after_poll, after_watch, watches_on, error_item, knowing, logs_on, noting};
+ghost use Rattle.model_machine.specs.declared.Awaits.{Awaits as AwaitsSaid};
+ghost use Rattle.model_machine.specs.declared.Wait.{Wait as WaitSaid};
+ghost use Rattle.model_machine.specs.Machines.{Registers as RegistersSaid, Act as ActSaid, act_of, after_poll, after_watch, watches_on, error_item, knowing, logs_on, noting};
 ghost use Rattle.machine_registers.specs.Acts.{act_with};
 ghost use Rattle.stack_machine.specs.Polls.{polled_act, PollsOn};
 ghost use Rattle.machine_instructions.specs.Pushes.{PushesAnElement};
@@ -13,7 +13,7 @@ use fdb_calls::{Code, Reply, Request, SharedRequest};
 use fdb_tuple::Elem;
 use key_bytes::Bytes;
 use machine_registers::{Act, Registers, ask_empty, error_item};
-use machine_rules::{Awaits, End, Instruction, Wait};
+use model_machine::{Awaits, End, Instruction, Wait};
 use stack_directories::digits_of;
 use std::alloc::AllocError;
 

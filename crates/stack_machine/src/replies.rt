@@ -1,8 +1,8 @@
 //! What the reply to a request is used for.
 
 ghost use Rattle.std.specs.Prelude.{◌≡◌, decimal, IfOk};
-ghost use Rattle.machine_rules.specs.Machines.{Does, pushing, failing, error_item, result_not_present, value_or_text};
-ghost use Rattle.machine_rules.specs.Machines.{Registers as RegistersSaid, key_within, packed_pairs, pairs_within, start_use, used, use_of};
+ghost use Rattle.model_machine.specs.Machines.{Does, pushing, failing, error_item, result_not_present, value_or_text};
+ghost use Rattle.model_machine.specs.Machines.{Registers as RegistersSaid, key_within, packed_pairs, pairs_within, start_use, used, use_of};
 ghost use Rattle.machine_registers.specs.Acts.{act_with};
 
 use crate::packed::pack_within;
@@ -10,7 +10,7 @@ use fdb_calls::{Code, Reply};
 use fdb_tuple::Elem;
 use key_bytes::{Bytes, Key, Pairs, is_below};
 use machine_registers::{Act, Registers, error_item, prefix_end};
-use machine_rules::{Awaits, End};
+use model_machine::{Awaits, End};
 use stack_directories::digits_of;
 use std::alloc::{AllocError, Global};
 

@@ -7,13 +7,13 @@ use Rattle.stack_machine.specs.MachineModel.{MachineModel}
 use Rattle.stack_machine.specs.Steps.{answer_in, answer_by, answer_of, Moves}
 use Rattle.stack_machine.specs.declared.machine.Step.{Step}
 use Rattle.stack_machine.specs.declared.machine.Step.TheVariants as step
-use Rattle.machine_rules.specs.declared.End.{End}
-use Rattle.machine_rules.specs.declared.State.{State}
-use Rattle.machine_rules.specs.declared.State.TheVariants as state
-use Rattle.machine_rules.specs.Machines.{Machine, Progress, silent, advance, resumed}
-use Rattle.machine_rules.specs.Runs.{at_rest, is_running, has_stopped}
-use Rattle.machine_rules.specs.Laws.{HasItsItemIn, effort_in, is_awaiting, quiet_item, advance_item, resumed_item, advance_finishes, advance_asks, advance_quiet, advance_still, advance_asks_inside}
-use Rattle.machine_rules.specs.Laws.{GoesOn as HasUsed, Further, Again, Halts, resumed_goes, at_rest_advance, at_rest_still}
+use Rattle.model_machine.specs.declared.End.{End}
+use Rattle.model_machine.specs.declared.State.{State}
+use Rattle.model_machine.specs.declared.State.TheVariants as state
+use Rattle.model_machine.specs.Machines.{Machine, Progress, silent, advance, resumed}
+use Rattle.model_machine.specs.Runs.{at_rest, is_running, has_stopped}
+use Rattle.model_machine.specs.Laws.{HasItsItemIn, effort_in, is_awaiting, quiet_item, advance_item, resumed_item, advance_finishes, advance_asks, advance_quiet, advance_still, advance_asks_inside}
+use Rattle.model_machine.specs.Laws.{GoesOn as HasUsed, Further, Again, Halts, resumed_goes, at_rest_advance, at_rest_still}
 use Rattle.suspended_machine.specs.declared.suspended.SuspendedMachine.{SuspendedMachine}
 use Rattle.suspended_machine.specs.SuspendedMachines.{asked_by, with_asked, progress_of, work_left, Awaits, IsNearer, IsSuspended}
 

@@ -4,9 +4,9 @@ use Rattle.fdb_calls.specs.declared.Request.{Request}
 use Rattle.stack_machine.specs.MachineModel.{MachineModel}
 use Rattle.stack_machine.specs.declared.machine.Step.{Step}
 use Rattle.stack_machine.specs.declared.machine.Step.TheVariants as step
-use Rattle.machine_rules.specs.Machines.{Machine, Progress}
-use Rattle.machine_rules.specs.Runs.{is_running, has_stopped}
-use Rattle.machine_rules.specs.Laws.{HasItsItemIn, effort_in, is_awaiting}
+use Rattle.model_machine.specs.Machines.{Machine, Progress}
+use Rattle.model_machine.specs.Runs.{is_running, has_stopped}
+use Rattle.model_machine.specs.Laws.{HasItsItemIn, effort_in, is_awaiting}
 use Rattle.suspended_machine.specs.declared.suspended.SuspendedMachine.{SuspendedMachine}
 
 -- what a machine asks, by the answer of its step

@@ -3,20 +3,20 @@
 ghost use Rattle.std.specs.Prelude.{◌≡◌, ◌↔◌, ℕ, List, map, option_to_list, IfOk, IfSome, IsTrue};
 ghost use Rattle.std.specs.Map.{values_of};
 ghost use Rattle.fdb_calls.specs.declared.Reply.TheVariants.{NoMemory};
-ghost use Rattle.machine_rules.specs.Machines.{silent};
-ghost use Rattle.machine_rules.specs.Runs.{at_rest, start_prefix, started, started_by};
+ghost use Rattle.model_machine.specs.Machines.{silent};
+ghost use Rattle.model_machine.specs.Runs.{at_rest, start_prefix, started, started_by};
 ghost use Rattle.suspended_machine.specs.SuspendedMachines.{progress_of, IsSuspended};
 
 use crate::suspended::SuspendedMachine;
 use fdb_calls::{Reply, Request};
 use key_bytes::{Bytes, Pairs};
-use machine_rules::MachineOptions;
+use model_machine::MachineOptions;
 use stack_machine::Machine;
 use std::alloc::{AllocError, Global};
 
 /// Makes a machine as it is started: of this number, under this prefix, with these options, and
 /// with the values of these pairs as its instructions. It is refused for want of memory alone.
-#[tactic(auto, unfolding(machine_rules::specs::Runs::started))]
+#[tactic(auto, unfolding(model_machine::specs::Runs::started))]
 pub fn start(
     alloc: Global,
     number: u16,
@@ -31,7 +31,7 @@ pub fn start(
 }
 
 /// Makes a machine as `start` does, with these instructions: as whatever pairs have them for their values.
-#[tactic(auto, unfolding(machine_rules::specs::Runs::started))]
+#[tactic(auto, unfolding(model_machine::specs::Runs::started))]
 pub fn start_with(
     alloc: Global,
     number: u16,

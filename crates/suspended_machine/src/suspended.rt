@@ -2,9 +2,9 @@
 
 ghost use Rattle.std.specs.Prelude.{◌≡◌, ◌≢◌, ◌≤◌, false, Some, IsSome, IfOk, OnOk};
 ghost use Rattle.fdb_calls.specs.declared.Reply.TheVariants.{NoMemory};
-ghost use Rattle.machine_rules.specs.Machines.{silent, resumed};
-ghost use Rattle.machine_rules.specs.Runs.{at_rest};
-ghost use Rattle.machine_rules.specs.Laws.{is_awaiting};
+ghost use Rattle.model_machine.specs.Machines.{silent, resumed};
+ghost use Rattle.model_machine.specs.Runs.{at_rest};
+ghost use Rattle.model_machine.specs.Laws.{is_awaiting};
 ghost use Rattle.suspended_machine.specs.SuspendedMachines.{progress_of, with_asked, work_left, Awaits, IsNearer, IsSuspended};
 
 use fdb_calls::{Reply, SharedRequest};

@@ -6,12 +6,12 @@ use Rattle.std.proofs.KnownBytes.{Consumes-nil}
 use Rattle.std.proofs.lemmas.Option.{none-some}
 use Rattle.outside.specs.Counts.{Rose}
 use Rattle.outside.specs.Streams.{AppendsFront}
-use Rattle.command_rules.specs.declared.args.Args.{Args}
-use Rattle.command_rules.specs.declared.args.Args.TheVariants as args
+use Rattle.model_commands.specs.declared.args.Args.{Args}
+use Rattle.model_commands.specs.declared.args.Args.TheVariants as args
 use Rattle.command_words.specs.declared.fault.ArgFault.{ArgFault}
 use Rattle.command_words.specs.declared.fault.ArgFault.TheVariants as arg
-use Rattle.history_laws.specs.Whole.{AreRunsLegal}
-use Rattle.prefix_laws.specs.Prefixes.{RunsArePrefixesApart}
+use Rattle.laws_history.specs.Whole.{AreRunsLegal}
+use Rattle.laws_prefixes.specs.Prefixes.{RunsArePrefixesApart}
 use Rattle.machine_runs.specs.declared.running.Rendered.{Rendered}
 use Rattle.tester_run.specs.Answering.{IsMade, IsRefusedBy}
 use Rattle.tester_run.specs.Arguments.{reads_input}

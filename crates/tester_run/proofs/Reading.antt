@@ -3,26 +3,26 @@ use Rattle.std.proofs.Common.{◌≡◌, ◌≢◌, ℕ, ◌<◌, ◌≤◌, tru
 use Rattle.std.specs.Prelude.{IfErr, IfOk, IfSome}
 use Rattle.std.specs.Io.KnownBytes.{IsAtEnd, Consumes}
 use Rattle.std.proofs.lemmas.List.{append-nil}
-use Rattle.command_rules.specs.declared.args.Args.{Args}
-use Rattle.command_rules.specs.declared.args.Args.TheVariants as args
-use Rattle.command_rules.specs.declared.args.RunArgs.{RunArgs}
+use Rattle.model_commands.specs.declared.args.Args.{Args}
+use Rattle.model_commands.specs.declared.args.Args.TheVariants as args
+use Rattle.model_commands.specs.declared.args.RunArgs.{RunArgs}
 use Rattle.dump_text.specs.declared.fault.LineFault.{LineFault}
 use Rattle.dump_text.specs.declared.fault.LineFault.TheVariants as line
 use Rattle.dump_text.specs.Reading.{Fails}
-use Rattle.input_rules.specs.declared.input.Form.{Form}
-use Rattle.input_rules.specs.declared.input.Form.TheVariants as form
-use Rattle.input_rules.specs.declared.input.Input.{Input}
-use Rattle.input_rules.specs.Forms.{input_of}
+use Rattle.model_input.specs.declared.input.Form.{Form}
+use Rattle.model_input.specs.declared.input.Form.TheVariants as form
+use Rattle.model_input.specs.declared.input.Input.{Input}
+use Rattle.model_input.specs.Forms.{input_of}
 use Rattle.instr_text.specs.declared.fault.DisFault.TheVariants as pair
-use Rattle.line_rules.specs.Reading.{Entry, Fault, input_limit}
+use Rattle.model_lines.specs.Reading.{Entry, Fault, input_limit}
 use Rattle.text_commands.specs.declared.fault.TextFault.{TextFault}
 use Rattle.text_commands.specs.declared.fault.TextFault.TheVariants as text
 use Rattle.text_commands.specs.Texts.{HasBadPair, IsDisasmFault}
 use Rattle.machine_runs.specs.declared.fault.OrderFault.{OrderFault}
 use Rattle.machine_runs.specs.declared.fault.OrderFault.TheVariants as order
 use Rattle.generator.specs.Generated.{gen_pairs}
-use Rattle.line_rules.specs.Inputs.{IsSmall}
-use Rattle.machine_rules.specs.Runs.{AreByTurns}
+use Rattle.model_lines.specs.Inputs.{IsSmall}
+use Rattle.model_machine.specs.Runs.{AreByTurns}
 use Rattle.std.specs.List.{AllByRecursion}
 use Rattle.machine_runs.specs.Arguments.{gen_arguments}
 use Rattle.machine_runs.specs.Misfits.{IsMisfit}

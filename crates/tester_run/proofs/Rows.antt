@@ -1,14 +1,14 @@
 -- The premise of `complete`, met by worked words and bytes.
 use Rattle.std.proofs.Common.{◌≡◌, ◌∷◌, ℕ, List, [], Some, None, Ok, Err, codes, refl, sym, ◌∙◌}
-use Rattle.database_rules.specs.declared.Api.TheVariants.{V630}
-use Rattle.command_rules.specs.declared.args.RunArgs.{RunArgs}
-use Rattle.command_rules.specs.declared.args.Args.TheVariants as args
-use Rattle.command_rules.specs.Grammar.{args_of}
-use Rattle.input_rules.specs.declared.input.Form.TheVariants as form
-use Rattle.input_rules.specs.declared.input.Input.{Input}
-use Rattle.input_rules.specs.Forms.{input_of}
-use Rattle.line_rules.specs.Reading.{Fault, lines_of, read_line, read_lines, pair_at, text_of, pieces, piece_at}
-use Rattle.line_rules.specs.Printing.{printable}
+use Rattle.model_database.specs.declared.Api.TheVariants.{V630}
+use Rattle.model_commands.specs.declared.args.RunArgs.{RunArgs}
+use Rattle.model_commands.specs.declared.args.Args.TheVariants as args
+use Rattle.model_commands.specs.Grammar.{args_of}
+use Rattle.model_input.specs.declared.input.Form.TheVariants as form
+use Rattle.model_input.specs.declared.input.Input.{Input}
+use Rattle.model_input.specs.Forms.{input_of}
+use Rattle.model_lines.specs.Reading.{Fault, lines_of, read_line, read_lines, pair_at, text_of, pieces, piece_at}
+use Rattle.model_lines.specs.Printing.{printable}
 use Rattle.tester_run.specs.Faults.{InputFault, InLine, NoRequest, EndsEarly, NotInstruction, HasFault}
 use Rattle.tester_run.specs.Outcomes.{IsLawful}
 use Rattle.tester_run.proofs.Tops.{no_rise}

@@ -3,7 +3,7 @@ use Rattle.std.proofs.Common.{◌≡◌, ℕ, true, false, ap, List, Option, Som
 use Rattle.std.specs.Prelude.{IfSome, codes}
 use Rattle.outside.specs.Counts.{Rose}
 use Rattle.std.proofs.lemmas.Option.{same_Some}
-use Rattle.command_rules.specs.declared.args.Args.{Args}
+use Rattle.model_commands.specs.declared.args.Args.{Args}
 use Rattle.command_words.specs.declared.fault.ArgFault.{ArgFault}
 use Rattle.command_words.specs.declared.fault.ArgFault.TheVariants as arg
 use Rattle.tester_run.specs.Arguments.{reads_input}

@@ -4,14 +4,14 @@ use Rattle.std.specs.Prelude.{IfOk, IfSome}
 use Rattle.std.specs.Io.KnownBytes.{Appends, IsAtEnd}
 use Rattle.outside.specs.Counts.{Rose}
 use Rattle.outside.specs.Streams.{AppendsFront}
-use Rattle.command_rules.specs.declared.args.Args.{Args}
-use Rattle.command_rules.specs.declared.args.Args.TheVariants as args
-use Rattle.history_laws.specs.Whole.{AreRunsLegal, IsOneLegalHistory}
-use Rattle.prefix_laws.specs.Prefixes.{GrantsAreApart, RunsArePrefixesApart}
-use Rattle.line_rules.specs.Inputs.{IsSmall}
+use Rattle.model_commands.specs.declared.args.Args.{Args}
+use Rattle.model_commands.specs.declared.args.Args.TheVariants as args
+use Rattle.laws_history.specs.Whole.{AreRunsLegal, IsOneLegalHistory}
+use Rattle.laws_prefixes.specs.Prefixes.{GrantsAreApart, RunsArePrefixesApart}
+use Rattle.model_lines.specs.Inputs.{IsSmall}
 use Rattle.std.specs.List.{list_all, AllByRecursion}
-use Rattle.machine_rules.specs.Machines.{Progress}
-use Rattle.machine_rules.specs.Runs.{Run, RunsTo, has_ended, status_of}
+use Rattle.model_machine.specs.Machines.{Progress}
+use Rattle.model_machine.specs.Runs.{Run, RunsTo, has_ended, status_of}
 use Rattle.tester_run.specs.Arguments.{arguments_of}
 use Rattle.tester_run.specs.Answering.{IsMade}
 use Rattle.tester_run.specs.Outcomes.{IsLawful, IsLegal, Finishes, BreaksOff, KeepsPrefixesApart}

@@ -2,10 +2,10 @@
 use Rattle.std.proofs.Common.{◌≡◌, ◌&&◌, ◌≤◌, ℕ, Bool, cond, true, false, true≢false, nat_le, leb-true, List, [], ◌∷◌, Option, Some, None, option_map, option_and_then, sym, subst, refl}
 use Rattle.std.specs.Prelude.{IfSome}
 use Rattle.std.specs.Str.Parse.{digits_value}
-use Rattle.command_rules.specs.declared.args.RunArgs.{RunArgs}
-use Rattle.command_rules.specs.declared.args.Args.{Args}
-use Rattle.command_rules.specs.declared.args.Args.TheVariants.{Run, Replay, Gen, Watch, Asm, Disasm}
-use Rattle.command_rules.specs.Grammar.{Argument, CommandName, args_of, arguments_in, asked_of, bare_of, command_in, command_names, gen_in, given, is_numeral, number_in, placed, run_in, workers_of, run, replay, gen, watch, asm, disasm}
+use Rattle.model_commands.specs.declared.args.RunArgs.{RunArgs}
+use Rattle.model_commands.specs.declared.args.Args.{Args}
+use Rattle.model_commands.specs.declared.args.Args.TheVariants.{Run, Replay, Gen, Watch, Asm, Disasm}
+use Rattle.model_commands.specs.Grammar.{Argument, CommandName, args_of, arguments_in, asked_of, bare_of, command_in, command_names, gen_in, given, is_numeral, number_in, placed, run_in, workers_of, run, replay, gen, watch, asm, disasm}
 use Rattle.tester_run.specs.Answering.{HasFewWorkers}
 
 abbrev AtMost : ℕ → Option ℕ → Type 0

@@ -2,12 +2,12 @@
 use Rattle.std.specs.Prelude.{◌≡◌, ◌≢◌, ◌≤◌, ◌⊎◌, ℕ, true, List, length, Option, IfSome, ⊤}
 use Rattle.std.specs.Io.KnownBytes.{IsAtEnd, Consumes}
 use Rattle.outside.specs.Counts.{Rose}
-use Rattle.command_rules.specs.declared.args.Args.{Args}
-use Rattle.command_rules.specs.declared.args.Args.TheVariants.{Run, Replay, Gen, Watch, Asm, Disasm}
+use Rattle.model_commands.specs.declared.args.Args.{Args}
+use Rattle.model_commands.specs.declared.args.Args.TheVariants.{Run, Replay, Gen, Watch, Asm, Disasm}
 use Rattle.dump_text.specs.declared.fault.LineFault.TheVariants as line
 use Rattle.dump_text.specs.Reading.{Fails}
-use Rattle.input_rules.specs.declared.input.Form.{Form}
-use Rattle.input_rules.specs.Forms.{input_of}
+use Rattle.model_input.specs.declared.input.Form.{Form}
+use Rattle.model_input.specs.Forms.{input_of}
 use Rattle.machine_runs.specs.declared.running.Rendered.{Rendered}
 use Rattle.tester_run.specs.Arguments.{reads_input}
 use Rattle.tester_run.specs.Faults.{InputFault}

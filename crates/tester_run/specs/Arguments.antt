@@ -1,8 +1,8 @@
 -- What a command asks for.
 use Rattle.std.specs.Prelude.{Bool, true, false, Option, Some, None}
-use Rattle.command_rules.specs.declared.args.RunArgs.{RunArgs}
-use Rattle.command_rules.specs.declared.args.Args.{Args}
-use Rattle.command_rules.specs.declared.args.Args.TheVariants.{Run, Replay, Gen, Watch, Asm, Disasm}
+use Rattle.model_commands.specs.declared.args.RunArgs.{RunArgs}
+use Rattle.model_commands.specs.declared.args.Args.{Args}
+use Rattle.model_commands.specs.declared.args.Args.TheVariants.{Run, Replay, Gen, Watch, Asm, Disasm}
 use Rattle.machine_runs.specs.Arguments.{gen_arguments}
 
 -- the arguments of its run; the commands on text run no machine

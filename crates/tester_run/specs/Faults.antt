@@ -1,14 +1,14 @@
 -- Why an input has no answer.
 use Rattle.std.specs.Prelude.{◌≡◌, ℕ, List, Ok, Err}
-use Rattle.command_rules.specs.declared.args.RunArgs.{RunArgs}
-use Rattle.command_rules.specs.declared.args.Args.{Args}
-use Rattle.command_rules.specs.declared.args.Args.TheVariants as args
-use Rattle.event_rules.specs.Events.{events_of}
-use Rattle.input_rules.specs.declared.input.Form.TheVariants as form
-use Rattle.input_rules.specs.declared.input.Input.{Input}
-use Rattle.input_rules.specs.Forms.{input_of}
+use Rattle.model_commands.specs.declared.args.RunArgs.{RunArgs}
+use Rattle.model_commands.specs.declared.args.Args.{Args}
+use Rattle.model_commands.specs.declared.args.Args.TheVariants as args
+use Rattle.model_events.specs.Events.{events_of}
+use Rattle.model_input.specs.declared.input.Form.TheVariants as form
+use Rattle.model_input.specs.declared.input.Input.{Input}
+use Rattle.model_input.specs.Forms.{input_of}
 use Rattle.instr_grammar.specs.Lines.{assembled}
-use Rattle.line_rules.specs.Reading.{Fault}
+use Rattle.model_lines.specs.Reading.{Fault}
 use Rattle.machine_runs.specs.Misfits.{LacksRequest, StopsShort}
 use Rattle.text_commands.specs.Texts.{HasBadPair}
 

@@ -3,12 +3,12 @@ use Rattle.std.specs.Prelude.{◌≡◌, ◌≢◌, ◌≤◌, ℕ, true, false,
 use Rattle.std.specs.Io.KnownBytes.{Appends, IsAtEnd}
 use Rattle.outside.specs.Streams.{AppendsFront}
 use Rattle.std.specs.List.{AllByRecursion}
-use Rattle.history_laws.specs.Whole.{IsOneLegalHistory}
-use Rattle.prefix_laws.specs.Prefixes.{GrantsAreApart}
-use Rattle.line_rules.specs.Inputs.{IsSmall}
+use Rattle.laws_history.specs.Whole.{IsOneLegalHistory}
+use Rattle.laws_prefixes.specs.Prefixes.{GrantsAreApart}
+use Rattle.model_lines.specs.Inputs.{IsSmall}
 use Rattle.outside.specs.Counts.{Rose}
-use Rattle.command_rules.specs.declared.args.Args.{Args}
-use Rattle.machine_rules.specs.Runs.{Run, RunsTo}
+use Rattle.model_commands.specs.declared.args.Args.{Args}
+use Rattle.model_machine.specs.Runs.{Run, RunsTo}
 use Rattle.tester_run.specs.Arguments.{arguments_of, reads_input}
 use Rattle.tester_run.specs.Faults.{InputFault, HasFault}
 use Rattle.tester_run.specs.Inputs.{IsReadOut, ReadsWithin}

@@ -1,9 +1,9 @@
 -- Why a command has nothing to write, by what a step of it was refused for, and what is told of that.
 use Rattle.std.specs.Prelude.{◌≡◌, ℕ, List, Option, Some, None, MatchOption, ◌⊎◌, codes}
-use Rattle.command_rules.specs.declared.args.Args.{Args}
+use Rattle.model_commands.specs.declared.args.Args.{Args}
 use Rattle.command_words.specs.declared.fault.ArgFault.{ArgFault}
 use Rattle.command_words.specs.declared.fault.ArgFault.TheVariants as arg
-use Rattle.line_rules.specs.Reading.{BadLine, TooLong, TooMany}
+use Rattle.model_lines.specs.Reading.{BadLine, TooLong, TooMany}
 use Rattle.tester_run.specs.Faults.{InputFault, InLine, NoRequest, EndsEarly, NotInstruction, HasFault}
 use Rattle.tester_run.specs.Statuses.{usage, bad_input, read_fault, out_of_memory}
 use Rattle.tester_run.specs.Tellings.{told, fault_text, IsTold, IsWritten}

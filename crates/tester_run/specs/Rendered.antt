@@ -2,16 +2,16 @@
 -- was written whole.
 use Rattle.std.specs.Prelude.{◌≡◌, ℕ, List, [], Option, IfSome, Ok}
 use Rattle.std.specs.List.{AllByRecursion}
-use Rattle.line_rules.specs.Inputs.{IsSmall}
-use Rattle.command_rules.specs.declared.args.RunArgs.{RunArgs}
-use Rattle.command_rules.specs.declared.args.Args.{Args}
-use Rattle.command_rules.specs.declared.args.Args.TheVariants as args
+use Rattle.model_lines.specs.Inputs.{IsSmall}
+use Rattle.model_commands.specs.declared.args.RunArgs.{RunArgs}
+use Rattle.model_commands.specs.declared.args.Args.{Args}
+use Rattle.model_commands.specs.declared.args.Args.TheVariants as args
 use Rattle.generator.specs.Generated.{gen_pairs}
-use Rattle.input_rules.specs.declared.input.Form.{Form}
-use Rattle.input_rules.specs.declared.input.Form.TheVariants as form
-use Rattle.input_rules.specs.declared.input.Input.{Input}
-use Rattle.input_rules.specs.Forms.{input_of}
-use Rattle.machine_rules.specs.Runs.{AreByTurns}
+use Rattle.model_input.specs.declared.input.Form.{Form}
+use Rattle.model_input.specs.declared.input.Form.TheVariants as form
+use Rattle.model_input.specs.declared.input.Input.{Input}
+use Rattle.model_input.specs.Forms.{input_of}
+use Rattle.model_machine.specs.Runs.{AreByTurns}
 use Rattle.text_commands.specs.Firings.{IsWatched}
 use Rattle.text_commands.specs.Texts.{IsAssembled, IsDisassembled}
 use Rattle.machine_runs.specs.Arguments.{gen_arguments}

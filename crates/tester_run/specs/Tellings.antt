@@ -3,9 +3,9 @@ use Rattle.std.specs.Prelude.{◌≡◌, ℕ, List, [], ◌∷◌, ◌++◌, Opt
 use Rattle.std.specs.Io.KnownBytes.{Appends}
 use Rattle.outside.specs.Counts.{Rose}
 use Rattle.outside.specs.Streams.{AppendsFront}
-use Rattle.line_rules.specs.Printing.{line_feed}
-use Rattle.line_rules.specs.Reading.{BadLine, TooLong, TooMany}
-use Rattle.command_rules.specs.declared.args.Args.{Args}
+use Rattle.model_lines.specs.Printing.{line_feed}
+use Rattle.model_lines.specs.Reading.{BadLine, TooLong, TooMany}
+use Rattle.model_commands.specs.declared.args.Args.{Args}
 use Rattle.tester_run.specs.Faults.{InputFault, InLine, NoRequest, EndsEarly, NotInstruction, HasFault}
 use Rattle.tester_run.specs.Statuses.{usage, bad_input, read_fault, write_fault, out_of_memory}
 

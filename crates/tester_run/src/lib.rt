@@ -4,7 +4,7 @@
 //! started run over the core, in threads (`threaded_runs`) or by the order that a replay is given (`machine_runs`), and writes the dump
 //! that was rendered. The commands on text, which run no machine, are those of `text_commands`. `answer` (`answering.rt`) has one arm
 //! for each command. The record that `tester` promises, `IsOutcome` in `specs/Outcomes.antt`, says what each exit status means; what it
-//! cites stands in `specs/Rendered.antt`, `specs/Faults.antt` and `specs/Tellings.antt`, and, for the run and its dump, in `machine_rules`.
+//! cites stands in `specs/Rendered.antt`, `specs/Faults.antt` and `specs/Tellings.antt`, and, for the run and its dump, in `model_machine`.
 //!
 //! # Choices
 //!

@@ -4,10 +4,10 @@ use Rattle.std.proofs.Math.Seq.{take-append_seam, take-append-add}
 use Rattle.std.proofs.lemmas.List.{take-append-drop, take_all, take_more}
 use Rattle.std.proofs.lemmas.List.Sums.{sum_by-append, sum_by-cons}
 use Rattle.std.specs.FinMap as finite
-use Rattle.database_rules.specs.Databases.{Database, Mutation, Set, Clear, do_one, do_all}
-use Rattle.event_rules.specs.declared.event.Event.{Event}
-use Rattle.event_rules.specs.declared.event.Event.TheVariants as event
-use Rattle.event_rules.specs.Events.{is_watch_event}
+use Rattle.model_database.specs.Databases.{Database, Mutation, Set, Clear, do_one, do_all}
+use Rattle.model_events.specs.declared.event.Event.{Event}
+use Rattle.model_events.specs.declared.event.Event.TheVariants as event
+use Rattle.model_events.specs.Events.{is_watch_event}
 use Rattle.text_commands.specs.Firings.{Made, commits_of, history_of, made_from}
 
 -- ---- commits

@@ -8,8 +8,8 @@ use Rattle.std.specs.List.{All, zip}
 use mathlib.Core.List.{head-eq_of_cons-eq, tail-eq_of_cons-eq}
 use Rattle.std.specs.FinMap as finite
 use Rattle.atomic_table.specs.Seated.{TableId}
-use Rattle.database_rules.specs.Databases.{Database}
-use Rattle.event_rules.specs.declared.event.Event.{Event}
+use Rattle.model_database.specs.Databases.{Database}
+use Rattle.model_events.specs.declared.event.Event.{Event}
 use Rattle.future_cell.specs.declared.waiter.Waiter.{Waiter}
 use Rattle.future_cell.specs.Cells.{receipt_cell, value_set, waiter_cell}
 use Rattle.watch_core.specs.declared.ending.Ending.{Ending}

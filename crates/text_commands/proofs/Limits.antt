@@ -2,13 +2,13 @@
 use Rattle.std.proofs.Common.{◌≡◌, ℕ, zero, suc, ◌+◌, ◌<◌, ◌≤◌, ◌⊎◌, inl, inr, true, cond, not, ◌&&◌, ltb, nat_lt, nat_le, List, [], ◌∷◌, ◌++◌, length, Result, Ok, Err, refl, sym, ap, subst, ◌∙◌, append_assoc, arith}
 use Rattle.std.proofs.lemmas.Bool.{lt-ltb, ltb-false}
 use Rattle.std.proofs.lemmas.List.{append-nil, length-append}
-use Rattle.line_rules.specs.Reading.{Line, Entry, Fault, TooMany, TooLong, lines_of, size_of, input_limit, line_limit}
-use Rattle.line_rules.proofs.Lines.{IsFeedless, whole_first, Begins, first_line_begins, HasFeed, first_feed}
-use Rattle.line_rules.proofs.Limits.{Alike}
-use Rattle.line_rules.proofs.ReadLines.{guard_ok, neither}
-use Rattle.event_rules.specs.declared.event.Event.{Event}
-use Rattle.event_rules.specs.Events as events
-use Rattle.event_rules.specs.Events.{read_event, read_events, events_of}
+use Rattle.model_lines.specs.Reading.{Line, Entry, Fault, TooMany, TooLong, lines_of, size_of, input_limit, line_limit}
+use Rattle.model_lines.proofs.Lines.{IsFeedless, whole_first, Begins, first_line_begins, HasFeed, first_feed}
+use Rattle.model_lines.proofs.Limits.{Alike}
+use Rattle.model_lines.proofs.ReadLines.{guard_ok, neither}
+use Rattle.model_events.specs.declared.event.Event.{Event}
+use Rattle.model_events.specs.Events as events
+use Rattle.model_events.specs.Events.{read_event, read_events, events_of}
 use Rattle.event_lines.proofs.EventReading.{within_limit}
 use Rattle.instr_grammar.specs.Texts.{instructions_limit}
 use Rattle.instr_grammar.specs.Lines as texts

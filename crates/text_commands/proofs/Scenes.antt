@@ -7,10 +7,10 @@ use Rattle.std.proofs.lemmas.Option.{same_Some}
 use Rattle.std.specs.List.{All}
 use Rattle.std.specs.FinMap as finite
 use Rattle.atomic_table.specs.Seated.{TableId}
-use Rattle.database_rules.specs.Databases.{Database, Mutation, Set, Clear, put, do_one}
-use Rattle.event_rules.specs.declared.event.Event.{Event}
-use Rattle.event_rules.specs.declared.event.Event.TheVariants as event
-use Rattle.event_rules.specs.Events.{is_watch_event}
+use Rattle.model_database.specs.Databases.{Database, Mutation, Set, Clear, put, do_one}
+use Rattle.model_events.specs.declared.event.Event.{Event}
+use Rattle.model_events.specs.declared.event.Event.TheVariants as event
+use Rattle.model_events.specs.Events.{is_watch_event}
 use Rattle.key_bytes.specs.declared.pairs.Pair.{Pair}
 use Rattle.future_cell.specs.Cells.{waiter_cell}
 use Rattle.version_store.specs.Versions.{at, last_of}

@@ -5,9 +5,9 @@ use Rattle.std.proofs.lemmas.List.{append-nil, length-map, length-take-le, map-a
 use Rattle.std.proofs.lemmas.Grind.{flat_map-append}
 use Rattle.key_bytes.specs.declared.pairs.Pair.{Pair}
 use Rattle.key_bytes.specs.Entries.{entry_of, entries_of}
-use Rattle.line_rules.specs.Inputs.{pair_lines}
-use Rattle.line_rules.specs.Printing.{line, pair_line}
-use Rattle.line_rules.specs.Reading.{Entry}
+use Rattle.model_lines.specs.Inputs.{pair_lines}
+use Rattle.model_lines.specs.Printing.{line, pair_line}
+use Rattle.model_lines.specs.Reading.{Entry}
 use Rattle.watch_core.specs.declared.ending.WatchEnd.{WatchEnd}
 use Rattle.text_commands.specs.Firings.{firing_lines, firing_text}
 use Rattle.text_commands.specs.Scenes.{firing_of}

@@ -1,11 +1,11 @@
 -- What `watch` makes of its input: when each watch fires, over the database that the commits make.
 use Rattle.std.specs.Prelude.{◌≡◌, ℕ, ◌+◌, List, [], ◌∷◌, ◌++◌, take, codes, decimal, Option, Some, None}
 use Rattle.std.specs.FinMap as finite
-use Rattle.database_rules.specs.Databases.{Database, Mutation, Set, Clear, do_all}
-use Rattle.line_rules.specs.Printing as printing
-use Rattle.event_rules.specs.declared.event.Event.{Event}
-use Rattle.event_rules.specs.declared.event.Event.TheVariants as event
-use Rattle.event_rules.specs.Events.{AreEventsOf}
+use Rattle.model_database.specs.Databases.{Database, Mutation, Set, Clear, do_all}
+use Rattle.model_lines.specs.Printing as printing
+use Rattle.model_events.specs.declared.event.Event.{Event}
+use Rattle.model_events.specs.declared.event.Event.TheVariants as event
+use Rattle.model_events.specs.Events.{AreEventsOf}
 use Rattle.watch_core.specs.Firing.{FiresAt}
 
 -- the commits among events, in their order, each of one mutation

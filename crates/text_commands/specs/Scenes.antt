@@ -1,9 +1,9 @@
 -- A store and the watches on it, while events happen.
 use Rattle.std.specs.Prelude.{◌≡◌, ℕ, ◌+◌, ◌^◌, ◌<◌, List, [], ◌∷◌, ◌++◌, length, map, Option, Some, None}
 use Rattle.std.specs.List.{All}
-use Rattle.database_rules.specs.Databases.{Database, put}
-use Rattle.event_rules.specs.declared.event.Event.{Event}
-use Rattle.event_rules.specs.declared.event.Event.TheVariants as event
+use Rattle.model_database.specs.Databases.{Database, put}
+use Rattle.model_events.specs.declared.event.Event.{Event}
+use Rattle.model_events.specs.declared.event.Event.TheVariants as event
 use Rattle.atomic_table.specs.Seated.{TableId}
 use Rattle.future_cell.specs.Cells.{waiter_cell}
 use Rattle.version_store.specs.Versions.{at, last_of}

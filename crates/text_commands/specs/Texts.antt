@@ -1,11 +1,11 @@
 -- What `asm` and `disasm` make of their input.
 use Rattle.std.specs.Prelude.{◌≡◌, ℕ, List, []}
-use Rattle.line_rules.specs.Inputs.{pair_lines}
-use Rattle.line_rules.specs.Reading.{Entry}
+use Rattle.model_lines.specs.Inputs.{pair_lines}
+use Rattle.model_lines.specs.Reading.{Entry}
 use Rattle.dump_text.specs.Reading.{Fails}
-use Rattle.input_rules.specs.declared.input.Form.TheVariants as form
-use Rattle.input_rules.specs.declared.input.Input.{Input}
-use Rattle.input_rules.specs.Forms.{input_of, IsInputOf}
+use Rattle.model_input.specs.declared.input.Form.TheVariants as form
+use Rattle.model_input.specs.declared.input.Input.{Input}
+use Rattle.model_input.specs.Forms.{input_of, IsInputOf}
 use Rattle.instr_grammar.specs.Texts.{Section, AreSections, IsTextOf, asm, text_of}
 use Rattle.instr_text.specs.declared.fault.DisFault.TheVariants as faults
 use Rattle.instr_text.specs.Taken.{IsFirstBad}

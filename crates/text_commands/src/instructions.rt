@@ -1,8 +1,8 @@
 //! Instruction text, both ways.
 
 ghost use Rattle.std.specs.Prelude.{◌≡◌, ℕ, List, ◌<◌, ◌++◌, length, IfOk, IfErr, OnOk};
-ghost use Rattle.line_rules.specs.Inputs.{pair_lines};
-ghost use Rattle.line_rules.specs.Reading.{input_limit};
+ghost use Rattle.model_lines.specs.Inputs.{pair_lines};
+ghost use Rattle.model_lines.specs.Reading.{input_limit};
 ghost use Rattle.dump_text.specs.Reading.{Fails};
 ghost use Rattle.instr_grammar.specs.Lines.{assembled};
 ghost use Rattle.text_commands.specs.Texts.{IsAssembled, IsDisassembled, IsDisasmFault};

@@ -2,7 +2,7 @@
 //!
 //! Each takes the bytes of its input and returns the bytes of its output, or the first fault of the input. What a command
 //! makes of an input is a relation of the two (`specs/Firings.antt` for watches, `specs/Texts.antt` for instruction text), and
-//! which fault comes is that of the readers: `event_rules`, `instr_grammar` and `input_rules`.
+//! which fault comes is that of the readers: `model_events`, `instr_grammar` and `model_input`.
 #![tactic(auto)]
 
 mod fault;

@@ -1,16 +1,16 @@
 //! A store, the watches on it, and their waiters, while events happen.
 
 ghost use Rattle.std.specs.Prelude.{◌≡◌, ℕ, List, ◌+◌, ◌^◌, ◌<◌, ◌∷◌, ◌++◌, [], map, IfOk, OnOk, Some, None};
-ghost use Rattle.event_rules.specs.declared.event.Event.{Event};
+ghost use Rattle.model_events.specs.declared.event.Event.{Event};
 ghost use Rattle.future_cell.specs.Cells.{receipt_cell, value_set, waiter_cell};
 ghost use Rattle.version_store.specs.Versions.{at, last_of};
 ghost use Rattle.watch_core.specs.Watching.{pending_count, AreCurrent};
 ghost use Rattle.text_commands.specs.Firings.{history_of, made_from, AreFirings};
 ghost use Rattle.text_commands.specs.Scenes.{firing_of, HasCommitted, HasRoomFor, HasWatched, StandsAt};
 
-use event_rules::Event;
 use future_cell::{Call, Waiter, settle};
 use key_bytes::{Key, Pair};
+use model_events::Event;
 use std::alloc::{AllocError, Global};
 use std::slice;
 use version_store::{Change, Changes, Store};

@@ -1,12 +1,12 @@
 //! The command `watch`: when each watch fires.
 
 ghost use Rattle.std.specs.Prelude.{◌≡◌, ℕ, List, ◌+◌, ◌^◌, ◌<◌, ◌≤◌, ◌∷◌, ◌++◌, [], codes, count_by, decimal, length, map, IfOk, IfErr, OnOk};
-ghost use Rattle.line_rules.specs.Printing.{line};
-ghost use Rattle.line_rules.specs.Reading.{input_limit};
+ghost use Rattle.model_lines.specs.Printing.{line};
+ghost use Rattle.model_lines.specs.Reading.{input_limit};
 ghost use Rattle.dump_text.specs.Reading.{Fails};
 ghost use Rattle.dump_text.specs.declared.fault.LineFault.TheVariants.{NoMemory};
-ghost use Rattle.event_rules.specs.declared.event.Event.{Event};
-ghost use Rattle.event_rules.specs.Events.{events_of, is_watch_event, AreEventsOf};
+ghost use Rattle.model_events.specs.declared.event.Event.{Event};
+ghost use Rattle.model_events.specs.Events.{events_of, is_watch_event, AreEventsOf};
 ghost use Rattle.text_commands.specs.Firings.{firing_lines, firing_text, history_of, made_from, AreFirings, IsWatched};
 ghost use Rattle.text_commands.specs.Scenes.{firing_of};
 

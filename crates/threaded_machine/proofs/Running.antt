@@ -20,11 +20,11 @@ use Rattle.network.specs.declared.post.Post.TheVariants.{Ask}
 use Rattle.network.specs.Posts.{asked_by, asked_in, cell_by, cells_in, is_over, overs_in}
 use Rattle.network.specs.Pairing.{AsksFor}
 use Rattle.network.specs.Clients.{client_line, client_machine}
-use Rattle.machine_rules.specs.declared.MachineOptions.{MachineOptions}
-use Rattle.machine_rules.specs.Machines.{Machine, Progress, resumed, silent}
-use Rattle.machine_rules.specs.Runs.{at_rest, start_prefix, started_by}
-use Rattle.thread_laws.specs.Alone.{IsAlone, after_reply, anew, asked_over, begun_as}
-use Rattle.thread_laws.proofs.Alone.{after_reply-anew, one_more}
+use Rattle.model_machine.specs.declared.MachineOptions.{MachineOptions}
+use Rattle.model_machine.specs.Machines.{Machine, Progress, resumed, silent}
+use Rattle.model_machine.specs.Runs.{at_rest, start_prefix, started_by}
+use Rattle.laws_threads.specs.Alone.{IsAlone, after_reply, anew, asked_over, begun_as}
+use Rattle.laws_threads.proofs.Alone.{after_reply-anew, one_more}
 use Rattle.suspended_machine.specs.declared.suspended.SuspendedMachine.{SuspendedMachine}
 use Rattle.suspended_machine.specs.SuspendedMachines.{progress_of, IsSuspended}
 use Rattle.threaded_machine.specs.declared.threaded.ThreadedMachine.{ThreadedMachine}

@@ -14,10 +14,10 @@ use Rattle.network.specs.Posts.{asked_in, cells_in, overs_in}
 use Rattle.network.specs.Pairing.{AsksFor}
 use Rattle.network.specs.Serving.{started_by as starts_in}
 use Rattle.network.specs.Clients.{client_machine, client_line, client_history}
-use Rattle.machine_rules.specs.declared.MachineOptions.{MachineOptions}
-use Rattle.machine_rules.specs.Machines.{Machine, Progress}
-use Rattle.machine_rules.specs.Runs.{start_prefix, started_by}
-use Rattle.thread_laws.specs.Alone.{IsAlone, anew, begun_as}
+use Rattle.model_machine.specs.declared.MachineOptions.{MachineOptions}
+use Rattle.model_machine.specs.Machines.{Machine, Progress}
+use Rattle.model_machine.specs.Runs.{start_prefix, started_by}
+use Rattle.laws_threads.specs.Alone.{IsAlone, anew, begun_as}
 use Rattle.suspended_machine.specs.declared.suspended.SuspendedMachine.{SuspendedMachine}
 use Rattle.suspended_machine.specs.SuspendedMachines.{progress_of, IsSuspended}
 use Rattle.threaded_machine.specs.declared.threaded.ThreadedMachine.{ThreadedMachine}

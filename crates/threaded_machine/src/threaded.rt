@@ -8,9 +8,9 @@ ghost use Rattle.request_line.specs.History.{upper_half, lower_half, AreTogether
 ghost use Rattle.request_line.specs.Line.{history, sender_line};
 ghost use Rattle.network.specs.Serving.{is_started, started_by as starts_in};
 ghost use Rattle.network.specs.Clients.{client_history, client_line, client_machine};
-ghost use Rattle.machine_rules.specs.Machines.{resumed};
-ghost use Rattle.machine_rules.specs.Runs.{at_rest, start_prefix, started_by};
-ghost use Rattle.thread_laws.specs.Alone.{begun_as};
+ghost use Rattle.model_machine.specs.Machines.{resumed};
+ghost use Rattle.model_machine.specs.Runs.{at_rest, start_prefix, started_by};
+ghost use Rattle.laws_threads.specs.Alone.{begun_as};
 ghost use Rattle.suspended_machine.specs.SuspendedMachines.{progress_of, Awaits, IsSuspended};
 ghost use Rattle.threaded_machine.specs.Threaded.{history_of, machine_in, replies_to, overs_of, starts_to, owed_by, owed_of, HasEnded, IsLater, IsRunning, IsStartedBy};
 

@@ -17,15 +17,15 @@ use Rattle.network.specs.Clients.{client_line}
 use Rattle.network.specs.Posts.{asking_in, cells_in, overs_in, posts_of}
 use Rattle.network.specs.Serving.{Serves, cells_of, posts_since, taken_since}
 use Rattle.client_core.specs.Stands.{StandsFor}
-use Rattle.command_rules.specs.declared.args.RunArgs.{RunArgs}
+use Rattle.model_commands.specs.declared.args.RunArgs.{RunArgs}
 use Rattle.suspended_machine.specs.declared.suspended.SuspendedMachine.{SuspendedMachine}
 use Rattle.threaded_machine.specs.declared.threaded.ThreadedMachine.{ThreadedMachine}
 use Rattle.threaded_machine.specs.Threaded.{history_of}
 use Rattle.machine_threads.specs.Teams.{IsTeamOf}
 use Rattle.machine_threads.specs.Closing.{AreSettled}
-use Rattle.threaded_run_laws.specs.declared.service.CoreService.{CoreService}
-use Rattle.threaded_run_laws.specs.Gathering.{GatherToARun, HasRun}
-use Rattle.threaded_run_laws.specs.Serving.{CoreAnswers}
+use Rattle.core_service.specs.declared.service.CoreService.{CoreService}
+use Rattle.core_service.specs.Gathering.{GatherToARun, HasRun}
+use Rattle.core_service.specs.Serving.{CoreAnswers}
 use Rattle.machine_runs.specs.declared.running.Ended.{Ended}
 use Rattle.threaded_runs.specs.declared.threading.Answered.{Answered}
 use Rattle.machine_runs.specs.Driving.{Ends, EndsFrom, IsAtStart}

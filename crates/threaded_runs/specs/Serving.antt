@@ -7,8 +7,8 @@ use Rattle.request_line.specs.Line.{closed, history, receiver_line, sender_line,
 use Rattle.network.specs.declared.post.Post.{Post}
 use Rattle.network.specs.Posts.{overs_in}
 use Rattle.network.specs.Serving.{Serves, posts_since, replies_of, started_by, taken_since}
-use Rattle.threaded_run_laws.specs.declared.service.CoreService.{CoreService}
-use Rattle.threaded_run_laws.specs.Serving.{CoreAnswers}
+use Rattle.core_service.specs.declared.service.CoreService.{CoreService}
+use Rattle.core_service.specs.Serving.{CoreAnswers}
 use Rattle.threaded_runs.specs.declared.threading.Answered.{Answered}
 use Rattle.threaded_runs.specs.declared.threading.Back.{Back}
 use Rattle.threaded_runs.specs.declared.threading.Back.TheVariants as back

@@ -4,7 +4,7 @@ ghost use Rattle.std.specs.Prelude.{◌≡◌, [], length, map, true, None, IfOk
 ghost use Rattle.std.specs.List.{All};
 ghost use Rattle.outside.specs.Seeds.{words_from};
 ghost use Rattle.suspended_machine.specs.SuspendedMachines.{progress_of, IsSuspended};
-ghost use Rattle.thread_laws.specs.Alone.{begun_as};
+ghost use Rattle.laws_threads.specs.Alone.{begun_as};
 ghost use Rattle.request_line.specs.History.{CoverAllNumbers};
 ghost use Rattle.request_line.specs.Line.{closed, receiver_line, taken};
 ghost use Rattle.network.specs.Clients.{client_line};
@@ -18,6 +18,7 @@ ghost use Rattle.threaded_runs.specs.Serving.{CameBack, IsFresh, IsNetworkOf, Is
 
 use client_core::Core;
 use command_words::RunArgs;
+use core_service::{CoreService, threads_gather_to_a_run};
 use key_bytes::Pairs;
 use machine_runs::{Ended, Rendered, first_suspended, rendered_of, run_by_turns};
 use machine_threads::{ThreadedMachine, run_machine, settle_machines};
@@ -31,7 +32,6 @@ use std::sync::{Arc, Wait};
 use std::thread;
 use std::thread::{Promise, PromisedHandle, Threads};
 use suspended_machine::SuspendedMachine;
-use threaded_run_laws::{CoreService, threads_gather_to_a_run};
 
 /// How many posts may wait in the line.
 const LINE: usize = 64;

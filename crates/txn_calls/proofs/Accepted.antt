@@ -1,6 +1,6 @@
 -- What a call comes to that no check refuses.
 use Rattle.std.proofs.Common.{◌≡◌, ℕ, Option, None, refl, sym, subst}
-use Rattle.database_rules.specs.Transactions.{Transaction}
+use Rattle.model_database.specs.Transactions.{Transaction}
 use Rattle.fdb_calls.specs.declared.Reply.{Reply}
 use Rattle.fdb_calls.specs.Calling.{does_by}
 use Rattle.txn_calls.specs.Stands.{Kept, StandsFor}

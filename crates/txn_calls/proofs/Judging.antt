@@ -5,18 +5,18 @@ use Rattle.std.proofs.lemmas.Bool.Decides.{same_from_decides}
 use Rattle.std.specs.Prelude.{if◌then◌else◌}
 use Rattle.key_bytes.specs.declared.range.KeyRange.{KeyRange}
 use Rattle.key_bytes.specs.Keys.{within}
-use Rattle.database_rules.specs.States.{range_from}
-use Rattle.database_rules.specs.Histories.{History, conflicts}
-use Rattle.database_rules.specs.Newest.{newest_of}
-use Rattle.database_rules.proofs.Conflicts.{conflicts-append, conflicts_by_keys, conflicts_decides}
-use Rattle.database_rules.proofs.Conflicts.{HasNewerKey}
-use Rattle.database_rules.proofs.Ranges.{covers_single}
+use Rattle.model_database.specs.States.{range_from}
+use Rattle.model_database.specs.Histories.{History, conflicts}
+use Rattle.model_database.specs.Newest.{newest_of}
+use Rattle.model_database.proofs.Conflicts.{conflicts-append, conflicts_by_keys, conflicts_decides}
+use Rattle.model_database.proofs.Conflicts.{HasNewerKey}
+use Rattle.model_database.proofs.Ranges.{covers_single}
 use Rattle.conflict_ranges.specs.Writes.{newest_at, above, Index}
-use Rattle.database_rules.specs.declared.Phase.{Phase}
-use Rattle.database_rules.specs.declared.Phase.TheVariants as phase
-use Rattle.database_rules.specs.Transactions.{Transaction, first_failing, commit_code, version_in, is_ahead, is_behind}
-use Rattle.database_rules.specs.declared.TheConstants.{FUTURE_VERSION, NOT_COMMITTED, TRANSACTION_TOO_OLD}
-use Rattle.database_rules.specs.Histories.{Setting, low}
+use Rattle.model_database.specs.declared.Phase.{Phase}
+use Rattle.model_database.specs.declared.Phase.TheVariants as phase
+use Rattle.model_database.specs.Transactions.{Transaction, first_failing, commit_code, version_in, is_ahead, is_behind}
+use Rattle.model_database.specs.declared.TheConstants.{FUTURE_VERSION, NOT_COMMITTED, TRANSACTION_TOO_OLD}
+use Rattle.model_database.specs.Histories.{Setting, low}
 use Rattle.version_store.specs.Versions.{Versions}
 use Rattle.txn_calls.specs.Accesses.{version_of, version_code}
 use Rattle.txn_calls.proofs.Views.{version_code_same, version_same}

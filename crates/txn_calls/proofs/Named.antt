@@ -1,14 +1,14 @@
 -- Atomic operations by their names, and the room of stamped ones.
 use Rattle.std.proofs.Common.{◌≡◌, ℕ, Bool, true, false, List, [], ◌∷◌, Option, Some, None, Result, Err, refl, sym, ap, subst, ◌∙◌}
-use Rattle.database_rules.specs.declared.Api.{Api}
-use Rattle.database_rules.specs.declared.AtomicOp.{AtomicOp}
-use Rattle.database_rules.specs.declared.Code.{Code}
-use Rattle.database_rules.specs.declared.Phase.{Phase}
-use Rattle.database_rules.specs.declared.Phase.TheVariants as phase
-use Rattle.database_rules.specs.declared.TheConstants.{CLIENT_INVALID_OPERATION, INVALID_MUTATION_TYPE}
-use Rattle.database_rules.specs.Databases.{Atomic}
-use Rattle.database_rules.specs.Transactions.{first_failing, after_phase, key_checks, key_asked, lacks_room, named_checks, op_code, atomic_code}
-use Rattle.database_rules.specs.Atomics.{atomic_named}
+use Rattle.model_database.specs.declared.Api.{Api}
+use Rattle.model_database.specs.declared.AtomicOp.{AtomicOp}
+use Rattle.model_database.specs.declared.Code.{Code}
+use Rattle.model_database.specs.declared.Phase.{Phase}
+use Rattle.model_database.specs.declared.Phase.TheVariants as phase
+use Rattle.model_database.specs.declared.TheConstants.{CLIENT_INVALID_OPERATION, INVALID_MUTATION_TYPE}
+use Rattle.model_database.specs.Databases.{Atomic}
+use Rattle.model_database.specs.Transactions.{first_failing, after_phase, key_checks, key_asked, lacks_room, named_checks, op_code, atomic_code}
+use Rattle.model_database.specs.Atomics.{atomic_named}
 use Rattle.fdb_calls.specs.declared.fault.TrFault.{TrFault}
 use Rattle.fdb_calls.specs.declared.fault.TrFault.TheVariants as fault
 use Rattle.txn_calls.specs.Stands.{Kept}

@@ -5,16 +5,16 @@ use Rattle.std.specs.Prelude.{if◌then◌else◌}
 use Rattle.key_bytes.specs.declared.range.KeyRange.{KeyRange}
 use Rattle.key_bytes.specs.Keys.{key_lt}
 use Rattle.key_bytes.specs.Ranges.{has}
-use Rattle.database_rules.specs.declared.Phase.{Phase}
-use Rattle.database_rules.specs.declared.Phase.TheVariants as phase
-use Rattle.database_rules.specs.Databases.{Mutation}
-use Rattle.database_rules.specs.Reads.{Read, Answer, answer}
-use Rattle.database_rules.specs.States.{covers, filled, all_filled}
-use Rattle.database_rules.specs.Histories.{Setting, write_range, write_conflicts_by}
-use Rattle.database_rules.specs.Transactions.{Transaction, writes_of, write_conflicts_of, is_tried, grown, mutation_size, range_size, with_range, version_in, with_version, with_read, with_mutation, with_read_range, with_write_range, with_write_conflict_disabled, with_phase, cancelled}
-use Rattle.database_rules.proofs.States.{covers-append, filled-append}
-use Rattle.database_rules.proofs.Ranges.{covers_with_range}
-use Rattle.database_rules.proofs.AddingConflicts.{written_wrote, written_read, write_conflicts_wrote, write_conflicts_read}
+use Rattle.model_database.specs.declared.Phase.{Phase}
+use Rattle.model_database.specs.declared.Phase.TheVariants as phase
+use Rattle.model_database.specs.Databases.{Mutation}
+use Rattle.model_database.specs.Reads.{Read, Answer, answer}
+use Rattle.model_database.specs.States.{covers, filled, all_filled}
+use Rattle.model_database.specs.Histories.{Setting, write_range, write_conflicts_by}
+use Rattle.model_database.specs.Transactions.{Transaction, writes_of, write_conflicts_of, is_tried, grown, mutation_size, range_size, with_range, version_in, with_version, with_read, with_mutation, with_read_range, with_write_range, with_write_conflict_disabled, with_phase, cancelled}
+use Rattle.model_database.proofs.States.{covers-append, filled-append}
+use Rattle.model_database.proofs.Ranges.{covers_with_range}
+use Rattle.model_database.proofs.AddingConflicts.{written_wrote, written_read, write_conflicts_wrote, write_conflicts_read}
 use Rattle.txn_parts.proofs.Units.{and_false, and_true, or_false}
 use Rattle.txn_calls.specs.Stands.{Kept, SameMutations, StandsFor, write_conflicts_among}
 use Rattle.txn_calls.specs.Accesses.{StandsWritten}

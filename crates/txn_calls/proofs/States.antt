@@ -4,9 +4,9 @@ use Rattle.std.specs.Prelude.{◌||◌}
 use Rattle.std.specs.FinMap as finite
 use Rattle.std.specs.Cmp.Lexicographic.{nat_list_cmp_total}
 use Rattle.std.proofs.lemmas.Map.Lookups.{exact_bytes}
-use Rattle.database_rules.specs.Databases.{Database, Mutation, do_all}
-use Rattle.database_rules.specs.States.{Unmodified, states_after, state_under, value_in, covers, all_filled, unreadable}
-use Rattle.database_rules.proofs.States.{get-under, states_after-append, filled-append, covers-unreadable-append}
+use Rattle.model_database.specs.Databases.{Database, Mutation, do_all}
+use Rattle.model_database.specs.States.{Unmodified, states_after, state_under, value_in, covers, all_filled, unreadable}
+use Rattle.model_database.proofs.States.{get-under, states_after-append, filled-append, covers-unreadable-append}
 use Rattle.txn_calls.specs.Stands.{SameMutations}
 
 -- two lists of mutations lead from each map to the same map

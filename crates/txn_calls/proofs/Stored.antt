@@ -5,13 +5,13 @@ use Rattle.std.specs.Option.{option_map_or}
 use Rattle.std.specs.FinMap as finite
 use Rattle.std.proofs.lemmas.Bool.{cases_lt}
 use Rattle.std.proofs.lemmas.List.{take_min, take_all, take-append-le}
-use Rattle.database_rules.specs.Databases.{Database, do_all}
-use Rattle.database_rules.specs.Histories.{Commit, History, Setting, grown_by, after_commits, at, last, low, lowest}
+use Rattle.model_database.specs.Databases.{Database, do_all}
+use Rattle.model_database.specs.Histories.{Commit, History, Setting, grown_by, after_commits, at, last, low, lowest}
 use Rattle.version_store.specs.Versions.{Versions, last_of, oldest_of}
 use Rattle.version_store.specs.Versions as versions
-use Rattle.database_rules.specs.States.{covers}
-use Rattle.database_rules.specs.Newest.{newest_of}
-use Rattle.database_rules.proofs.Newest.{newest_push}
+use Rattle.model_database.specs.States.{covers}
+use Rattle.model_database.specs.Newest.{newest_of}
+use Rattle.model_database.proofs.Newest.{newest_push}
 use Rattle.conflict_ranges.specs.Writes.{newest_at, above, Index}
 use Rattle.txn_calls.specs.Stands.{Keeps}
 

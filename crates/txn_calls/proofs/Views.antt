@@ -4,16 +4,16 @@ use Rattle.std.proofs.lemmas.Bool.{ltb-false}
 use Rattle.std.specs.Prelude.{unwrap_or, nat_lt}
 use Rattle.std.specs.FinMap as finite
 use Rattle.key_bytes.specs.declared.range.KeyRange.{KeyRange}
-use Rattle.database_rules.specs.declared.Code.{Code}
-use Rattle.database_rules.specs.declared.TheConstants.{ACCESSED_UNREADABLE, FUTURE_VERSION, TRANSACTION_TOO_OLD}
-use Rattle.database_rules.specs.Databases.{Database, Mutation}
-use Rattle.database_rules.specs.States.{covers, seen, unreadable}
-use Rattle.database_rules.specs.Intervals.{any_meet, added, decided, interval, without}
-use Rattle.database_rules.specs.Reads.{Read, Answer, answer}
-use Rattle.database_rules.specs.Histories.{Setting, at, low}
-use Rattle.database_rules.specs.Transactions.{Transaction, writes_of, version_in, map_below, view, is_ahead, is_behind, is_hidden, is_read_outside, first_failing, with_version, read_code}
-use Rattle.database_rules.proofs.Ranges.{covers_without, meet_by_keys}
-use Rattle.database_rules.proofs.Deciding.{is_decided, decided_is}
+use Rattle.model_database.specs.declared.Code.{Code}
+use Rattle.model_database.specs.declared.TheConstants.{ACCESSED_UNREADABLE, FUTURE_VERSION, TRANSACTION_TOO_OLD}
+use Rattle.model_database.specs.Databases.{Database, Mutation}
+use Rattle.model_database.specs.States.{covers, seen, unreadable}
+use Rattle.model_database.specs.Intervals.{any_meet, added, decided, interval, without}
+use Rattle.model_database.specs.Reads.{Read, Answer, answer}
+use Rattle.model_database.specs.Histories.{Setting, at, low}
+use Rattle.model_database.specs.Transactions.{Transaction, writes_of, version_in, map_below, view, is_ahead, is_behind, is_hidden, is_read_outside, first_failing, with_version, read_code}
+use Rattle.model_database.proofs.Ranges.{covers_without, meet_by_keys}
+use Rattle.model_database.proofs.Deciding.{is_decided, decided_is}
 use Rattle.conflict_ranges.specs.Writes.{Index}
 use Rattle.fdb_calls.specs.declared.fault.TrFault.{TrFault}
 use Rattle.fdb_calls.specs.declared.fault.TrFault.TheVariants as fault

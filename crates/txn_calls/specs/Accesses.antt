@@ -1,14 +1,14 @@
 -- What one read and one write of a transaction of the code do.
 use Rattle.std.specs.Prelude.{◌≡◌, ◌⊎◌, ℕ, Bool, true, false, ◌||◌, List, [], ◌∷◌, Option, Some, None, Result, Ok, Err, max, min, nat_lt, unwrap_or}
 use Rattle.key_bytes.specs.declared.range.KeyRange.{KeyRange}
-use Rattle.database_rules.specs.declared.AtomicOp.{AtomicOp}
-use Rattle.database_rules.specs.declared.TheConstants.{ACCESSED_UNREADABLE, EXACT_MODE_WITHOUT_LIMITS, FUTURE_VERSION, KEY_OUTSIDE_LEGAL_RANGE, TRANSACTION_TOO_OLD}
-use Rattle.database_rules.specs.Databases.{Database, Mutation, Atomic}
-use Rattle.database_rules.specs.States.{covers, seen, unreadable}
-use Rattle.database_rules.specs.Intervals.{any_meet, decided, without}
-use Rattle.database_rules.specs.Histories.{Setting}
-use Rattle.database_rules.specs.Reads.{Read, Answer}
-use Rattle.database_rules.specs.Transactions.{Transaction, first_failing, after_phase, with_mutation}
+use Rattle.model_database.specs.declared.AtomicOp.{AtomicOp}
+use Rattle.model_database.specs.declared.TheConstants.{ACCESSED_UNREADABLE, EXACT_MODE_WITHOUT_LIMITS, FUTURE_VERSION, KEY_OUTSIDE_LEGAL_RANGE, TRANSACTION_TOO_OLD}
+use Rattle.model_database.specs.Databases.{Database, Mutation, Atomic}
+use Rattle.model_database.specs.States.{covers, seen, unreadable}
+use Rattle.model_database.specs.Intervals.{any_meet, decided, without}
+use Rattle.model_database.specs.Histories.{Setting}
+use Rattle.model_database.specs.Reads.{Read, Answer}
+use Rattle.model_database.specs.Transactions.{Transaction, first_failing, after_phase, with_mutation}
 use Rattle.fdb_calls.specs.declared.fault.TrFault.{TrFault}
 use Rattle.fdb_calls.specs.declared.fault.TrFault.TheVariants as fault
 use Rattle.fdb_calls.specs.Answers.{Answered}

@@ -1,12 +1,12 @@
 -- What the checks of a commit come to, and what handling an error does.
 use Rattle.std.specs.Prelude.{◌≡◌, ◌⊎◌, ℕ, ◌<◌, ◌^◌, ⊤, true, false, Option, Some, None, Result, Ok, Err}
-use Rattle.database_rules.specs.declared.Code.{Code}
-use Rattle.database_rules.specs.declared.Phase.{Phase}
-use Rattle.database_rules.specs.declared.Phase.TheVariants as phase
-use Rattle.database_rules.specs.declared.Tried.{Tried}
-use Rattle.database_rules.specs.declared.Tried.TheVariants as tried
-use Rattle.database_rules.specs.Histories.{Setting}
-use Rattle.database_rules.specs.Transactions.{Transaction, first_failing, phase_code, commit_code, conflict_checks, is_read_only, with_version}
+use Rattle.model_database.specs.declared.Code.{Code}
+use Rattle.model_database.specs.declared.Phase.{Phase}
+use Rattle.model_database.specs.declared.Phase.TheVariants as phase
+use Rattle.model_database.specs.declared.Tried.{Tried}
+use Rattle.model_database.specs.declared.Tried.TheVariants as tried
+use Rattle.model_database.specs.Histories.{Setting}
+use Rattle.model_database.specs.Transactions.{Transaction, first_failing, phase_code, commit_code, conflict_checks, is_read_only, with_version}
 use Rattle.fdb_calls.specs.declared.fault.TrFault.{TrFault}
 use Rattle.fdb_calls.specs.declared.fault.TrFault.TheVariants as fault
 use Rattle.fdb_calls.specs.declared.Reply.TheVariants as reply

@@ -1,6 +1,6 @@
 -- What the writes of entries come to.
 use Rattle.std.specs.Prelude.{◌≡◌, ℕ, List, ⊤, Result, Ok, Err}
-use Rattle.database_rules.specs.Transactions.{Transaction}
+use Rattle.model_database.specs.Transactions.{Transaction}
 use Rattle.fdb_calls.specs.declared.fault.TrFault.{TrFault}
 use Rattle.fdb_calls.specs.declared.fault.TrFault.TheVariants as fault
 use Rattle.fdb_calls.specs.declared.Reply.TheVariants as reply

@@ -1,10 +1,10 @@
 -- What is kept of a transaction stands for it.
 use Rattle.std.specs.Prelude.{◌≡◌, ℕ, Bool, true, false, ◌&&◌, List, [], ◌∷◌, ◌++◌, length, nat_lt, refl}
 use Rattle.std.proofs.Common.{ap, sym, subst, ◌∙◌}
-use Rattle.database_rules.specs.States.{covers, filled, all_filled}
-use Rattle.database_rules.specs.Histories.{Script, Wrote, HasRead, Granted, written, write_range, write_conflicts_by}
-use Rattle.database_rules.specs.Transactions.{Transaction, writes_of, with_granted}
-use Rattle.database_rules.proofs.AddingConflicts.{written_granted, write_conflicts_granted}
+use Rattle.model_database.specs.States.{covers, filled, all_filled}
+use Rattle.model_database.specs.Histories.{Script, Wrote, HasRead, Granted, written, write_range, write_conflicts_by}
+use Rattle.model_database.specs.Transactions.{Transaction, writes_of, with_granted}
+use Rattle.model_database.proofs.AddingConflicts.{written_granted, write_conflicts_granted}
 use Rattle.txn_calls.specs.Stands.{Kept, SameMutations, StandsFor, write_conflicts_among}
 
 -- of each mutation of a script whether it has a write conflict range

@@ -1,12 +1,12 @@
 -- What a transaction of the code, and a store, stand for.
 use Rattle.std.specs.Prelude.{◌≡◌, ℕ, ◌≤◌, ◌⊎◌, Bool, true, false, ◌&&◌, List, [], ◌∷◌, ◌++◌, length, nat_lt, Option}
 use Rattle.key_bytes.specs.declared.range.KeyRange.{KeyRange}
-use Rattle.database_rules.specs.declared.Phase.{Phase}
-use Rattle.database_rules.specs.Databases.{Mutation}
-use Rattle.database_rules.specs.Histories.{Setting, at, last, low}
-use Rattle.database_rules.specs.Newest.{newest_of}
-use Rattle.database_rules.specs.States.{covers, state_under, all_filled, unreadable}
-use Rattle.database_rules.specs.Transactions.{Transaction, writes_of, write_conflicts_of, is_read_only, with_version}
+use Rattle.model_database.specs.declared.Phase.{Phase}
+use Rattle.model_database.specs.Databases.{Mutation}
+use Rattle.model_database.specs.Histories.{Setting, at, last, low}
+use Rattle.model_database.specs.Newest.{newest_of}
+use Rattle.model_database.specs.States.{covers, state_under, all_filled, unreadable}
+use Rattle.model_database.specs.Transactions.{Transaction, writes_of, write_conflicts_of, is_read_only, with_version}
 use Rattle.conflict_ranges.specs.Writes.{newest_at, above, Index}
 use Rattle.version_store.specs.Versions.{Versions, last_of, oldest_of}
 use Rattle.version_store.specs.Versions as versions

@@ -1,9 +1,9 @@
 //! The checks of a commit, and what became of it.
 
 ghost use Rattle.std.specs.Prelude.{◌≡◌, ◌≤◌, option_map, OnOk};
-ghost use Rattle.database_rules.specs.declared.Phase.TheVariants as phase;
-ghost use Rattle.database_rules.specs.Histories.{Setting, conflicts, low};
-ghost use Rattle.database_rules.specs.Transactions as rules;
+ghost use Rattle.model_database.specs.declared.Phase.TheVariants as phase;
+ghost use Rattle.model_database.specs.Histories.{Setting, conflicts, low};
+ghost use Rattle.model_database.specs.Transactions as rules;
 ghost use Rattle.fdb_calls.specs.Calling.{commit_refused};
 ghost use Rattle.version_store.specs.Versions.{Versions};
 ghost use Rattle.txn_calls.specs.Judging.{Judged, IsLow, conflict_refusal};
@@ -12,8 +12,8 @@ ghost use Rattle.txn_calls.specs.Stands.{Keeps, StandsFor, is_bare};
 use crate::txn::Txn;
 use crate::verdict::Verdict;
 use conflict_ranges::WriteIndex;
-use database_rules::{Code, NOT_COMMITTED, Phase, Tried};
 use fdb_calls::TrFault;
+use model_database::{Code, NOT_COMMITTED, Phase, Tried};
 use txn_parts::commit_code;
 use version_store::Store;
 

@@ -2,14 +2,14 @@
 
 ghost use Rattle.std.specs.Prelude.{◌≡◌, ◌+◌, ◌++◌, ◌∷◌, ◌^◌, ◌<◌, ℕ, List, true, [], if◌then◌else◌, IfOk, IfSome, OnOk, OnErr};
 ghost use Rattle.std.specs.List.{All};
-ghost use Rattle.database_rules.specs.declared.Phase.TheVariants as phase;
-ghost use Rattle.database_rules.specs.declared.Tried.TheVariants as tried;
-ghost use Rattle.database_rules.specs.Databases.{do_all};
-ghost use Rattle.database_rules.specs.Histories.{Setting, grown_by, stamp_of};
-ghost use Rattle.database_rules.specs.Intervals.{one};
-ghost use Rattle.database_rules.specs.KeyByKey.{is_modified_by};
-ghost use Rattle.database_rules.specs.States.{all_filled, covers};
-ghost use Rattle.database_rules.specs.Transactions as rules;
+ghost use Rattle.model_database.specs.declared.Phase.TheVariants as phase;
+ghost use Rattle.model_database.specs.declared.Tried.TheVariants as tried;
+ghost use Rattle.model_database.specs.Databases.{do_all};
+ghost use Rattle.model_database.specs.Histories.{Setting, grown_by, stamp_of};
+ghost use Rattle.model_database.specs.Intervals.{one};
+ghost use Rattle.model_database.specs.KeyByKey.{is_modified_by};
+ghost use Rattle.model_database.specs.States.{all_filled, covers};
+ghost use Rattle.model_database.specs.Transactions as rules;
 ghost use Rattle.conflict_ranges.specs.Writes.{above, newest_at};
 ghost use Rattle.fdb_calls.specs.Calling.{commit_of, next_version};
 ghost use Rattle.version_store.specs.Changed.{changed};
@@ -20,8 +20,8 @@ ghost use Rattle.txn_calls.specs.Stands.{Keeps, StandsFor, write_conflicts_in};
 
 use crate::txn::Txn;
 use conflict_ranges::{RangeSet, WriteIndex};
-use database_rules::{DatabaseOptions, Tried};
 use key_bytes::{Key, KeyRange};
+use model_database::{DatabaseOptions, Tried};
 use std::alloc::AllocError;
 use txn_parts::{changes_at_last, only_set, push_ranges, push_written, stamp_of};
 use version_store::{Changes, Store};

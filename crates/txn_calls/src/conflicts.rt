@@ -3,7 +3,7 @@
 ghost use Rattle.std.specs.Prelude.{◌≡◌, ◌||◌, ◌&&◌, not, ℕ, List, length, nat_lt, OnOk, OnErr};
 ghost use Rattle.key_bytes.specs.Keys.{key_lt};
 ghost use Rattle.key_bytes.specs.Ranges.{has};
-ghost use Rattle.database_rules.specs.States.{covers};
+ghost use Rattle.model_database.specs.States.{covers};
 ghost use Rattle.fdb_calls.specs.declared.Reply.TheVariants as reply;
 ghost use Rattle.fdb_calls.specs.Calling.{no_write_conflict_called, read_conflict_called, write_conflict_called};
 ghost use Rattle.txn_calls.specs.Accesses.{Calls};
@@ -55,7 +55,7 @@ impl Txn {
     }
 
     /// Lets the next write add no write conflict range.
-    #[tactic(auto, unfolding(database_rules::specs::Transactions::phase_code))]
+    #[tactic(auto, unfolding(model_database::specs::Transactions::phase_code))]
     pub fn no_write_conflict(&mut self) -> Result<(), TrFault>
         ensures { Calls (λ _. reply.Done) result self.old self.new no_write_conflict_called }
     {

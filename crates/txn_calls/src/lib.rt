@@ -1,6 +1,6 @@
 //! A transaction over a store of versions: each of its calls as a function.
 //!
-//! A `Txn` keeps its pending mutations (`write_map`) and the fields of a transaction of the definitions (`database_rules`,
+//! A `Txn` keeps its pending mutations (`write_map`) and the fields of a transaction of the definitions (`model_database`,
 //! `specs/Transactions.antt`) but for what its reads were answered, and stands for each transaction that these agree with
 //! (`specs/Stands.antt`). For every transaction for which it stands before a call, and every history that the store and the
 //! index of its writes keep, the call is answered as `fdb_calls` says (`specs/Calling.antt`), and it stands for the

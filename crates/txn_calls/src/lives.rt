@@ -1,14 +1,14 @@
 //! The end of a life, and the next one.
 
 ghost use Rattle.std.specs.Prelude.{◌≡◌, []};
-ghost use Rattle.database_rules.specs.Transactions as rules;
+ghost use Rattle.model_database.specs.Transactions as rules;
 ghost use Rattle.fdb_calls.specs.Calling.{on_error_called};
 ghost use Rattle.txn_calls.specs.Judging.{Handled};
 ghost use Rattle.txn_calls.specs.Stands.{StandsFor};
 
 use crate::txn::Txn;
 use conflict_ranges::RangeSet;
-use database_rules::{Code, Phase, TRANSACTION_CANCELLED};
+use model_database::{Code, Phase, TRANSACTION_CANCELLED};
 use std::alloc::Global;
 
 // Of so many mutations at most the room stays for those of the next life.

@@ -2,8 +2,8 @@
 
 ghost use Rattle.std.specs.Prelude.{◌≡◌, ◌++◌};
 ghost use Rattle.key_bytes.specs.Entries.{entry_of};
-ghost use Rattle.database_rules.specs.Databases.{Set};
-ghost use Rattle.database_rules.specs.Transactions as rules;
+ghost use Rattle.model_database.specs.Databases.{Set};
+ghost use Rattle.model_database.specs.Transactions as rules;
 ghost use Rattle.fdb_calls.specs.Calling.{in_turn, logs};
 ghost use Rattle.txn_calls.specs.Accesses.{Writes};
 ghost use Rattle.txn_calls.specs.Logging.{Logs};

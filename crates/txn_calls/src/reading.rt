@@ -2,21 +2,21 @@
 
 ghost use Rattle.std.specs.Prelude.{◌≡◌, ◌^◌, ◌<◌, ℕ, false, min, IfOk};
 ghost use Rattle.std.specs.FinMap as finite;
-ghost use Rattle.database_rules.specs.States.{seen};
-ghost use Rattle.database_rules.specs.Histories.{Setting};
-ghost use Rattle.database_rules.specs.Modes.{lacks_limit};
-ghost use Rattle.database_rules.specs.Reads as read;
-ghost use Rattle.database_rules.specs.Selecting.{select};
-ghost use Rattle.database_rules.specs.Slices.{slice};
+ghost use Rattle.model_database.specs.States.{seen};
+ghost use Rattle.model_database.specs.Histories.{Setting};
+ghost use Rattle.model_database.specs.Modes.{lacks_limit};
+ghost use Rattle.model_database.specs.Reads as read;
+ghost use Rattle.model_database.specs.Selecting.{select};
+ghost use Rattle.model_database.specs.Slices.{slice};
 ghost use Rattle.version_store.specs.Versions.{at, last_of};
 ghost use Rattle.txn_calls.specs.Accesses.{Admits, Reads, seen_by, version_of};
 ghost use Rattle.conflict_ranges.specs.Writes.{Index};
 ghost use Rattle.txn_calls.specs.Stands.{Keeps};
 
 use crate::txn::Txn;
-use database_rules::{RangeOptions, Selector};
 use fdb_calls::TrFault;
 use key_bytes::{Bytes, Key, KeyRange, Pairs, is_below};
+use model_database::{RangeOptions, Selector};
 use range_read::{RangeFault, all, lacks_limit, resolve};
 use ryw_view::{NearView, View, ViewFault};
 use std::alloc::AllocError;

@@ -1,13 +1,13 @@
 //! What a read leaves: the version that it took, and the read conflict ranges of its transaction since then.
 
 ghost use Rattle.std.specs.Prelude.{option_map, ◌≡◌};
-ghost use Rattle.database_rules.specs.Transactions.{number_of};
+ghost use Rattle.model_database.specs.Transactions.{number_of};
 ghost use Rattle.txn_calls.specs.Accesses.{Rests, is_ahead_of, is_behind_of, version_code};
 
 use crate::txn::Txn;
-use database_rules::{ACCESSED_UNREADABLE, Code, FUTURE_VERSION, TRANSACTION_TOO_OLD};
 use fdb_calls::TrFault;
 use key_bytes::KeyRange;
+use model_database::{ACCESSED_UNREADABLE, Code, FUTURE_VERSION, TRANSACTION_TOO_OLD};
 use txn_parts::add_unless;
 use version_store::Store;
 

@@ -1,12 +1,12 @@
 //! A transaction.
 
 ghost use Rattle.std.specs.Prelude.{◌≡◌, ℕ};
-ghost use Rattle.database_rules.specs.Histories.{Setting};
-ghost use Rattle.database_rules.specs.Transactions as rules;
+ghost use Rattle.model_database.specs.Histories.{Setting};
+ghost use Rattle.model_database.specs.Transactions as rules;
 ghost use Rattle.conflict_ranges.specs.Writes.{Index};
 
 use conflict_ranges::RangeSet;
-use database_rules::Phase;
+use model_database::Phase;
 use std::alloc::Global;
 use std::marker::Model;
 use version_store::Store;

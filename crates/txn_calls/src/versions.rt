@@ -1,8 +1,8 @@
 //! The versions of a transaction: that of its reads, that of its commit, and the versionstamp that is promised.
 
 ghost use Rattle.std.specs.Prelude.{◌≡◌, ◌^◌, ◌<◌, ℕ, pos, IfOk};
-ghost use Rattle.database_rules.specs.Histories.{Setting};
-ghost use Rattle.database_rules.specs.Transactions as rules;
+ghost use Rattle.model_database.specs.Histories.{Setting};
+ghost use Rattle.model_database.specs.Transactions as rules;
 ghost use Rattle.conflict_ranges.specs.Writes.{Index};
 ghost use Rattle.fdb_calls.specs.declared.Reply.TheVariants as reply;
 ghost use Rattle.fdb_calls.specs.Outcomes.{outcome_of};
@@ -12,14 +12,14 @@ ghost use Rattle.txn_calls.specs.Judging.{Promises};
 ghost use Rattle.txn_calls.specs.Stands.{Keeps};
 
 use crate::txn::Txn;
-use database_rules::{Code, NO_COMMIT_VERSION, Phase, TRANSACTION_CANCELLED, Tried};
 use fdb_calls::{Outcome, TrFault};
+use model_database::{Code, NO_COMMIT_VERSION, Phase, TRANSACTION_CANCELLED, Tried};
 use txn_parts::{phase_code, set_version_code, stamp_of};
 use version_store::Store;
 
 impl Txn {
     /// Takes the read version, and answers it, also where it is above the last one.
-    #[tactic(auto, unfolding(database_rules::specs::Transactions::phase_code))]
+    #[tactic(auto, unfolding(model_database::specs::Transactions::phase_code))]
     pub fn read_version(&mut self, store: &Store) -> Result<u64, TrFault>
         ensures answer { (index : Index) (setting : Setting) → Keeps store.now index setting
             → Calls (λ version. reply.Version (pos version)) result self.old self.new (read_version_called setting) }
@@ -56,7 +56,7 @@ impl Txn {
 
     /// Returns the life whose commit's versionstamp is promised (`fdb_transaction_get_versionstamp`); 1025
     /// exactly where it was cancelled, and 2017 exactly where a commit of it was tried.
-    #[tactic(auto, unfolding(database_rules::specs::Transactions::phase_code))]
+    #[tactic(auto, unfolding(model_database::specs::Transactions::phase_code))]
     pub fn promise(&self) -> Result<u64, Code>
         ensures { Promises result self.now }
     {

@@ -1,16 +1,16 @@
 //! Writes: each is refused by its code, or kept.
 
 ghost use Rattle.std.specs.Prelude.{◌≡◌, false, Some, IfOk, OnOk, OnErr};
-ghost use Rattle.database_rules.specs.Atomics.{atomic_named};
-ghost use Rattle.database_rules.specs.Databases as database;
-ghost use Rattle.database_rules.specs.Transactions as rules;
+ghost use Rattle.model_database.specs.Atomics.{atomic_named};
+ghost use Rattle.model_database.specs.Databases as database;
+ghost use Rattle.model_database.specs.Transactions as rules;
 ghost use Rattle.txn_calls.specs.Accesses.{StandsOn, StandsWritten, Writes, WritesNamed};
 
 use crate::txn::Txn;
 use atomic_ops::from_name;
-use database_rules::{Api, AtomicOp, Code, INVALID_MUTATION_TYPE, SIZE_LIMIT};
 use fdb_calls::TrFault;
 use key_bytes::KeyRange;
+use model_database::{Api, AtomicOp, Code, INVALID_MUTATION_TYPE, SIZE_LIMIT};
 use std::alloc::AllocError;
 use txn_parts::{clear_code, op_code, phase_code, range_code, set_code};
 

@@ -1,15 +1,15 @@
 -- What a read or a write of a transaction of the code is answered, as a call.
 use Rattle.std.proofs.Common.{◌≡◌, ℕ, Bool, true, cond, List, [], ◌∷◌, ◌++◌, Option, Some, None, Result, Ok, Err, inl, refl, sym, ap, subst, ◌∙◌, append-nil}
 use Rattle.std.specs.Prelude.{false, OnErr}
-use Rattle.database_rules.specs.declared.AtomicOp.{AtomicOp}
-use Rattle.database_rules.specs.Databases.{Mutation, Atomic}
-use Rattle.database_rules.specs.Reads.{Read}
-use Rattle.database_rules.specs.Histories.{History, Setting, grown_by, stamp_of}
-use Rattle.database_rules.specs.declared.Code.{Code}
-use Rattle.database_rules.specs.declared.Phase.{Phase}
-use Rattle.database_rules.specs.declared.Phase.TheVariants as phase
-use Rattle.database_rules.specs.declared.Tried.TheVariants as tried
-use Rattle.database_rules.specs.Transactions.{Transaction, first_failing, phase_code, read_code, late_checks, is_read_only, version_made, with_version, with_phase}
+use Rattle.model_database.specs.declared.AtomicOp.{AtomicOp}
+use Rattle.model_database.specs.Databases.{Mutation, Atomic}
+use Rattle.model_database.specs.Reads.{Read}
+use Rattle.model_database.specs.Histories.{History, Setting, grown_by, stamp_of}
+use Rattle.model_database.specs.declared.Code.{Code}
+use Rattle.model_database.specs.declared.Phase.{Phase}
+use Rattle.model_database.specs.declared.Phase.TheVariants as phase
+use Rattle.model_database.specs.declared.Tried.TheVariants as tried
+use Rattle.model_database.specs.Transactions.{Transaction, first_failing, phase_code, read_code, late_checks, is_read_only, version_made, with_version, with_phase}
 use Rattle.conflict_ranges.specs.Writes.{Index}
 use Rattle.fdb_calls.specs.declared.fault.TrFault.{TrFault}
 use Rattle.fdb_calls.specs.declared.fault.TrFault.TheVariants as fault

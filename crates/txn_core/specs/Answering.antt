@@ -1,6 +1,6 @@
 -- How the answer of a call is made of its result.
 use Rattle.std.specs.Prelude.{◌≡◌, ℕ, Bool, true, false, Result, Ok, Err}
-use Rattle.database_rules.specs.declared.Code.{Code}
+use Rattle.model_database.specs.declared.Code.{Code}
 use Rattle.fdb_calls.specs.declared.fault.TrFault.{TrFault}
 use Rattle.fdb_calls.specs.declared.fault.TrFault.TheVariants as fault
 use Rattle.fdb_calls.specs.declared.Reply.{Reply}

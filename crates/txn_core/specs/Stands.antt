@@ -1,6 +1,6 @@
 -- What the answer of a call stands for; the relations of a transaction, a store and an index are those of txn_calls.
 use Rattle.std.specs.Prelude.{◌≡◌, if◌then◌else◌}
-use Rattle.database_rules.specs.Histories.{Setting, grown_by}
+use Rattle.model_database.specs.Histories.{Setting, grown_by}
 use Rattle.conflict_ranges.specs.Writes.{Index}
 use Rattle.fdb_calls.specs.Calling.{Called}
 use Rattle.version_store.specs.Versions.{Versions}

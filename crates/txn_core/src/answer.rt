@@ -5,9 +5,9 @@ ghost use Rattle.fdb_calls.specs.declared.fault.TrFault.TheVariants as fault;
 ghost use Rattle.fdb_calls.specs.declared.Reply.TheVariants as reply;
 ghost use Rattle.txn_core.specs.Answering.{IsToldBy, Tells, TellsOf};
 
-use database_rules::Code;
 use fdb_calls::{Reply, TrFault};
 use key_bytes::{Bytes, Key, Pairs};
+use model_database::Code;
 use std::alloc::AllocError;
 
 /// What a call was answered, and whether it began a new life, whose number was handed in.

@@ -1,8 +1,8 @@
 //! A call of a request on a transaction.
 
 ghost use Rattle.std.specs.Prelude.{◌≡◌, ◌+◌, ◌^◌, ◌<◌, ℕ, true, IfOk, OnErr};
-ghost use Rattle.database_rules.specs.Histories.{Setting};
-ghost use Rattle.database_rules.specs.Transactions as rules;
+ghost use Rattle.model_database.specs.Histories.{Setting};
+ghost use Rattle.model_database.specs.Transactions as rules;
 ghost use Rattle.conflict_ranges.specs.Writes.{Index};
 ghost use Rattle.fdb_calls.specs.Calling.{called, on_error_called, cancel_called, reset, committed_version_called, read_version_called, versionstamp_called};
 ghost use Rattle.version_store.specs.Versions.{Versions, last_of};
@@ -13,8 +13,8 @@ ghost use Rattle.txn_calls.specs.Stands.{StandsFor, StandsStill, Keeps};
 use crate::answer::Answer;
 use crate::committing::commit;
 use conflict_ranges::WriteIndex;
-use database_rules::{Code, DatabaseOptions};
 use fdb_calls::TxnCall;
+use model_database::{Code, DatabaseOptions};
 use std::alloc::AllocError;
 use txn_calls::Txn;
 use version_store::Store;

@@ -1,8 +1,8 @@
 //! Commits: the checks, and the version that is made where none fails.
 
 ghost use Rattle.std.specs.Prelude.{◌≡◌, ◌+◌, ◌^◌, ◌<◌, Ok, Err, IfOk, OnErr};
-ghost use Rattle.database_rules.specs.Histories.{Setting};
-ghost use Rattle.database_rules.specs.Transactions as rules;
+ghost use Rattle.model_database.specs.Histories.{Setting};
+ghost use Rattle.model_database.specs.Transactions as rules;
 ghost use Rattle.conflict_ranges.specs.Writes.{Index};
 ghost use Rattle.fdb_calls.specs.declared.fault.TrFault.TheVariants as fault;
 ghost use Rattle.fdb_calls.specs.Calling.{commit_called};
@@ -13,8 +13,8 @@ ghost use Rattle.txn_core.specs.Stands.{Answers};
 
 use crate::answer::Answer;
 use conflict_ranges::WriteIndex;
-use database_rules::{Code, DatabaseOptions, Tried};
 use fdb_calls::TrFault;
+use model_database::{Code, DatabaseOptions, Tried};
 use std::alloc::AllocError;
 use txn_calls::{Txn, Verdict};
 use version_store::Store;

@@ -2,13 +2,13 @@
 
 ghost use Rattle.std.specs.Prelude.{◌≡◌, ◌^◌, ◌<◌, ℕ, pos, true, false, List, IfOk, OnOk};
 ghost use Rattle.std.specs.List.{All};
-ghost use Rattle.database_rules.specs.declared.Phase.TheVariants as phase;
-ghost use Rattle.database_rules.specs.Databases.{do_all};
-ghost use Rattle.database_rules.specs.Histories.{Setting};
-ghost use Rattle.database_rules.specs.Modes.{lacks_limit};
-ghost use Rattle.database_rules.specs.Reads as read;
-ghost use Rattle.database_rules.specs.States.{all_filled, covers, state_under, is_unmodified};
-ghost use Rattle.database_rules.specs.Transactions.{Transaction, write_conflicts_of, writes_of, with_phase};
+ghost use Rattle.model_database.specs.declared.Phase.TheVariants as phase;
+ghost use Rattle.model_database.specs.Databases.{do_all};
+ghost use Rattle.model_database.specs.Histories.{Setting};
+ghost use Rattle.model_database.specs.Modes.{lacks_limit};
+ghost use Rattle.model_database.specs.Reads as read;
+ghost use Rattle.model_database.specs.States.{all_filled, covers, state_under, is_unmodified};
+ghost use Rattle.model_database.specs.Transactions.{Transaction, write_conflicts_of, writes_of, with_phase};
 ghost use Rattle.fdb_calls.specs.declared.Reply.TheVariants as reply;
 ghost use Rattle.fdb_calls.specs.Answers.{Answered};
 ghost use Rattle.fdb_calls.specs.Calling.{read_called, set_called, clear_called, clear_range_called, atomic_called};
@@ -19,9 +19,9 @@ ghost use Rattle.txn_calls.specs.Judging.{IsLow, Judged, Promises};
 ghost use Rattle.txn_calls.specs.Stands.{StandsFor, Keeps};
 
 use conflict_ranges::{RangeSet, WriteIndex};
-use database_rules::{AtomicOp, Code, Mode, RangeOptions, Selector, Tried};
 use fdb_calls::{Tr, TrFault};
 use key_bytes::{Bytes, Key, KeyRange, Pairs};
+use model_database::{AtomicOp, Code, Mode, RangeOptions, Selector, Tried};
 use std::alloc::AllocError;
 use txn_calls::{Txn, Verdict};
 use version_store::{Changes, Store};

@@ -15,12 +15,12 @@ use Rattle.key_bytes.proofs.Orders.{above_not_below, irreflexive, le_lt, lt_afte
 use Rattle.key_map.specs.Ends.{first}
 use Rattle.key_map.proofs.Spans.{last-append}
 use Rattle.range_read.proofs.Walks.{onward_behind, span_behind}
-use Rattle.database_rules.specs.Databases.{Database, Mutation, do_all}
-use Rattle.database_rules.specs.KeyByKey.{is_modified_by}
-use Rattle.database_rules.specs.Slices.{Entries}
-use Rattle.database_rules.specs.States.{KeyState, Unmodified, Decided, Depends, is_unmodified, state_under, value_in}
-use Rattle.database_rules.proofs.KeyByKey.{get-put}
-use Rattle.database_rules.proofs.States.{get-under}
+use Rattle.model_database.specs.Databases.{Database, Mutation, do_all}
+use Rattle.model_database.specs.KeyByKey.{is_modified_by}
+use Rattle.model_database.specs.Slices.{Entries}
+use Rattle.model_database.specs.States.{KeyState, Unmodified, Decided, Depends, is_unmodified, state_under, value_in}
+use Rattle.model_database.proofs.KeyByKey.{get-put}
+use Rattle.model_database.proofs.States.{get-under}
 use Rattle.version_store.specs.Changed.{is_above, changed, changed_by}
 use Rattle.write_map.specs.Pending.{is_single_state}
 use Rattle.ryw_view.specs.Segments.{IsSegment}

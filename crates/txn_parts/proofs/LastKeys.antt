@@ -3,7 +3,7 @@ use Rattle.std.proofs.Common.{◌≡◌, ℕ, suc, ◌-◌, List, [], ◌∷◌,
 use Rattle.std.proofs.lemmas.Option.{same_Some}
 use Rattle.key_bytes.specs.declared.pairs.Pair.{Pair}
 use Rattle.key_bytes.specs.Entries.{entry_of}
-use Rattle.database_rules.specs.Intervals.{last_key}
+use Rattle.model_database.specs.Intervals.{last_key}
 
 -- the key of the last of some pairs, read by its place
 pub last_key_at : (key : List ℕ) (pairs : List Pair) (pair : Pair) → slice_get pairs (length pairs - 1) ≡ Some pair

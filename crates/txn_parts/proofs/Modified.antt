@@ -5,11 +5,11 @@ use Rattle.std.specs.List.{All}
 use Rattle.std.proofs.lemmas.Bool.{false≢true}
 use Rattle.std.proofs.lemmas.List.Elements.{All-weaker}
 use Rattle.key_bytes.specs.Keys.{within}
-use Rattle.database_rules.specs.declared.AtomicOp.{AtomicOp}
-use Rattle.database_rules.specs.Atomics.{is_versionstamped}
-use Rattle.database_rules.specs.Databases.{Mutation, Set, Clear, ClearRange, Atomic}
-use Rattle.database_rules.specs.States.{KeyState, Unmodified, Decided, Depends, after_atomic, state_after, states_after, state_under, is_unmodified}
-use Rattle.database_rules.specs.KeyByKey.{modifies, is_modified_by}
+use Rattle.model_database.specs.declared.AtomicOp.{AtomicOp}
+use Rattle.model_database.specs.Atomics.{is_versionstamped}
+use Rattle.model_database.specs.Databases.{Mutation, Set, Clear, ClearRange, Atomic}
+use Rattle.model_database.specs.States.{KeyState, Unmodified, Decided, Depends, after_atomic, state_after, states_after, state_under, is_unmodified}
+use Rattle.model_database.specs.KeyByKey.{modifies, is_modified_by}
 
 -- ---- states of changed keys
 

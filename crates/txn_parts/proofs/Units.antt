@@ -1,6 +1,6 @@
 -- Truth values that change nothing, and mutations without a write conflict range.
 use Rattle.std.proofs.Common.{◌≡◌, ◌⊎◌, inl, inr, ℕ, Bool, true, false, ◌&&◌, ◌||◌, List, [], ◌∷◌, length, refl, arith}
-use Rattle.database_rules.specs.Databases.{Mutation}
+use Rattle.model_database.specs.Databases.{Mutation}
 use Rattle.txn_parts.specs.WriteConflicts.{write_conflicts_among}
 
 pub or_false : (x : Bool) → (x || false) ≡ x

@@ -2,8 +2,8 @@
 use Rattle.std.specs.Prelude.{◌≡◌, ℕ, true, false, if◌then◌else◌, List, Option}
 use Rattle.std.specs.FinMap as finite
 use Rattle.std.specs.List.{All}
-use Rattle.database_rules.specs.Databases.{Database, Mutation, do_all}
-use Rattle.database_rules.specs.KeyByKey.{is_modified_by}
+use Rattle.model_database.specs.Databases.{Database, Mutation, do_all}
+use Rattle.model_database.specs.KeyByKey.{is_modified_by}
 use Rattle.version_store.specs.Changed.{changed, is_above}
 use Rattle.ryw_view.specs.Walks.{is_inside}
 

@@ -7,9 +7,9 @@
 
 ghost use Rattle.std.specs.Prelude.{◌≡◌, ◌≢◌, ℕ, List, true, false, [], ◌∷◌, ◌++◌, Some, IfOk, MatchOption, OnOk, IsTrue, option_copied};
 ghost use Rattle.std.specs.List.{All};
-ghost use Rattle.database_rules.specs.Databases.{Set, do_all};
-ghost use Rattle.database_rules.specs.KeyByKey.{is_modified_by};
-ghost use Rattle.database_rules.specs.States.{Decided, all_filled, covers, state_under, unreadable};
+ghost use Rattle.model_database.specs.Databases.{Set, do_all};
+ghost use Rattle.model_database.specs.KeyByKey.{is_modified_by};
+ghost use Rattle.model_database.specs.States.{Decided, all_filled, covers, state_under, unreadable};
 ghost use Rattle.ryw_view.specs.Segments.{IsSegment};
 ghost use Rattle.ryw_view.specs.Views.{stored_of};
 ghost use Rattle.version_store.specs.Changed.{changed, is_above};

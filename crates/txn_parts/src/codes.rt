@@ -1,19 +1,19 @@
 //! The code of the first check of a call that fails.
 
 ghost use Rattle.std.specs.Prelude.{◌≡◌, true, false, [], ◌∷◌, option_map, replicate, IfOk};
-ghost use Rattle.database_rules.specs.States.{has_room, stamped};
-ghost use Rattle.database_rules.specs.Transactions as rules;
-ghost use Rattle.database_rules.specs.Transactions.{number_of};
-ghost use Rattle.database_rules.specs.declared.TheConstants as constants;
+ghost use Rattle.model_database.specs.States.{has_room, stamped};
+ghost use Rattle.model_database.specs.Transactions as rules;
+ghost use Rattle.model_database.specs.Transactions.{number_of};
+ghost use Rattle.model_database.specs.declared.TheConstants as constants;
 
 use atomic_ops::{StampFault, has_room, resolve_stamp};
-use database_rules::{
+use key_bytes::{Bytes, KeyRange, is_below};
+use model_database::{
     AtomicOp, CLIENT_INVALID_OPERATION, Code, EXACT_MODE_WITHOUT_LIMITS, INVERTED_RANGE, KEY_LIMIT,
     KEY_OUTSIDE_LEGAL_RANGE, KEY_TOO_LARGE, Phase, READ_VERSION_ALREADY_SET, SIZE_LIMIT, StampForm,
     TRANSACTION_CANCELLED, TRANSACTION_TOO_LARGE, USED_DURING_COMMIT, VALUE_LIMIT, VALUE_TOO_LARGE,
     VERSION_INVALID,
 };
-use key_bytes::{Bytes, KeyRange, is_below};
 use std::alloc::{AllocError, Global};
 
 /// Returns the code of a call on a life that takes no further call.
@@ -67,7 +67,7 @@ pub fn read_code(phase: Phase, is_outside: bool, lacks_limit: bool) -> Option<Co
 }
 
 /// Returns the code of the first check of a set that fails.
-#[tactic(auto, unfolding(database_rules::specs::Transactions::set_code))]
+#[tactic(auto, unfolding(model_database::specs::Transactions::set_code))]
 pub fn set_code(phase: Phase, key: &[u8], value: &[u8]) -> Option<Code>
     ensures { option_map number_of result ≡ rules.set_code phase key.now value.now }
 {
@@ -79,7 +79,7 @@ pub fn set_code(phase: Phase, key: &[u8], value: &[u8]) -> Option<Code>
 }
 
 /// Returns the code of the first check of a clear of one key that fails.
-#[tactic(auto, unfolding(database_rules::specs::Transactions::clear_code))]
+#[tactic(auto, unfolding(model_database::specs::Transactions::clear_code))]
 pub fn clear_code(phase: Phase, key: &[u8]) -> Option<Code>
     ensures { option_map number_of result ≡ rules.clear_code phase key.now }
 {
@@ -93,7 +93,7 @@ pub fn clear_code(phase: Phase, key: &[u8]) -> Option<Code>
 }
 
 /// Returns the code of the first check of a call with a range that fails.
-#[tactic(auto, unfolding(database_rules::specs::Transactions::range_code))]
+#[tactic(auto, unfolding(model_database::specs::Transactions::range_code))]
 pub fn range_code(phase: Phase, range: &KeyRange) -> Option<Code>
     ensures { option_map number_of result ≡ rules.range_code phase range.now.begin range.now.end }
 {
@@ -155,7 +155,7 @@ fn lacks_room(op: AtomicOp, key: &[u8], operand: &[u8]) -> bool
 }
 
 /// Returns the code of the first check of an atomic operation that fails.
-#[tactic(auto, unfolding(database_rules::specs::Transactions::op_code))]
+#[tactic(auto, unfolding(model_database::specs::Transactions::op_code))]
 pub fn op_code(
     alloc: Global,
     phase: Phase,
@@ -175,7 +175,7 @@ pub fn op_code(
 }
 
 /// Returns the code of the first check of setting the read version that fails.
-#[tactic(auto, unfolding(database_rules::specs::Transactions::set_version_code))]
+#[tactic(auto, unfolding(model_database::specs::Transactions::set_version_code))]
 pub fn set_version_code(phase: Phase, taken: Option<u64>, version: i64) -> Option<Code>
     ensures { option_map number_of result ≡ rules.set_version_code phase taken version }
 {
@@ -191,7 +191,7 @@ pub fn set_version_code(phase: Phase, taken: Option<u64>, version: i64) -> Optio
 }
 
 /// Returns the code of the first check of a commit that fails, by whether there is nothing to write, and the size.
-#[tactic(auto, unfolding(database_rules::specs::Transactions::commit_code))]
+#[tactic(auto, unfolding(model_database::specs::Transactions::commit_code))]
 pub fn commit_code(phase: Phase, is_read_only: bool, size: u64) -> Option<Code>
     ensures { option_map number_of result ≡ rules.commit_code phase is_read_only size }
 {

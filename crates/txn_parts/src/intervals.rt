@@ -1,10 +1,10 @@
 //! The read conflict range of a read, by its answer.
 
 ghost use Rattle.std.specs.Prelude.{◌≡◌, IfOk};
-ghost use Rattle.database_rules.specs.Intervals as rules;
+ghost use Rattle.model_database.specs.Intervals as rules;
 
-use database_rules::{RangeOptions, Selector};
 use key_bytes::{Bytes, Key, KeyRange, Pairs};
+use model_database::{RangeOptions, Selector};
 use range_read::start_key;
 use std::alloc::{AllocError, Global};
 

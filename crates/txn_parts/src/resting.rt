@@ -4,8 +4,8 @@ ghost use Rattle.std.specs.Prelude.{◌≡◌, ◌≢◌, ◌||◌, ◌&&◌, no
 ghost use Rattle.std.specs.List.{list_any};
 ghost use Rattle.key_bytes.specs.Ranges.{has, meets};
 ghost use Rattle.ryw_view.specs.Segments.{is_open};
-ghost use Rattle.database_rules.specs.States.{covers, unreadable};
-ghost use Rattle.database_rules.specs.Intervals.{any_meet, decided, without};
+ghost use Rattle.model_database.specs.States.{covers, unreadable};
+ghost use Rattle.model_database.specs.Intervals.{any_meet, decided, without};
 ghost use Rattle.txn_parts.specs.ReadRanges.{ranges_of};
 
 use conflict_ranges::RangeSet;

@@ -1,7 +1,7 @@
 //! The write conflict ranges of a commit, and its versionstamp.
 
 ghost use Rattle.std.specs.Prelude.{◌≡◌, ◌++◌, zip, OnOk, IfOk};
-ghost use Rattle.database_rules.specs.Histories.{write_range, stamp_of};
+ghost use Rattle.model_database.specs.Histories.{write_range, stamp_of};
 ghost use Rattle.txn_parts.specs.WriteConflicts.{write_conflicts_among};
 ghost use Rattle.write_map.specs.Mutations.{mutation_of, mutations_of};
 
@@ -15,7 +15,7 @@ use write_map::Mutation;
 const BATCH: u16 = 0;
 
 /// Returns the versionstamp of the commit that makes a version: the version, and the batch.
-#[tactic(auto, using(database_rules::proofs::Stamps::stamp_is))]
+#[tactic(auto, using(model_database::proofs::Stamps::stamp_is))]
 pub fn stamp_of(version: u64) -> [u8; 10]
     ensures { result ≡ stamp_of version }
 {

@@ -9,8 +9,8 @@ use Rattle.std.specs.Cmp.Lexicographic.{nat_list_cmp_total}
 use Rattle.key_bytes.specs.Keys.{key_cmp}
 use Rattle.key_bytes.specs.Entries.{entries_of, entry_of}
 use Rattle.key_bytes.specs.declared.pairs.Pair.{Pair}
-use Rattle.database_rules.specs.Databases.{Database, do_all}
-use Rattle.database_rules.specs.Histories.{set_of}
+use Rattle.model_database.specs.Databases.{Database, do_all}
+use Rattle.model_database.specs.Histories.{set_of}
 
 -- a value that a key is given over another one
 pub insert_again : (database : Database) (key old new : List ℕ)

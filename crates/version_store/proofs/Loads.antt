@@ -18,8 +18,8 @@ use Rattle.key_bytes.specs.Entries.{entries_of}
 use Rattle.key_bytes.specs.Keys.{key_cmp}
 use Rattle.key_map.specs.Inserted.{inserted}
 use Rattle.key_map.proofs.Finite.{get-map_of, map_of-collected}
-use Rattle.database_rules.specs.Databases.{Database, do_one, do_all}
-use Rattle.database_rules.specs.Histories.{set_of}
+use Rattle.model_database.specs.Databases.{Database, do_one, do_all}
+use Rattle.model_database.specs.Histories.{set_of}
 use Rattle.version_store.specs.declared.values.Values.{Values}
 use Rattle.version_store.specs.declared.values.Values.TheVariants.{One}
 use Rattle.version_store.specs.Chains.{Slots, Places, chain_in, chain_of, chains_of, database_of, total, IsFalling, IsSoundPlace, Sound}

@@ -13,7 +13,7 @@ use Rattle.std.specs.List.{AllByRecursion, AllZip}
 use Rattle.std.specs.Map.{keys_of}
 use Rattle.std.specs.Option.{IfSome, option_and_then, option_map}
 use Rattle.std.specs.Ordering.{is_lt}
-use Rattle.database_rules.specs.Databases.{Database}
+use Rattle.model_database.specs.Databases.{Database}
 use Rattle.key_bytes.specs.Keys.{key_cmp}
 use Rattle.version_store.specs.Changed.{changed_by}
 use Rattle.version_store.specs.Chains.{Slots, Places, chain_in, chain_of, chains_of, database_of, has_room_in, rooms_of, total, IsFalling, IsSoundPlace, AreReady, Puts, Sound}

@@ -4,7 +4,7 @@ use Rattle.std.specs.List.{AllZip, sum_by}
 use Rattle.std.specs.List.Sorted.{IsStrictlySortedBy}
 use Rattle.std.specs.Map.{keys_of, values_of}
 use Rattle.std.specs.Option.{IfSome}
-use Rattle.database_rules.specs.Databases.{Database}
+use Rattle.model_database.specs.Databases.{Database}
 use Rattle.key_bytes.specs.Keys.{key_cmp}
 use Rattle.slab.specs.Slab.{Slab, slab_len}
 use Rattle.version_store.specs.declared.values.Values.{Values}

@@ -6,7 +6,7 @@ use Rattle.std.specs.Map.{keys_of}
 use Rattle.std.specs.FinMap as finite
 use Rattle.key_bytes.specs.Keys.{key_cmp, key_lt}
 use Rattle.key_map.specs.Ends.{last}
-use Rattle.database_rules.specs.Databases.{Database}
+use Rattle.model_database.specs.Databases.{Database}
 use Rattle.version_store.specs.declared.changes.Change.{Change}
 
 -- a change as contracts see it: the key, and its value from then on

@@ -6,7 +6,7 @@ use Rattle.std.specs.List.{AllZip, filter_map, sum_by}
 use Rattle.std.specs.Map.{lookup, values_of}
 use Rattle.std.specs.Option.{IfSome, option_map}
 use Rattle.key_bytes.specs.Keys.{key_cmp}
-use Rattle.database_rules.specs.Databases.{Database}
+use Rattle.model_database.specs.Databases.{Database}
 use Rattle.version_store.specs.declared.fault.VersionFault.{VersionFault}
 use Rattle.version_store.specs.declared.fault.VersionFault.TheVariants.{TooOld, Future}
 

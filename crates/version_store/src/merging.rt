@@ -2,8 +2,8 @@
 
 ghost use Rattle.std.specs.Prelude.{◌≡◌, ◌≤◌, Bool, true, false, cond, length, map};
 ghost use Rattle.key_bytes.specs.Entries.{entries_of};
-ghost use Rattle.database_rules.specs.Databases.{Database, do_all};
-ghost use Rattle.database_rules.specs.Histories.{loaded};
+ghost use Rattle.model_database.specs.Databases.{Database, do_all};
+ghost use Rattle.model_database.specs.Histories.{loaded};
 
 use key_bytes::Pair;
 use std::mem;

@@ -7,8 +7,8 @@ ghost use Rattle.std.specs.Map.Iter.{deref_pair};
 ghost use Rattle.std.specs.Option.{option_map};
 ghost use Rattle.key_bytes.specs.Keys.{key_le, key_lt, within};
 ghost use Rattle.key_map.specs.Ends.{first, last};
-ghost use Rattle.database_rules.specs.Databases.{do_all};
-ghost use Rattle.database_rules.specs.Histories.{loaded};
+ghost use Rattle.model_database.specs.Databases.{do_all};
+ghost use Rattle.model_database.specs.Histories.{loaded};
 ghost use Rattle.version_store.specs.Versions.{at, last_of, later_of, nodes_of, oldest_of, HasFew, IsReadable, IsFaultAt, IsReadyFor};
 ghost use Rattle.version_store.specs.Changed.{changed};
 

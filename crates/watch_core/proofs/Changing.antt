@@ -5,7 +5,7 @@ use Rattle.std.specs.Cmp.Lexicographic.{nat_list_cmp_total, texts_ties, same_tex
 use Rattle.std.specs.FinMap as finite
 use Rattle.std.specs.List.{Contains}
 use Rattle.std.specs.Map.{keys_of}
-use Rattle.database_rules.specs.Databases.{Database}
+use Rattle.model_database.specs.Databases.{Database}
 use Rattle.version_store.specs.Changed.{changed, changed_by}
 use Rattle.version_store.specs.Versions.{Versions, at, last_of}
 use Rattle.watch_core.specs.Watching.{Watched, AreCurrent, AreCurrentBut}

@@ -6,7 +6,7 @@ use Rattle.std.proofs.lemmas.List.{get_or-set_same, get_or-set_other, get_or_def
 use Rattle.std.proofs.lemmas.List.Elements.{All-head, All-map, All-set, All-tail, Contains-push_cases}
 use Rattle.std.proofs.lemmas.Option.{get_or_from_slice_get}
 use Rattle.std.specs.List.{All, AllZip, Contains}
-use Rattle.database_rules.specs.Databases.{Database}
+use Rattle.model_database.specs.Databases.{Database}
 use Rattle.watch_core.specs.declared.watch.Watch.{Watch}
 use Rattle.watch_core.specs.Watching.{Watched, is_pending, pending_count, after_commit, IsCurrent, AreCurrent, AreCurrentBut, HasLooked, HaveLooked}
 use Rattle.watch_core.specs.Watches.{watched_of, AreListed, HaveLookedAt, IsWhole}

@@ -7,7 +7,7 @@ use Rattle.std.specs.Cmp.Lexicographic.{same_text, other_text, nat_list_eq_equiv
 use Rattle.std.specs.FinMap as finite
 use Rattle.std.specs.List.{All}
 use Rattle.atomic_table.specs.Seated.{TableId}
-use Rattle.database_rules.specs.Databases.{Database}
+use Rattle.model_database.specs.Databases.{Database}
 use Rattle.watch_core.specs.declared.ending.WatchEnd.{WatchEnd}
 use Rattle.watch_core.specs.declared.ending.WatchEnd.TheVariants.{Changed, Cancelled}
 use Rattle.watch_core.specs.Firing.{FiresAt, StaysTo}

@@ -6,7 +6,7 @@ use Rattle.std.specs.List.{All, slice_get}
 use Rattle.std.specs.Option.{option_map_or}
 use Rattle.std.specs.FinMap as finite
 use Rattle.std.specs.Prelude.{slice_set}
-use Rattle.database_rules.specs.Databases.{Database}
+use Rattle.model_database.specs.Databases.{Database}
 use Rattle.watch_core.specs.declared.ending.WatchEnd.TheVariants.{Cancelled}
 use Rattle.watch_core.specs.Watching.{Watched, Watching, ended_as, AreRight, IsRight}
 use Rattle.watch_core.specs.Events.{Event, Installs, Watches, Cancels, after_event, after_events, none_at, EventsSettle}

@@ -4,7 +4,7 @@ use Rattle.std.proofs.lemmas.List.Sums.{sum_by-set, sum_by_push}
 use Rattle.std.specs.FinMap as finite
 use Rattle.std.specs.List.{Contains, filter, slice_get}
 use Rattle.std.specs.Option.{option_map_or}
-use Rattle.database_rules.specs.Databases.{Database}
+use Rattle.model_database.specs.Databases.{Database}
 use Rattle.watch_core.specs.declared.ending.WatchEnd.{WatchEnd}
 use Rattle.watch_core.specs.declared.ending.WatchEnd.TheVariants.{Changed}
 use Rattle.watch_core.specs.Watching.{Ended, Watched, is_pending, is_pending_at, is_same, pending_count, ended_as, ended_at, after_commit, IsCurrent}

@@ -2,7 +2,7 @@
 use Rattle.std.specs.Prelude.{ℕ, ◌+◌, List, [], ◌∷◌, ◌++◌, map}
 use Rattle.std.specs.List.{All}
 use Rattle.atomic_table.specs.Seated.{TableId}
-use Rattle.database_rules.specs.Databases.{Database}
+use Rattle.model_database.specs.Databases.{Database}
 use Rattle.watch_core.specs.declared.ending.WatchEnd.TheVariants.{Cancelled}
 use Rattle.watch_core.specs.Watching.{Watching, made_now, after_commit, ended_at, all_ended, IsSettledBy}
 

@@ -1,7 +1,7 @@
 -- When a watch fires. A history is the database at each version.
 use Rattle.std.specs.Prelude.{◌≡◌, ◌≢◌, ℕ, ◌<◌, ◌≤◌, List}
 use Rattle.std.specs.FinMap as finite
-use Rattle.database_rules.specs.Databases.{Database}
+use Rattle.model_database.specs.Databases.{Database}
 
 -- w is the least version above v at which the value of the key, absence included, differs from that at v
 pub record FiresAt (history : ℕ → Database) (key : List ℕ) (v w : ℕ) : Type 0 where

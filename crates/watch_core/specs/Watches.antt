@@ -8,7 +8,7 @@ use Rattle.atomic_table.specs.Seated.{TableId}
 use Rattle.future_cell.specs.declared.setter.Setter.{Setter}
 use Rattle.future_cell.specs.Cells.{setter_cell, receipt_cell, value_set}
 use Rattle.key_bytes.specs.Keys.{key_cmp}
-use Rattle.database_rules.specs.Databases.{Database}
+use Rattle.model_database.specs.Databases.{Database}
 use Rattle.watch_core.specs.declared.ending.WatchEnd.{WatchEnd}
 use Rattle.watch_core.specs.declared.ending.Ending.{Ending}
 use Rattle.watch_core.specs.declared.ending.WatchEnds.{WatchEnds}

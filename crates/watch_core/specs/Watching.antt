@@ -5,7 +5,7 @@ use Rattle.std.specs.Option.{option_map_or, IfSome, MatchOption}
 use Rattle.std.specs.Cmp.Lexicographic.{pointwise}
 use Rattle.std.specs.FinMap as finite
 use Rattle.atomic_table.specs.Seated.{TableId}
-use Rattle.database_rules.specs.Databases.{Database}
+use Rattle.model_database.specs.Databases.{Database}
 use Rattle.watch_core.specs.declared.ending.WatchEnd.{WatchEnd}
 use Rattle.watch_core.specs.declared.ending.WatchEnd.TheVariants.{Changed, Cancelled}
 use Rattle.watch_core.specs.Firing.{FiresAt, StaysTo}

@@ -2,7 +2,7 @@
 
 ghost use Rattle.std.specs.Prelude.{◌≡◌, ℕ, ◌+◌, ◌<◌, ◌≤◌, [], ◌∷◌, ◌++◌, All, None, map, filter, take, length, vec_len, vec_capacity, IfOk, OnErr};
 ghost use Rattle.std.specs.FinMap as finite;
-ghost use Rattle.database_rules.specs.Databases.{Database};
+ghost use Rattle.model_database.specs.Databases.{Database};
 ghost use Rattle.future_cell.specs.declared.callback.Registered.TheVariants.{No};
 ghost use Rattle.future_cell.specs.Cells.{waiter_cell, shown, registration};
 ghost use Rattle.version_store.specs.Versions.{at, last_of};

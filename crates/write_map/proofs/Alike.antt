@@ -7,8 +7,8 @@ use Rattle.std.specs.List.{filter}
 use Rattle.range_map.specs.Boundaries.{Boundaries, held, boundaries_of, is_boundary}
 use Rattle.range_map.proofs.Held.{IsRising}
 use Rattle.range_map.proofs.Neighbours.{next-after, prev-greatest}
-use Rattle.database_rules.specs.Databases.{Mutation}
-use Rattle.database_rules.specs.States.{KeyState, Unmodified, Decided, Depends, state_under}
+use Rattle.model_database.specs.Databases.{Mutation}
+use Rattle.model_database.specs.States.{KeyState, Unmodified, Decided, Depends, state_under}
 use Rattle.write_map.specs.declared.level.Level.{Level}
 use Rattle.write_map.specs.Pending.{AreAlike, IsBare, IsDepends, is_single_state}
 use Rattle.write_map.specs.Levels.{state_of, AreLevels}

@@ -6,8 +6,8 @@ use Rattle.std.specs.List.Sorted.{IsStrictlySortedBy}
 use Rattle.std.specs.Map.{lookup}
 use Rattle.std.specs.Option.{option_map}
 use Rattle.key_bytes.specs.Keys.{key_cmp, after}
-use Rattle.database_rules.specs.declared.AtomicOp.{AtomicOp}
-use Rattle.database_rules.specs.States.{after_atomic}
+use Rattle.model_database.specs.declared.AtomicOp.{AtomicOp}
+use Rattle.model_database.specs.States.{after_atomic}
 use Rattle.range_map.specs.Boundaries.{Boundaries, held, boundaries_of, is_boundary, changed, changed_entries}
 use Rattle.range_map.proofs.Bounded.{changed_back, changed_twice}
 use Rattle.range_map.proofs.Held.{IsRising, held-at}

@@ -6,10 +6,10 @@ use Rattle.std.proofs.lemmas.List.Folds.{list_any-append}
 use Rattle.std.specs.List.{list_any}
 use Rattle.key_bytes.specs.declared.range.KeyRange.{KeyRange}
 use Rattle.range_map.specs.Boundaries.{Boundaries}
-use Rattle.database_rules.specs.declared.AtomicOp.{AtomicOp}
-use Rattle.database_rules.specs.declared.AtomicOp.TheVariants as atomic
-use Rattle.database_rules.specs.Databases.{Mutation, Set, Clear, ClearRange, Atomic}
-use Rattle.database_rules.specs.States.{unreadable_by}
+use Rattle.model_database.specs.declared.AtomicOp.{AtomicOp}
+use Rattle.model_database.specs.declared.AtomicOp.TheVariants as atomic
+use Rattle.model_database.specs.Databases.{Mutation, Set, Clear, ClearRange, Atomic}
+use Rattle.model_database.specs.States.{unreadable_by}
 use Rattle.write_map.specs.declared.level.Level.{Level}
 use Rattle.write_map.specs.Levels.{IsKept}
 use Rattle.write_map.specs.Pending.{IsOn}

@@ -10,12 +10,12 @@ use Rattle.std.specs.Cmp.{eq_by_cmp_equiv}
 use Rattle.std.specs.Cmp.Lexicographic.{nat_list_cmp_total}
 use Rattle.key_bytes.specs.declared.range.KeyRange.{KeyRange}
 use Rattle.key_bytes.specs.Keys.{key_cmp, within, after}
-use Rattle.database_rules.specs.declared.AtomicOp.{AtomicOp}
-use Rattle.database_rules.specs.declared.AtomicOp.TheVariants as atomic
-use Rattle.database_rules.specs.Atomics.{is_versionstamped}
-use Rattle.database_rules.specs.Databases.{Mutation, Set, Clear, ClearRange, Atomic}
-use Rattle.database_rules.specs.States.{KeyState, Unmodified, Decided, after_atomic, state_after, covers, unreadable_by, unreadable}
-use Rattle.database_rules.proofs.States.{states_after-append, covers-unreadable-append}
+use Rattle.model_database.specs.declared.AtomicOp.{AtomicOp}
+use Rattle.model_database.specs.declared.AtomicOp.TheVariants as atomic
+use Rattle.model_database.specs.Atomics.{is_versionstamped}
+use Rattle.model_database.specs.Databases.{Mutation, Set, Clear, ClearRange, Atomic}
+use Rattle.model_database.specs.States.{KeyState, Unmodified, Decided, after_atomic, state_after, covers, unreadable_by, unreadable}
+use Rattle.model_database.proofs.States.{states_after-append, covers-unreadable-append}
 use Rattle.range_map.specs.Boundaries.{Boundaries, held, is_boundary, changed}
 use Rattle.range_map.proofs.Bounded.{boundary_changed, held-changed_one}
 use Rattle.range_map.proofs.Held.{IsRising, held-changed}

@@ -1,8 +1,8 @@
 -- What `at` answers of a key.
 use Rattle.std.specs.Prelude.{◌≡◌, ℕ, true, false, List}
 use Rattle.std.specs.Option.{option_map}
-use Rattle.database_rules.specs.Databases.{Mutation}
-use Rattle.database_rules.specs.States.{Unmodified, Decided, Depends, covers, state_under, unreadable}
+use Rattle.model_database.specs.Databases.{Mutation}
+use Rattle.model_database.specs.States.{Unmodified, Decided, Depends, covers, state_under, unreadable}
 use Rattle.write_map.specs.declared.state.KeyState.{KeyState as Shown}
 use Rattle.write_map.specs.declared.state.KeyState.TheVariants as shown
 

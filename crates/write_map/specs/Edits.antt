@@ -1,6 +1,6 @@
 -- A list of atomic operations, each with its operand, as contracts see it.
 use Rattle.std.specs.Prelude.{ℕ, List, map}
-use Rattle.database_rules.specs.declared.AtomicOp.{AtomicOp}
+use Rattle.model_database.specs.declared.AtomicOp.{AtomicOp}
 use Rattle.write_map.specs.declared.edits.AtomicEdit.{AtomicEdit}
 
 abbrev pub edit_of : AtomicEdit → AtomicOp × List ℕ

@@ -5,9 +5,9 @@ use Rattle.std.specs.List.{All, list_any}
 use Rattle.std.specs.BTreeMap.{is_at}
 use Rattle.key_bytes.specs.Keys.{key_cmp, after}
 use Rattle.range_map.specs.Boundaries.{Boundaries, held, is_boundary, changed}
-use Rattle.database_rules.specs.declared.AtomicOp.{AtomicOp}
-use Rattle.database_rules.specs.Databases.{Mutation}
-use Rattle.database_rules.specs.States.{KeyState, Unmodified, Decided, Depends, after_atomic, covers, state_under, unreadable}
+use Rattle.model_database.specs.declared.AtomicOp.{AtomicOp}
+use Rattle.model_database.specs.Databases.{Mutation}
+use Rattle.model_database.specs.States.{KeyState, Unmodified, Decided, Depends, after_atomic, covers, state_under, unreadable}
 use Rattle.write_map.specs.Pending.{is_single_state}
 use Rattle.write_map.specs.Stamps.{is_stamped, HasRoom}
 use Rattle.write_map.specs.declared.level.Level.{Level}

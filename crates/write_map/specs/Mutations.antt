@@ -1,6 +1,6 @@
 -- What the code keeps of writes, as mutations.
 use Rattle.std.specs.Prelude.{List, map}
-use Rattle.database_rules.specs.Databases.{Mutation, Set, Clear, ClearRange, Atomic}
+use Rattle.model_database.specs.Databases.{Mutation, Set, Clear, ClearRange, Atomic}
 use Rattle.write_map.specs.declared.mutation.Mutation.{Mutation as Kept}
 use Rattle.write_map.specs.declared.mutation.Mutation.TheVariants as kept
 

@@ -1,8 +1,8 @@
 -- The pending mutations of a transaction, and which keys they leave alike.
 use Rattle.std.specs.Prelude.{◌≡◌, ℕ, Bool, true, false, List, Some, None}
-use Rattle.database_rules.specs.Atomics.{is_versionstamped}
-use Rattle.database_rules.specs.Databases.{Mutation, Set, Clear, ClearRange, Atomic}
-use Rattle.database_rules.specs.States.{KeyState, Unmodified, Decided, Depends, covers, state_under, unreadable}
+use Rattle.model_database.specs.Atomics.{is_versionstamped}
+use Rattle.model_database.specs.Databases.{Mutation, Set, Clear, ClearRange, Atomic}
+use Rattle.model_database.specs.States.{KeyState, Unmodified, Decided, Depends, covers, state_under, unreadable}
 pub use Rattle.range_map.specs.Boundaries.{IsBelowBoundary}
 
 pub record Pending : Type 0 where

@@ -1,9 +1,9 @@
 -- The mutations with a versionstamp among the pending ones.
 use Rattle.std.specs.Prelude.{◌≡◌, Bool, true, not}
-use Rattle.database_rules.specs.Atomics.{is_versionstamped, stamp_form}
-use Rattle.database_rules.specs.Databases.{Mutation, Set, Clear, ClearRange, Atomic}
-use Rattle.database_rules.specs.KeyByKey.{is_plain}
-use Rattle.database_rules.specs.States.{has_room, stamped_bytes}
+use Rattle.model_database.specs.Atomics.{is_versionstamped, stamp_form}
+use Rattle.model_database.specs.Databases.{Mutation, Set, Clear, ClearRange, Atomic}
+use Rattle.model_database.specs.KeyByKey.{is_plain}
+use Rattle.model_database.specs.States.{has_room, stamped_bytes}
 
 -- it has a versionstamp, which its commit fills in
 abbrev pub is_stamped : Mutation → Bool

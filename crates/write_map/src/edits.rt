@@ -3,8 +3,8 @@
 ghost use Rattle.std.specs.Prelude.{◌≡◌, ◌<◌, [], ◌∷◌, ◌++◌, Some, length, slice_get, IfOk, OnOk, OnErr};
 ghost use Rattle.write_map.specs.Edits.{edit_of, edits_of};
 
-use database_rules::AtomicOp;
 use key_bytes::Bytes;
+use model_database::AtomicOp;
 use std::alloc::{AllocError, Global};
 use std::marker::Model;
 
@@ -23,7 +23,7 @@ pub struct AtomicEdits {
 
 impl Model for AtomicEdits {
     ghost use Rattle.std.specs.Prelude.{ℕ, List};
-    ghost use Rattle.database_rules.specs.declared.AtomicOp.{AtomicOp};
+    ghost use Rattle.model_database.specs.declared.AtomicOp.{AtomicOp};
     ghost use Rattle.write_map.specs.Edits.{edits_of};
 
     ghost Value = { List (AtomicOp × List ℕ) };

@@ -2,14 +2,14 @@
 
 ghost use Rattle.std.specs.Prelude.{◌≡◌, [], ◌∷◌, ◌++◌, IfOk, OnOk, OnErr};
 ghost use Rattle.std.specs.List.{All};
-ghost use Rattle.database_rules.specs.States.{all_filled, filled};
+ghost use Rattle.model_database.specs.States.{all_filled, filled};
 ghost use Rattle.write_map.specs.Mutations.{mutation_of, mutations_of};
 ghost use Rattle.write_map.specs.Stamps.{HasRoom};
 
 use crate::mutation::Mutation;
 use crate::write_map::WriteMap;
 use atomic_ops::stamped;
-use database_rules::AtomicOp;
+use model_database::AtomicOp;
 use std::alloc::{AllocError, Global};
 
 // A map of mutations, each as a commit with this versionstamp does it.

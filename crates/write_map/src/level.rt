@@ -1,15 +1,15 @@
 //! What a boundary has.
 
 ghost use Rattle.std.specs.Prelude.{◌≡◌, true, false, IfOk, OnOk, OnErr};
-ghost use Rattle.database_rules.specs.Atomics.{is_versionstamped};
-ghost use Rattle.database_rules.specs.States.{after_atomic};
+ghost use Rattle.model_database.specs.Atomics.{is_versionstamped};
+ghost use Rattle.model_database.specs.States.{after_atomic};
 ghost use Rattle.write_map.specs.Levels.{bare, state_of, is_list, IsMade, IsShown};
 
 use crate::edits::{AtomicEdit, AtomicEdits};
 use crate::state::KeyState;
 use atomic_ops::apply;
-use database_rules::AtomicOp;
 use key_bytes::Bytes;
+use model_database::AtomicOp;
 use range_map::Spread;
 use std::alloc::{AllocError, Global};
 

@@ -1,11 +1,11 @@
 //! A write that a transaction keeps.
 
 ghost use Rattle.std.specs.Prelude.{◌≡◌, IfOk};
-ghost use Rattle.database_rules.specs.Databases as rules;
+ghost use Rattle.model_database.specs.Databases as rules;
 ghost use Rattle.write_map.specs.Mutations.{mutation_of};
 
-use database_rules::AtomicOp;
 use key_bytes::{Bytes, Key, KeyRange};
+use model_database::AtomicOp;
 use std::alloc::AllocError;
 
 /// A write that a transaction keeps until its commit (API reference of release 6.3, "Transaction").

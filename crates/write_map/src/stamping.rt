@@ -1,13 +1,13 @@
 //! The keys that an operation with a versionstamp makes unreadable.
 
 ghost use Rattle.std.specs.Prelude.{◌≡◌, true, [], ◌∷◌, IfOk};
-ghost use Rattle.database_rules.specs.Atomics.{is_versionstamped, stamp_form};
-ghost use Rattle.database_rules.specs.Databases as rules;
-ghost use Rattle.database_rules.specs.States.{has_room, stamped_bytes, unreadable_by};
+ghost use Rattle.model_database.specs.Atomics.{is_versionstamped, stamp_form};
+ghost use Rattle.model_database.specs.Databases as rules;
+ghost use Rattle.model_database.specs.States.{has_room, stamped_bytes, unreadable_by};
 
 use atomic_ops::stamped;
-use database_rules::AtomicOp;
 use key_bytes::{Bytes, Key, KeyRange};
+use model_database::AtomicOp;
 use std::alloc::{AllocError, Global};
 
 // The keys that an operation with a versionstamp makes unreadable: each that a stamped key may become, or that of a stamped

@@ -11,8 +11,8 @@ use crate::receipts::Receipts;
 use crate::service::Service;
 use fdb_calls::{Reply, Request};
 use future_cell::{Receipt, Setter, Wake};
-use input_rules::Order;
 use lists::List;
+use model_input::Order;
 use std::alloc::Global;
 
 /// What was served so far: the order, the receipts, whether memory ran out, and how many machines were started and are over.

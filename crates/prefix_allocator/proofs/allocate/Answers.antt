@@ -1,9 +1,9 @@
 use Rattle.std.proofs.Common.{◌≡◌, ℕ, [], ◌∷◌, Option, Some, None, Ok, Err, refl, sym, ap, ◌∙◌, subst}
 use Rattle.std.proofs.lemmas.Result.{err_from_is_err_and}
-use Rattle.database_rules.specs.Transactions.{Transaction, view}
+use Rattle.model_database.specs.Transactions.{Transaction, view}
 use Rattle.std.specs.Prelude.{⊤}
-use Rattle.allocator_rules.specs.Acts.{all_acted}
-use Rattle.allocator_rules.specs.Granting.{asks_greatest, claims}
+use Rattle.model_allocator.specs.Acts.{all_acted}
+use Rattle.model_allocator.specs.Granting.{asks_greatest, claims}
 use Rattle.prefix_allocator.specs.Allocates.{Leaves}
 use Rattle.prefix_allocator.specs.Keyed.{Starts}
 use Rattle.prefix_allocator.specs.Doing.{Done, Draws, start_in, tries_of, window_candidates}

@@ -1,5 +1,5 @@
 use Rattle.std.proofs.Common.{◌≡◌, take}
-use Rattle.database_rules.specs.Atomics.{fitted, bytewise}
+use Rattle.model_database.specs.Atomics.{fitted, bytewise}
 use Rattle.atomic_ops.specs.Joinings.{joined}
 use Rattle.atomic_ops.proofs.bits.bytewise.Given as goal
 

@@ -1,5 +1,5 @@
 use Rattle.std.proofs.Common.{◌≡◌, ◌∙◌, rules}
-use Rattle.database_rules.specs.Atomics.{fitted}
+use Rattle.model_database.specs.Atomics.{fitted}
 use Rattle.atomic_ops.proofs.Fitted.{cut_filled}
 use Rattle.atomic_ops.proofs.fitting.fitted.Goals as goal
 

@@ -2,7 +2,7 @@ use Rattle.std.proofs.Common.{◌≡◌, ℕ, suc, ◌+◌, ◌-◌, ◌<◌, Li
 use Rattle.std.proofs.lemmas.List.{drop_all, drop_more}
 use Rattle.std.proofs.lemmas.List.Elements.{All-from_get_or}
 use Rattle.key_bytes.specs.Keys.{IsByteString}
-use Rattle.database_rules.specs.Atomics.{fitted}
+use Rattle.model_database.specs.Atomics.{fitted}
 use Rattle.atomic_ops.proofs.Fitted.{length-fitted, get_or-fitted, fitted-IsByteString}
 use Rattle.atomic_ops.proofs.Little.{nat_lt-number_low}
 use Rattle.atomic_ops.proofs.numbers.is_less.Goals as goal

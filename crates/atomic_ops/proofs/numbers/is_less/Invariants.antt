@@ -1,5 +1,5 @@
 use Rattle.std.proofs.Common.{◌≡◌, drop}
-use Rattle.database_rules.specs.Atomics.{fitted}
+use Rattle.model_database.specs.Atomics.{fitted}
 use Rattle.atomic_ops.proofs.numbers.is_less.Given as goal
 
 -- the bytes from this place on are the same

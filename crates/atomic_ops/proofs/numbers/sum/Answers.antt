@@ -1,5 +1,5 @@
 use Rattle.std.proofs.Common.{◌≡◌, ◌+◌, ◌/◌, ◌<◌, get_or, sym, ◌∙◌, subst, arith}
-use Rattle.database_rules.specs.Atomics.{fitted, little_sum}
+use Rattle.model_database.specs.Atomics.{fitted, little_sum}
 use Rattle.atomic_ops.proofs.Fitted.{length-fitted, get_or-fitted}
 use Rattle.atomic_ops.proofs.Little.{IsSummed, IsSummed-none, IsSummed-more, IsSummed-all}
 use Rattle.atomic_ops.proofs.numbers.sum.Goals as goal

@@ -1,4 +1,4 @@
-use Rattle.database_rules.specs.Atomics.{fitted}
+use Rattle.model_database.specs.Atomics.{fitted}
 use Rattle.atomic_ops.proofs.Little.{IsSummed}
 use Rattle.atomic_ops.proofs.numbers.sum.Given as goal
 

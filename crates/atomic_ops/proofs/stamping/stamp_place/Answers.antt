@@ -1,5 +1,5 @@
 use Rattle.std.proofs.Common.{◌∙◌, ap}
-use Rattle.database_rules.specs.Atomics.{offset_size}
+use Rattle.model_database.specs.Atomics.{offset_size}
 use Rattle.atomic_ops.proofs.Stamps.{offset_is_place}
 use Rattle.atomic_ops.proofs.stamping.stamp_place.Goals as goal
 

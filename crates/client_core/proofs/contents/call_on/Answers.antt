@@ -1,7 +1,7 @@
 use Rattle.std.proofs.Common.{ℕ, Option, ap, cond, refl, subst, ◌∙◌}
 use Rattle.fdb_calls.specs.declared.Outcome.{Outcome}
 use Rattle.fdb_calls.specs.Calling.{called}
-use Rattle.machine_rules.specs.Worlds.{decide, with_lives}
+use Rattle.model_machine.specs.Worlds.{decide, with_lives}
 use Rattle.txn_core.specs.Stands as txn
 use Rattle.client_core.specs.Lives.{outcome_by}
 use Rattle.client_core.proofs.Calls.{drawing_quiet}

@@ -2,7 +2,7 @@ use Rattle.std.proofs.Common.{None, cond, slice_index_or, ap, ◌∙◌}
 use Rattle.std.proofs.lemmas.Result.{IfOk-weaker}
 use Rattle.fdb_calls.specs.declared.Reply.TheVariants.{Empty, NotYet}
 use Rattle.fdb_calls.specs.declared.Request.TheVariants as request
-use Rattle.machine_rules.specs.Worlds.{has_key_with, promised, step}
+use Rattle.model_machine.specs.Worlds.{has_key_with, promised, step}
 use Rattle.client_core.specs.Contents.{model_of}
 use Rattle.client_core.proofs.Kept.{same_still}
 use Rattle.client_core.proofs.Results.{err_always}

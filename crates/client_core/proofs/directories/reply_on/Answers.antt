@@ -1,6 +1,6 @@
 use Rattle.std.proofs.Common.{◌≡◌, ◌∙◌, sym, subst}
 use Rattle.std.proofs.lemmas.Result.{IfOk-weaker}
-use Rattle.directory_rules.specs.Calls.{effect}
+use Rattle.model_directory.specs.Calls.{effect}
 use Rattle.client_core.specs.Directories.{Reaches}
 use Rattle.client_core.proofs.Layers.{answer_reaches}
 use Rattle.client_core.proofs.directories.reply_on.Goals as goal

@@ -1,6 +1,6 @@
 use Rattle.std.proofs.Common.{◌≡◌, ◌∙◌, ◌<◌, ◌≤◌, ◌^◌, ◌&&◌, cond, false, ℕ, Some, None, nat_le, le-leb, arith, sym, ap, refl}
-use Rattle.command_laws.proofs.Numbers.{number_read, within}
-use Rattle.command_laws.specs.Found.{is_marked}
+use Rattle.laws_commands.proofs.Numbers.{number_read, within}
+use Rattle.laws_commands.specs.Found.{is_marked}
 use Rattle.command_words.proofs.reading.number.Goals as goal
 
 pub returns-in_default-clause-value : goal.returns-in_default-clause-value

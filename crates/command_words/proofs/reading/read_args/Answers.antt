@@ -1,8 +1,8 @@
 use Rattle.std.proofs.Common.{◌≡◌, ◌∙◌, Option, Some, None, MatchResult, map, ap, subst}
 use Rattle.clap.specs.Simple.{app_of, subcommand_rows_of}
 use Rattle.command_words.specs.declared.fault.ArgFault.TheVariants.{Usage}
-use Rattle.command_rules.specs.declared.args.Args.{Args}
-use Rattle.command_laws.proofs.Calling.{found_words, refused_words}
+use Rattle.model_commands.specs.declared.args.Args.{Args}
+use Rattle.laws_commands.proofs.Calling.{found_words, refused_words}
 use Rattle.command_words.proofs.reading.read_args.Goals as goal
 
 pub returns-in-Ok : goal.returns-in-Ok

@@ -1,7 +1,7 @@
 use Rattle.std.proofs.Common.{◌∙◌, ℕ, List, Option, Some, option_map, Bor, ap, sym}
-use Rattle.database_rules.specs.declared.Api.{Api}
+use Rattle.model_database.specs.declared.Api.{Api}
 use Rattle.clap.specs.Matches.{found_of}
-use Rattle.command_laws.proofs.Calling.{with_all, without_polls, without_prefix, without_seed, without_window}
+use Rattle.laws_commands.proofs.Calling.{with_all, without_polls, without_prefix, without_seed, without_window}
 use Rattle.command_words.proofs.reading.run_found.Goals as goal
 
 abbrev text : Option (Bor (List ℕ)) → Option (List ℕ)

@@ -1,7 +1,7 @@
 use Rattle.std.proofs.Common.{◌∙◌, ℕ, List, Option, Bor, ap, sym}
 use Rattle.clap.specs.Matches.{found_of}
-use Rattle.command_rules.specs.Grammar.{workers_in}
-use Rattle.command_laws.proofs.Calling.{texts_of, workers_are}
+use Rattle.model_commands.specs.Grammar.{workers_in}
+use Rattle.laws_commands.proofs.Calling.{texts_of, workers_are}
 use Rattle.command_words.proofs.reading.workers_found.Goals as goal
 
 abbrev asked : Option (Bor (List ℕ)) → Option ℕ

@@ -1,5 +1,5 @@
 use Rattle.std.proofs.Common.{◌+◌, ◌<◌, cond, length, drop, sym, ap, subst, ◌∙◌, arith}
-use Rattle.database_rules.specs.States.{covers}
+use Rattle.model_database.specs.States.{covers}
 use Rattle.range_map.specs.Boundaries.{held}
 use Rattle.conflict_ranges.specs.Ends.{HasRoom}
 use Rattle.conflict_ranges.proofs.Sound.{sound_given}

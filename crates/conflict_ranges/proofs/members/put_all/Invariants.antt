@@ -1,5 +1,5 @@
 use Rattle.std.proofs.Common.{◌≡◌, ℕ, if◌then◌else◌, List, length, drop}
-use Rattle.database_rules.specs.States.{covers}
+use Rattle.model_database.specs.States.{covers}
 use Rattle.range_map.specs.Boundaries.{held}
 use Rattle.conflict_ranges.specs.Ends.{HasRoom}
 use Rattle.conflict_ranges.specs.Segments.{IsSound}

@@ -1,7 +1,7 @@
 use Rattle.std.proofs.Common.{◌≡◌, ◌≤◌, sym, ap, subst, ◌∙◌}
 use Rattle.std.specs.List.{filter}
 use Rattle.key_bytes.specs.Keys.{within}
-use Rattle.database_rules.specs.States.{range_from}
+use Rattle.model_database.specs.States.{range_from}
 use Rattle.range_map.specs.Boundaries.{held}
 use Rattle.conflict_ranges.proofs.Greatest.{greatest, newest_above, newest_reached}
 use Rattle.conflict_ranges.proofs.Walks.{IsReached}

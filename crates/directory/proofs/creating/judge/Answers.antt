@@ -1,8 +1,8 @@
 use Rattle.std.proofs.Common.{◌≡◌, ℕ, true, false, List, Option, None, Ok, Err, refl, sym, ap, subst, ◌∙◌}
 use Rattle.directory_types.specs.declared.fault.DirFault.TheVariants as fault
-use Rattle.directory_rules.specs.declared.Directory.{Directory}
-use Rattle.directory_rules.specs.declared.OpenOptions.{OpenOptions}
-use Rattle.directory_rules.specs.Calls.{judged}
+use Rattle.model_directory.specs.declared.Directory.{Directory}
+use Rattle.model_directory.specs.declared.OpenOptions.{OpenOptions}
+use Rattle.model_directory.specs.Calls.{judged}
 use Rattle.directory_nodes.specs.Runs.{Tells}
 use Rattle.directory.proofs.creating.judge.Goals as goal
 

@@ -1,9 +1,9 @@
 use Rattle.std.proofs.Common.{ℕ, Bool, false, List, Ok, Err, sym, subst, ◌∙◌}
-use Rattle.directory_rules.specs.declared.Child.{Child}
-use Rattle.directory_rules.specs.Courses.{Course, Done, done, ◌>>=◌}
-use Rattle.directory_rules.specs.Nodes.{is_partition}
-use Rattle.directory_rules.specs.Steps.{check, inside, children}
-use Rattle.directory_rules.specs.Calls.{lists}
+use Rattle.model_directory.specs.declared.Child.{Child}
+use Rattle.model_directory.specs.Courses.{Course, Done, done, ◌>>=◌}
+use Rattle.model_directory.specs.Nodes.{is_partition}
+use Rattle.model_directory.specs.Steps.{check, inside, children}
+use Rattle.model_directory.specs.Calls.{lists}
 use Rattle.directory_nodes.specs.Runs.{Draws}
 use Rattle.directory_nodes.proofs.Following.{then_drew}
 use Rattle.directory_nodes.proofs.Passing.{ended_so, ran_out}

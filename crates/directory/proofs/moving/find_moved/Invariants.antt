@@ -1,5 +1,5 @@
 use Rattle.std.proofs.Common.{ℕ, ◌+◌, ◌<◌, length}
-use Rattle.directory_rules.specs.Calls.{finds_moved}
+use Rattle.model_directory.specs.Calls.{finds_moved}
 use Rattle.directory_nodes.proofs.Leading.{Leads}
 use Rattle.directory.proofs.moving.find_moved.Given as goal
 

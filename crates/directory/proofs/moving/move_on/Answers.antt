@@ -1,6 +1,6 @@
 use Rattle.std.proofs.Common.{sym, subst}
 use Rattle.std.specs.Prelude.{option_map}
-use Rattle.directory_rules.specs.Calls.{moves_on}
+use Rattle.model_directory.specs.Calls.{moves_on}
 use Rattle.directory_nodes.specs.Places.{found_as}
 use Rattle.directory.specs.Places.{names_so}
 use Rattle.directory_nodes.specs.Runs.{Tells}

@@ -2,9 +2,9 @@ use Rattle.std.proofs.Common.{ℕ, List, Ok, Err, refl, sym, ◌∙◌, length}
 use Rattle.std.specs.Prelude.{not, ◌&&◌, ◌==◌}
 use Rattle.directory_types.specs.declared.Layer.{Layer}
 use Rattle.directory_types.specs.declared.fault.DirFault.TheVariants as fault
-use Rattle.directory_rules.specs.declared.Lookup.{Lookup}
-use Rattle.directory_rules.specs.Courses.{Course, ◌>>=◌, Done, done}
-use Rattle.directory_rules.specs.Steps.{refuse_where, check, admits}
+use Rattle.model_directory.specs.declared.Lookup.{Lookup}
+use Rattle.model_directory.specs.Courses.{Course, ◌>>=◌, Done, done}
+use Rattle.model_directory.specs.Steps.{refuse_where, check, admits}
 use Rattle.directory_nodes.proofs.Following.{then_drew}
 use Rattle.directory_nodes.proofs.Passing.{ended_so}
 use Rattle.directory_nodes.proofs.Refusing.{passed_where, refused_where, refused_last, passed_last}

@@ -1,7 +1,7 @@
 use Rattle.std.proofs.Common.{◌≡◌, ◌+◌, ◌<◌, Some, None, Ok, sym, ap, subst, ◌∙◌, length, rules, arith, refl}
 use Rattle.std.specs.Prelude.{option_map}
-use Rattle.directory_rules.specs.Courses.{done}
-use Rattle.directory_rules.specs.Steps.{place, admits, find, arrives}
+use Rattle.model_directory.specs.Courses.{done}
+use Rattle.model_directory.specs.Steps.{place, admits, find, arrives}
 use Rattle.directory_nodes.specs.Places.{found_as, IsLess}
 use Rattle.directory.specs.Places.{place_so}
 use Rattle.directory_nodes.specs.Runs.{Draws}

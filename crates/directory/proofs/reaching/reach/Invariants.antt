@@ -1,5 +1,5 @@
 use Rattle.std.proofs.Common.{ℕ, ◌+◌, ◌<◌, ◌≤◌, length}
-use Rattle.directory_rules.specs.Steps.{arrives}
+use Rattle.model_directory.specs.Steps.{arrives}
 use Rattle.directory_nodes.proofs.Leading.{Leads}
 use Rattle.directory.proofs.reaching.reach.Given as goal
 

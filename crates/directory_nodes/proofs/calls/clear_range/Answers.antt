@@ -1,6 +1,6 @@
 use Rattle.std.proofs.Common.{subst, sym}
-use Rattle.database_rules.specs.Databases.{ClearRange}
-use Rattle.directory_rules.specs.Courses.{does}
+use Rattle.model_database.specs.Databases.{ClearRange}
+use Rattle.model_directory.specs.Courses.{does}
 use Rattle.directory_nodes.specs.Runs.{RunsTo}
 use Rattle.directory_nodes.proofs.Single.{write_ran}
 use Rattle.directory_nodes.proofs.calls.clear_range.Goals as goal

@@ -1,5 +1,5 @@
 use Rattle.std.proofs.Common.{subst, sym}
-use Rattle.directory_rules.specs.Courses.{Gives, Allocates}
+use Rattle.model_directory.specs.Courses.{Gives, Allocates}
 use Rattle.directory_nodes.specs.Runs.{RunsTo}
 use Rattle.directory_nodes.proofs.Single.{grant_ran}
 use Rattle.directory_nodes.proofs.calls.grant.Goals as goal

@@ -1,5 +1,5 @@
 use Rattle.std.proofs.Common.{subst, sym}
-use Rattle.directory_rules.specs.Courses.{pairs_of}
+use Rattle.model_directory.specs.Courses.{pairs_of}
 use Rattle.directory_nodes.specs.Runs.{RunsTo}
 use Rattle.directory_nodes.proofs.Single.{pairs_ran}
 use Rattle.directory_nodes.proofs.calls.pairs_of.Goals as goal

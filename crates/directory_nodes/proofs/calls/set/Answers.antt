@@ -1,9 +1,9 @@
 use Rattle.std.proofs.Common.{subst, sym}
-use Rattle.database_rules.specs.Databases.{Set}
+use Rattle.model_database.specs.Databases.{Set}
 use Rattle.fdb_calls.specs.declared.Reply.TheVariants as reply
 use Rattle.fdb_calls.specs.Answers.{Answered}
-use Rattle.allocator_rules.specs.Acts.{Writes, act_called}
-use Rattle.directory_rules.specs.Courses.{does}
+use Rattle.model_allocator.specs.Acts.{Writes, act_called}
+use Rattle.model_directory.specs.Courses.{does}
 use Rattle.directory_nodes.specs.Runs.{RunsTo}
 use Rattle.directory_nodes.proofs.Single.{write_ran}
 use Rattle.directory_nodes.proofs.calls.set.Goals as goal

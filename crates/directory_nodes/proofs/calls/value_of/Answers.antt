@@ -1,9 +1,9 @@
 use Rattle.std.proofs.Common.{false, subst, sym}
-use Rattle.database_rules.specs.Reads.{Get}
+use Rattle.model_database.specs.Reads.{Get}
 use Rattle.fdb_calls.specs.declared.Reply.TheVariants as reply
 use Rattle.fdb_calls.specs.Answers.{Answered}
 use Rattle.fdb_calls.specs.Calling.{read_called}
-use Rattle.directory_rules.specs.Courses.{value_of}
+use Rattle.model_directory.specs.Courses.{value_of}
 use Rattle.directory_nodes.specs.Runs.{RunsTo}
 use Rattle.directory_nodes.proofs.Single.{value_ran}
 use Rattle.directory_nodes.proofs.calls.value_of.Goals as goal

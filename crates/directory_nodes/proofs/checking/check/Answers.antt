@@ -1,12 +1,12 @@
 use Rattle.std.proofs.Common.{◌≡◌, ℕ, Bool, List, Option, Result, Ok, sym, subst}
-use Rattle.database_rules.specs.Databases.{Set}
-use Rattle.database_rules.specs.Histories.{Setting}
-use Rattle.database_rules.specs.Transactions.{Transaction}
+use Rattle.model_database.specs.Databases.{Set}
+use Rattle.model_database.specs.Histories.{Setting}
+use Rattle.model_database.specs.Transactions.{Transaction}
 use Rattle.directory_types.specs.declared.Layer.{Layer}
 use Rattle.directory_types.specs.declared.fault.DirFault.{DirFault}
-use Rattle.directory_rules.specs.Courses.{Done, done, does, value_of}
-use Rattle.directory_rules.specs.Nodes.{version_key, version_now}
-use Rattle.directory_rules.specs.Steps.{check, version_read, version_checked}
+use Rattle.model_directory.specs.Courses.{Done, done, does, value_of}
+use Rattle.model_directory.specs.Nodes.{version_key, version_now}
+use Rattle.model_directory.specs.Steps.{check, version_read, version_checked}
 use Rattle.directory_nodes.specs.Runs.{Draws, Tells}
 use Rattle.directory_nodes.proofs.Passing.{ran_out}
 use Rattle.directory_nodes.proofs.Values.{read_failed, read_then}

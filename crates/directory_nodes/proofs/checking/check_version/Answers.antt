@@ -1,5 +1,5 @@
 use Rattle.std.proofs.Common.{◌≡◌, ◌∙◌, true, false, ap, sym}
-use Rattle.directory_rules.specs.Nodes.{version_numbers, is_newer}
+use Rattle.model_directory.specs.Nodes.{version_numbers, is_newer}
 use Rattle.directory_nodes.proofs.Versions.{spoiled_read, newer_read, known_read, newer_first, newer_second, known_to_read, known_to_write}
 use Rattle.directory_nodes.proofs.checking.check_version.Goals.{then-version-gt1-via-then-version-gt1, then-writes, else-writes}
 use Rattle.directory_nodes.proofs.checking.check_version.Goals.{then-version-gt1-via-else-version-gt1+then-version-gt0}

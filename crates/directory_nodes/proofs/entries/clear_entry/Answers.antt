@@ -1,7 +1,7 @@
 use Rattle.std.proofs.Common.{[], Some, ap, ◌∙◌}
-use Rattle.database_rules.specs.Databases.{Clear}
-use Rattle.directory_rules.specs.Nodes.{node_of, entry_of}
-use Rattle.directory_rules.specs.Steps.{found_at, clears_entry}
+use Rattle.model_database.specs.Databases.{Clear}
+use Rattle.model_directory.specs.Nodes.{node_of, entry_of}
+use Rattle.model_directory.specs.Steps.{found_at, clears_entry}
 use Rattle.directory_nodes.proofs.Passing.{ran_out}
 use Rattle.directory_nodes.proofs.Values.{did_so}
 use Rattle.directory_nodes.proofs.entries.clear_entry.Goals as goal

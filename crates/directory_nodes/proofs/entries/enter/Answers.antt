@@ -1,16 +1,16 @@
 use Rattle.std.proofs.Common.{◌≡◌, ℕ, List, Result, Ok, Err, ap, ◌∙◌}
 use Rattle.std.specs.Prelude.{IsErrAnd}
-use Rattle.database_rules.specs.Databases.{Set}
-use Rattle.database_rules.specs.Histories.{Setting}
-use Rattle.database_rules.specs.Transactions.{Transaction}
+use Rattle.model_database.specs.Databases.{Set}
+use Rattle.model_database.specs.Histories.{Setting}
+use Rattle.model_database.specs.Transactions.{Transaction}
 use Rattle.directory_types.specs.declared.Layer.{Layer}
 use Rattle.directory_types.specs.declared.fault.DirFault.{DirFault}
 use Rattle.directory_types.specs.declared.fault.DirFault.TheVariants as fault
-use Rattle.directory_rules.specs.declared.Directory.{Directory}
-use Rattle.directory_rules.specs.Courses.{Course, Gives, ◌>>=◌, Done, done, does}
-use Rattle.directory_rules.specs.Nodes.{node_of, layer_key}
-use Rattle.directory_rules.specs.Steps.{directory, sets_entry}
-use Rattle.directory_rules.specs.Calls.{enters}
+use Rattle.model_directory.specs.declared.Directory.{Directory}
+use Rattle.model_directory.specs.Courses.{Course, Gives, ◌>>=◌, Done, done, does}
+use Rattle.model_directory.specs.Nodes.{node_of, layer_key}
+use Rattle.model_directory.specs.Steps.{directory, sets_entry}
+use Rattle.model_directory.specs.Calls.{enters}
 use Rattle.directory_nodes.specs.Runs.{Draws}
 use Rattle.directory_nodes.proofs.Following.{then_drew, gave}
 use Rattle.directory_nodes.proofs.Passing.{ended_so, ran_out}

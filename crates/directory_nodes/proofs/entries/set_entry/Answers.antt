@@ -1,7 +1,7 @@
 use Rattle.std.proofs.Common.{◌≡◌, ap, ◌∙◌}
-use Rattle.database_rules.specs.Databases.{Set}
-use Rattle.directory_rules.specs.Nodes.{node_of, entry_of}
-use Rattle.directory_rules.specs.Steps.{sets_entry}
+use Rattle.model_database.specs.Databases.{Set}
+use Rattle.model_directory.specs.Nodes.{node_of, entry_of}
+use Rattle.model_directory.specs.Steps.{sets_entry}
 use Rattle.directory_nodes.proofs.Passing.{ran_out}
 use Rattle.directory_nodes.proofs.Values.{did_so}
 use Rattle.directory_nodes.proofs.entries.set_entry.Goals as goal

@@ -1,12 +1,12 @@
 use Rattle.std.proofs.Common.{◌≡◌, ℕ, Bool, List, Option, None, Result, Ok, sym, ap, subst, ◌∙◌}
-use Rattle.database_rules.specs.Histories.{Setting}
-use Rattle.database_rules.specs.Transactions.{Transaction}
+use Rattle.model_database.specs.Histories.{Setting}
+use Rattle.model_database.specs.Transactions.{Transaction}
 use Rattle.directory_types.specs.declared.Layer.{Layer}
 use Rattle.directory_types.specs.declared.fault.DirFault.{DirFault}
-use Rattle.directory_rules.specs.declared.Directory.{Directory}
-use Rattle.directory_rules.specs.Courses.{value_of}
-use Rattle.directory_rules.specs.Nodes.{node_of, entry_of}
-use Rattle.directory_rules.specs.Steps.{below, directory_at, child_of}
+use Rattle.model_directory.specs.declared.Directory.{Directory}
+use Rattle.model_directory.specs.Courses.{value_of}
+use Rattle.model_directory.specs.Nodes.{node_of, entry_of}
+use Rattle.model_directory.specs.Steps.{below, directory_at, child_of}
 use Rattle.directory_nodes.specs.Runs.{Draws}
 use Rattle.directory_nodes.proofs.Following.{gave}
 use Rattle.directory_nodes.proofs.Passing.{ran_out}

@@ -1,9 +1,9 @@
 use Rattle.std.proofs.Common.{◌≡◌, ℕ, [], List, Option, Some, Ok, sym, ap, ◌∙◌}
 use Rattle.std.specs.Prelude.{unwrap_or}
-use Rattle.directory_rules.specs.declared.Directory.{Directory}
-use Rattle.directory_rules.specs.Courses.{Course, Gives}
-use Rattle.directory_rules.specs.Nodes.{node_of, layer_key}
-use Rattle.directory_rules.specs.Steps.{directory, directory_at}
+use Rattle.model_directory.specs.declared.Directory.{Directory}
+use Rattle.model_directory.specs.Courses.{Course, Gives}
+use Rattle.model_directory.specs.Nodes.{node_of, layer_key}
+use Rattle.model_directory.specs.Steps.{directory, directory_at}
 use Rattle.directory_nodes.proofs.Passing.{ran_out, gave_so}
 use Rattle.directory_nodes.proofs.Values.{read_failed, read_then}
 use Rattle.directory_nodes.proofs.finding.directory_at.Goals as goal

@@ -1,9 +1,9 @@
 use Rattle.std.proofs.Common.{◌≡◌, ℕ, Bool, List, [], ◌∷◌, Option, Some, None, Ok, sym, ap, subst, ◌∙◌, inl, inr, length, rules, arith, refl}
 use Rattle.std.proofs.lemmas.List.{nil_from_length}
 use Rattle.directory_types.specs.declared.Layer.{Layer}
-use Rattle.directory_rules.specs.declared.Directory.{Directory}
-use Rattle.directory_rules.specs.Courses.{Course}
-use Rattle.directory_rules.specs.Steps.{Found, found_at, below, child_of, find_from, find}
+use Rattle.model_directory.specs.declared.Directory.{Directory}
+use Rattle.model_directory.specs.Courses.{Course}
+use Rattle.model_directory.specs.Steps.{Found, found_at, below, child_of, find_from, find}
 use Rattle.directory_nodes.specs.Places.{found_so}
 use Rattle.directory_nodes.specs.Runs.{Draws}
 use Rattle.directory_nodes.proofs.Following.{then_drew, gave}

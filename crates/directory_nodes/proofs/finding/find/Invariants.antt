@@ -1,5 +1,5 @@
 use Rattle.std.proofs.Common.{◌≡◌, ◌⊎◌, ◌≤◌, ◌<◌, [], length}
-use Rattle.directory_rules.specs.Steps.{find, find_from}
+use Rattle.model_directory.specs.Steps.{find, find_from}
 use Rattle.directory_nodes.proofs.Leading.{Leads}
 use Rattle.directory_nodes.proofs.finding.find.Given as goal
 

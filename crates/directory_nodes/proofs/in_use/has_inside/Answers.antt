@@ -2,9 +2,9 @@ use Rattle.std.proofs.Common.{◌∙◌, ℕ, Bool, false, not, List, Ok, refl, 
 use Rattle.key_bytes.specs.Successors.{strinc}
 use Rattle.directory_types.specs.declared.Layer.{Layer}
 use Rattle.directory_types.specs.declared.fault.DirFault.TheVariants as fault
-use Rattle.directory_rules.specs.Courses.{Course, ◌>>=◌, pairs_of}
-use Rattle.directory_rules.specs.Nodes.{node_of}
-use Rattle.directory_rules.specs.Steps.{has_inside}
+use Rattle.model_directory.specs.Courses.{Course, ◌>>=◌, pairs_of}
+use Rattle.model_directory.specs.Nodes.{node_of}
+use Rattle.model_directory.specs.Steps.{has_inside}
 use Rattle.directory_nodes.proofs.Passing.{ran_out}
 use Rattle.directory_nodes.proofs.Ranges.{pairs_failed, found_some, some_found}
 use Rattle.directory_nodes.proofs.Refusing.{there_is, not_there}

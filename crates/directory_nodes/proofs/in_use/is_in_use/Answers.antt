@@ -1,8 +1,8 @@
 use Rattle.std.proofs.Common.{◌≡◌, ◌∙◌, true, length, Ok, ap, sym}
 use Rattle.std.specs.Prelude.{◌||◌, ◌==◌}
 use Rattle.key_bytes.specs.Keys.{begins_with}
-use Rattle.directory_rules.specs.Courses.{Gives}
-use Rattle.directory_rules.specs.Steps.{is_in_use, is_node_inside}
+use Rattle.model_directory.specs.Courses.{Gives}
+use Rattle.model_directory.specs.Steps.{is_in_use, is_node_inside}
 use Rattle.directory_nodes.proofs.Deciding.{where_true, where_false, one_holds, other_holds, neither_holds}
 use Rattle.directory_nodes.proofs.Following.{gave}
 use Rattle.directory_nodes.proofs.in_use.is_in_use.Goals.{then-is_empty-via-then-is_empty, then-is_empty-via-else-is_empty+then-starts_with}

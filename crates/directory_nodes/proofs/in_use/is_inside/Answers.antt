@@ -1,7 +1,7 @@
 use Rattle.std.proofs.Common.{◌∙◌, Ok, Err, ap, sym}
 use Rattle.key_bytes.specs.Keys.{begins_with}
 use Rattle.directory_types.specs.declared.fault.DirFault.TheVariants as fault
-use Rattle.directory_rules.specs.Steps.{begins_so}
+use Rattle.model_directory.specs.Steps.{begins_so}
 use Rattle.directory_nodes.proofs.Insides.{none_inside, first_inside}
 use Rattle.directory_nodes.proofs.in_use.is_inside.Goals as goal
 

@@ -1,12 +1,12 @@
 use Rattle.std.proofs.Common.{◌≡◌, ℕ, Bool, true, cond, List, [], ◌∷◌, ◌++◌, Result, Ok, Err}
-use Rattle.database_rules.specs.Histories.{Setting}
-use Rattle.database_rules.specs.Slices.{Entries}
-use Rattle.database_rules.specs.Transactions.{Transaction}
+use Rattle.model_database.specs.Histories.{Setting}
+use Rattle.model_database.specs.Slices.{Entries}
+use Rattle.model_database.specs.Transactions.{Transaction}
 use Rattle.directory_types.specs.declared.Layer.{Layer}
 use Rattle.directory_types.specs.declared.fault.DirFault.{DirFault}
-use Rattle.directory_rules.specs.Courses.{Course, Gives, ◌>>=◌, given, pairs_of}
-use Rattle.directory_rules.specs.Nodes.{node_of}
-use Rattle.directory_rules.specs.Steps.{is_inside, has_inside, is_node_inside}
+use Rattle.model_directory.specs.Courses.{Course, Gives, ◌>>=◌, given, pairs_of}
+use Rattle.model_directory.specs.Nodes.{node_of}
+use Rattle.model_directory.specs.Steps.{is_inside, has_inside, is_node_inside}
 use Rattle.directory_nodes.specs.Runs.{Draws, Tells}
 use Rattle.directory_nodes.proofs.Deciding.{where_true, where_false}
 use Rattle.directory_nodes.proofs.Following.{then_drew, gave}

@@ -1,12 +1,12 @@
 use Rattle.std.proofs.Common.{◌≡◌, ℕ, Bool, true, false, List, Result, Ok, Err, refl}
-use Rattle.database_rules.specs.Histories.{Setting}
-use Rattle.database_rules.specs.Transactions.{Transaction}
+use Rattle.model_database.specs.Histories.{Setting}
+use Rattle.model_database.specs.Transactions.{Transaction}
 use Rattle.directory_types.specs.declared.Layer.{Layer}
 use Rattle.directory_types.specs.declared.fault.DirFault.{DirFault}
 use Rattle.directory_types.specs.declared.fault.DirFault.TheVariants as fault
-use Rattle.directory_rules.specs.Courses.{Gives, ◌>>=◌, Done}
-use Rattle.directory_rules.specs.Steps.{is_in_use}
-use Rattle.directory_rules.specs.Calls.{has_keys, free_prefix}
+use Rattle.model_directory.specs.Courses.{Gives, ◌>>=◌, Done}
+use Rattle.model_directory.specs.Steps.{is_in_use}
+use Rattle.model_directory.specs.Calls.{has_keys, free_prefix}
 use Rattle.directory_nodes.specs.Runs.{Draws}
 use Rattle.directory_nodes.proofs.Following.{then_drew, gave}
 use Rattle.directory_nodes.proofs.Passing.{ended_so}

@@ -1,8 +1,8 @@
 use Rattle.std.proofs.Common.{false, Ok, Err, refl, sym}
 use Rattle.directory_types.specs.declared.fault.DirFault.TheVariants as fault
-use Rattle.directory_rules.specs.Courses.{Gives, Done}
-use Rattle.directory_rules.specs.Steps.{is_in_use}
-use Rattle.directory_rules.specs.Calls.{given_prefix}
+use Rattle.model_directory.specs.Courses.{Gives, Done}
+use Rattle.model_directory.specs.Steps.{is_in_use}
+use Rattle.model_directory.specs.Calls.{given_prefix}
 use Rattle.directory_nodes.proofs.Following.{then_drew}
 use Rattle.directory_nodes.proofs.Passing.{ended_so, ran_out, gave_so}
 use Rattle.directory_nodes.proofs.Refusing.{passed_where, refused_where}

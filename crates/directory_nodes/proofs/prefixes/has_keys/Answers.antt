@@ -1,8 +1,8 @@
 use Rattle.std.proofs.Common.{◌∙◌, ℕ, Bool, false, not, List, Ok, refl, sym}
 use Rattle.key_bytes.specs.Successors.{strinc}
 use Rattle.directory_types.specs.declared.fault.DirFault.TheVariants as fault
-use Rattle.directory_rules.specs.Courses.{Course, ◌>>=◌, pairs_of}
-use Rattle.directory_rules.specs.Calls.{has_keys}
+use Rattle.model_directory.specs.Courses.{Course, ◌>>=◌, pairs_of}
+use Rattle.model_directory.specs.Calls.{has_keys}
 use Rattle.directory_nodes.proofs.Passing.{ran_out}
 use Rattle.directory_nodes.proofs.Ranges.{pairs_failed, found_some, some_found}
 use Rattle.directory_nodes.proofs.Refusing.{there_is, not_there}

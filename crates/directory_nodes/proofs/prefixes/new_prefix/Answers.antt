@@ -1,8 +1,8 @@
 use Rattle.std.proofs.Common.{ℕ, List, ◌++◌, Ok, Err, subst}
 use Rattle.directory_types.specs.declared.Layer.{Layer}
-use Rattle.directory_rules.specs.Courses.{Course, Gives, Allocates}
-use Rattle.directory_rules.specs.Nodes.{allocator_of, packed_number}
-use Rattle.directory_rules.specs.Calls.{free_prefix, new_prefix}
+use Rattle.model_directory.specs.Courses.{Course, Gives, Allocates}
+use Rattle.model_directory.specs.Nodes.{allocator_of, packed_number}
+use Rattle.model_directory.specs.Calls.{free_prefix, new_prefix}
 use Rattle.directory_nodes.specs.Runs.{Draws}
 use Rattle.directory_nodes.proofs.Following.{then_drew}
 use Rattle.directory_nodes.proofs.Passing.{ended_so, ran_out}

@@ -1,8 +1,8 @@
 use Rattle.std.proofs.Common.{ℕ, true, false, List, Option, sym, subst}
 use Rattle.directory_types.specs.declared.Layer.{Layer}
-use Rattle.directory_rules.specs.Courses.{Course, Done}
-use Rattle.directory_rules.specs.Steps.{check}
-use Rattle.directory_rules.specs.Calls.{prefix_for, takes_prefix}
+use Rattle.model_directory.specs.Courses.{Course, Done}
+use Rattle.model_directory.specs.Steps.{check}
+use Rattle.model_directory.specs.Calls.{prefix_for, takes_prefix}
 use Rattle.directory_nodes.specs.Runs.{Draws}
 use Rattle.directory_nodes.proofs.Following.{then_drew}
 use Rattle.directory_nodes.proofs.Passing.{ended_so}

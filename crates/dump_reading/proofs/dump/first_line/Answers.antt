@@ -1,6 +1,6 @@
 use Rattle.std.proofs.Common.{◌≡◌, ◌+◌, length, suc, arith}
 use Rattle.std.proofs.lemmas.List.{take_rest, drop_all}
-use Rattle.line_rules.specs.Reading.{lines_of}
+use Rattle.model_lines.specs.Reading.{lines_of}
 use Rattle.dump_text.proofs.Inputs.{whole_line, last_line}
 use Rattle.dump_reading.proofs.PairLines.{whole_alone}
 use Rattle.dump_reading.proofs.dump.first_line.Goals as goal

@@ -1,7 +1,7 @@
 use Rattle.std.proofs.Common.{◌≡◌, ◌+◌, ◌∷◌, ◌++◌, [], Ok, length, ap, sym, arith}
 use Rattle.std.proofs.lemmas.Bool.{eqb-true}
 use Rattle.std.proofs.lemmas.Result.{err_from_is_err_and}
-use Rattle.line_rules.specs.Reading.{Place, start, next_place, lines_of, is_pair}
+use Rattle.model_lines.specs.Reading.{Place, start, next_place, lines_of, is_pair}
 use Rattle.dump_reading.specs.Dumps.{read_line, read_lines, dump_in}
 use Rattle.dump_reading.specs.Seen.{line_is, place_is}
 use Rattle.dump_reading.proofs.DumpSteps.{is_read, before_nothing, line_goes_on, line_ends, all_read}

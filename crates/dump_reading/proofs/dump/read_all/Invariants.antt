@@ -1,5 +1,5 @@
 use Rattle.std.proofs.Common.{◌≡◌, ◌+◌, ◌<◌, ◌≤◌, length}
-use Rattle.line_rules.specs.Reading.{input_limit, lines_of}
+use Rattle.model_lines.specs.Reading.{input_limit, lines_of}
 use Rattle.dump_reading.specs.Dumps.{read_lines, dump_in}
 use Rattle.dump_reading.specs.Seen.{place_is}
 use Rattle.dump_reading.proofs.DumpSteps.{before}

@@ -1,6 +1,6 @@
 use Rattle.std.proofs.Common.{◌≡◌, ◌+◌, ◌-◌, ◌≤◌, length, drop}
 use Rattle.std.specs.List.{prefix_len}
-use Rattle.input_rules.specs.Orders.{is_digit}
+use Rattle.model_input.specs.Orders.{is_digit}
 use Rattle.dump_reading.proofs.field.digits_len.Given as goal
 
 -- what was passed belongs to the run

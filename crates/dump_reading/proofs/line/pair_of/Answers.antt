@@ -1,5 +1,5 @@
 use Rattle.std.proofs.Common.{◌∙◌, sym}
-use Rattle.line_rules.specs.Reading.{pair_at}
+use Rattle.model_lines.specs.Reading.{pair_at}
 use Rattle.dump_reading.specs.Seen.{line_is}
 use Rattle.dump_reading.proofs.PairLines.{input_alone, pair_found, bad_where_it_stands, long_where_it_stands, never_too_many}
 use Rattle.dump_reading.proofs.line.pair_of.Goals as goal

@@ -1,6 +1,6 @@
 use Rattle.std.proofs.Common.{◌≡◌, ◌≤◌, ◌++◌, length}
 use Rattle.key_bytes.specs.Keys.{IsByteString}
-use Rattle.line_rules.specs.Printing.{printable_but}
+use Rattle.model_lines.specs.Printing.{printable_but}
 use Rattle.dump_reading.proofs.printable.read_printable.Given as goal
 
 -- what was read is spelled before what is left

@@ -1,5 +1,5 @@
 use Rattle.std.proofs.lemmas.Result.{err_from_is_err_and}
-use Rattle.input_rules.specs.Forms.{input_of}
+use Rattle.model_input.specs.Forms.{input_of}
 use Rattle.dump_text.proofs.Replays.{run_is, run_fails}
 use Rattle.dump_text.proofs.input.read_input.Goals as goal
 

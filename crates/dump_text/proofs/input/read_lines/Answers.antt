@@ -1,9 +1,9 @@
 use Rattle.std.proofs.Common.{List, ℕ, Result, Ok, Err, subst, sym}
 use Rattle.std.specs.Prelude.{IfOk}
-use Rattle.input_rules.specs.declared.input.Form.{Form}
-use Rattle.input_rules.specs.declared.input.Input.{Input}
-use Rattle.input_rules.specs.Forms.{input_of, IsInputOf}
-use Rattle.input_rules.proofs.Limits.{more_changes_nothing}
+use Rattle.model_input.specs.declared.input.Form.{Form}
+use Rattle.model_input.specs.declared.input.Input.{Input}
+use Rattle.model_input.specs.Forms.{input_of, IsInputOf}
+use Rattle.model_input.proofs.Limits.{more_changes_nothing}
 use Rattle.dump_text.specs.declared.fault.LineFault.{LineFault}
 use Rattle.dump_text.specs.Reading.{Gives}
 use Rattle.dump_text.proofs.Forms.{input_was, input_again}

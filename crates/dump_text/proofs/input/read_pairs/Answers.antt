@@ -2,11 +2,11 @@ use Rattle.std.proofs.Common.{◌≡◌, ◌∷◌, ◌++◌, [], Ok, length, sy
 use Rattle.std.proofs.lemmas.Bool.{eqb-true}
 use Rattle.std.proofs.lemmas.Result.{err_from_is_err_and}
 use Rattle.key_bytes.specs.Entries.{entry_of}
-use Rattle.line_rules.specs.Reading.{lines_of, read_line, read_lines}
+use Rattle.model_lines.specs.Reading.{lines_of, read_line, read_lines}
 use Rattle.dump_text.specs.InputLines.{line_is}
 use Rattle.dump_text.specs.Places.{place_at}
 use Rattle.dump_text.proofs.Inputs.{line_goes_on, line_ends, all_read, before_nothing}
-use Rattle.line_rules.proofs.ReadLines.{is_read}
+use Rattle.model_lines.proofs.ReadLines.{is_read}
 use Rattle.dump_text.proofs.input.read_pairs.Goals as goal
 
 pub loop-left-init : goal.loop-left-init

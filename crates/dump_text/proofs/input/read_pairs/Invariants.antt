@@ -1,5 +1,5 @@
 use Rattle.std.proofs.Common.{◌≡◌, ◌+◌, ◌-◌, ◌≤◌, [], length}
-use Rattle.line_rules.specs.Reading.{input_limit, lines_of, read_lines}
+use Rattle.model_lines.specs.Reading.{input_limit, lines_of, read_lines}
 use Rattle.dump_text.specs.Places.{place_at}
 use Rattle.dump_text.proofs.Inputs.{before}
 use Rattle.dump_text.proofs.input.read_pairs.Given as goal

@@ -1,9 +1,9 @@
 use Rattle.std.proofs.Common.{◌≡◌, ◌∷◌, ◌++◌, [], Ok, sym, arith}
 use Rattle.std.proofs.lemmas.Result.{err_from_is_err_and}
-use Rattle.line_rules.specs.Reading.{start, lines_of}
-use Rattle.input_rules.specs.Orders.{read_machine}
-use Rattle.input_rules.specs.Forms.{read_replay}
-use Rattle.input_rules.proofs.Machines.{is_read}
+use Rattle.model_lines.specs.Reading.{start, lines_of}
+use Rattle.model_input.specs.Orders.{read_machine}
+use Rattle.model_input.specs.Forms.{read_replay}
+use Rattle.model_input.proofs.Machines.{is_read}
 use Rattle.dump_text.specs.InputLines.{line_is}
 use Rattle.dump_text.specs.Places.{place_at}
 use Rattle.dump_text.proofs.Replays.{machine_goes_on, machine_ends, pairs_follow, pairs_end}

@@ -1,6 +1,6 @@
 use Rattle.std.proofs.Common.{◌≡◌, ◌+◌, ◌-◌, ◌≤◌, [], length}
-use Rattle.line_rules.specs.Reading.{input_limit, start, lines_of}
-use Rattle.input_rules.specs.Forms.{read_replay}
+use Rattle.model_lines.specs.Reading.{input_limit, start, lines_of}
+use Rattle.model_input.specs.Forms.{read_replay}
 use Rattle.dump_text.specs.Places.{place_at}
 use Rattle.dump_text.proofs.Replays.{before}
 use Rattle.dump_text.proofs.input.read_replay.Given as goal

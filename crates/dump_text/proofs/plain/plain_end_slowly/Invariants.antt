@@ -1,6 +1,6 @@
 use Rattle.std.proofs.Common.{◌≡◌, ◌+◌, ◌-◌, ◌≤◌, length, drop}
 use Rattle.std.specs.List.{prefix_len}
-use Rattle.line_rules.specs.Printing.{is_plain}
+use Rattle.model_lines.specs.Printing.{is_plain}
 use Rattle.dump_text.proofs.plain.plain_end_slowly.Given as goal
 
 -- what was passed is plain

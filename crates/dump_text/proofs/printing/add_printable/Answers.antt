@@ -1,6 +1,6 @@
 use Rattle.std.proofs.Common.{◌≡◌, ◌++◌, sym, ◌∙◌, arith, rules}
 use Rattle.std.proofs.lemmas.Bool.{eqb-true}
-use Rattle.line_rules.specs.Printing.{printable}
+use Rattle.model_lines.specs.Printing.{printable}
 use Rattle.dump_text.proofs.Runs.{parts_printed, print_done}
 use Rattle.dump_text.proofs.printing.add_printable.Goals as goal
 

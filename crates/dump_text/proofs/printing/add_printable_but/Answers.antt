@@ -1,7 +1,7 @@
 use Rattle.std.proofs.Common.{◌≡◌, suc, ◌+◌, ◌++◌, Some, take, refl, ap, sym, ◌∙◌, arith}
 use Rattle.std.proofs.lemmas.List.{take_rest, length-drop}
 use Rattle.std.proofs.lemmas.Result.{on_ok_weaker}
-use Rattle.line_rules.specs.Printing.{in_digits, printable, printable_but}
+use Rattle.model_lines.specs.Printing.{in_digits, printable, printable_but}
 use Rattle.dump_text.proofs.Escaped.{escaped_more, printable_without}
 use Rattle.dump_text.proofs.Grown.{grew_more}
 use Rattle.dump_text.proofs.printing.add_printable_but.Goals as goal

@@ -1,5 +1,5 @@
 use Rattle.std.proofs.Common.{◌≡◌, ◌≤◌, ◌++◌, Some, length}
-use Rattle.line_rules.specs.Printing.{printable_but}
+use Rattle.model_lines.specs.Printing.{printable_but}
 use Rattle.dump_text.specs.Growing.{Grew}
 use Rattle.dump_text.proofs.printing.add_printable_but.Given as goal
 

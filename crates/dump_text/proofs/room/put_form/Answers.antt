@@ -1,5 +1,5 @@
 use Rattle.std.proofs.Common.{◌≡◌, [], ◌++◌, get_or, length, take, ap, ◌∙◌, arith}
-use Rattle.line_rules.specs.Printing.{printed}
+use Rattle.model_lines.specs.Printing.{printed}
 use Rattle.dump_text.specs.declared.room.TheConstants.{FORMS, LENGTHS}
 use Rattle.dump_text.proofs.Rooms.{front_placed, form_is, form_long, form_short}
 use Rattle.dump_text.proofs.room.put_form.Goals as goal

@@ -1,5 +1,5 @@
 use Rattle.std.proofs.Common.{◌-◌, ◌++◌, take, drop, length, slice_index_or, append_assoc, refl, ◌∙◌, arith}
-use Rattle.line_rules.specs.Printing.{printed, printable}
+use Rattle.model_lines.specs.Printing.{printed, printable}
 use Rattle.dump_text.proofs.Runs.{print_first, print_done}
 use Rattle.dump_text.proofs.room.put_forms.Goals as goal
 

@@ -1,5 +1,5 @@
 use Rattle.std.proofs.Common.{◌≡◌, ◌+◌, ◌*◌, ◌≤◌, ◌++◌, length, take}
-use Rattle.line_rules.specs.Printing.{printable}
+use Rattle.model_lines.specs.Printing.{printable}
 use Rattle.dump_text.proofs.room.put_forms.Given as goal
 
 -- what was put, before what is still to put, is all, and there is room for what is still to put

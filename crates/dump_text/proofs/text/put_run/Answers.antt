@@ -1,6 +1,6 @@
 use Rattle.std.proofs.Common.{take, arith}
 use Rattle.std.proofs.lemmas.List.{take_rest, length-drop}
-use Rattle.line_rules.specs.Reading.{text_of}
+use Rattle.model_lines.specs.Reading.{text_of}
 use Rattle.dump_text.specs.Texts.{with_front}
 use Rattle.dump_text.proofs.Pieces.{read_run}
 use Rattle.dump_text.proofs.text.put_run.Goals as goal

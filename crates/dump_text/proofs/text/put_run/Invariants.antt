@@ -1,5 +1,5 @@
 use Rattle.std.proofs.Common.{◌≡◌, ◌+◌, ◌≤◌, length, take}
-use Rattle.line_rules.specs.Reading.{text_of}
+use Rattle.model_lines.specs.Reading.{text_of}
 use Rattle.dump_text.specs.Texts.{with_front}
 use Rattle.dump_text.proofs.text.put_run.Given as goal
 

@@ -1,7 +1,7 @@
 use Rattle.std.proofs.Common.{◌≡◌, take, ◌∙◌, arith, subst}
 use Rattle.std.specs.Prelude.{IfOk}
 use Rattle.std.proofs.lemmas.Result.{IfOk-weaker}
-use Rattle.line_rules.specs.Reading.{text_of}
+use Rattle.model_lines.specs.Reading.{text_of}
 use Rattle.dump_text.specs.Texts.{text_is}
 use Rattle.dump_text.proofs.Pieces.{read_one, spelled_within, separator_within, done_nothing, done_separator, done_unfit}
 use Rattle.dump_text.proofs.text.read_on.Goals as goal

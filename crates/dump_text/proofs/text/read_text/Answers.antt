@@ -1,6 +1,6 @@
 use Rattle.std.proofs.Common.{◌≡◌, arith, subst}
 use Rattle.std.specs.Prelude.{IfOk}
-use Rattle.line_rules.specs.Reading.{text_of}
+use Rattle.model_lines.specs.Reading.{text_of}
 use Rattle.dump_text.specs.Texts.{text_is}
 use Rattle.dump_text.proofs.Pieces.{text_parts, done_nothing, done_separator, nothing_at, separator_at}
 use Rattle.dump_text.proofs.text.read_text.Goals as goal

@@ -1,8 +1,8 @@
 use Rattle.std.proofs.Common.{◌≡◌, ◌+◌, ◌≤◌, ◌∷◌, ◌++◌, [], Ok, length, sym, arith}
 use Rattle.std.proofs.lemmas.Bool.{eqb-true}
 use Rattle.std.proofs.lemmas.Result.{err_from_is_err_and}
-use Rattle.line_rules.specs.Reading.{lines_of, input_limit, size_of}
-use Rattle.event_rules.specs.Events.{start, read_event, read_events, events_of}
+use Rattle.model_lines.specs.Reading.{lines_of, input_limit, size_of}
+use Rattle.model_events.specs.Events.{start, read_event, read_events, events_of}
 use Rattle.dump_text.specs.InputLines.{line_is}
 use Rattle.event_lines.specs.Lines.{place_is}
 use Rattle.event_lines.proofs.EventReading.{line_goes_on, line_ends, all_read, before_nothing, within_limit}

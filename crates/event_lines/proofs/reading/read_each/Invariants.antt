@@ -1,6 +1,6 @@
 use Rattle.std.proofs.Common.{◌≡◌, ◌+◌, ◌-◌, ◌≤◌, length}
-use Rattle.line_rules.specs.Reading.{input_limit, lines_of}
-use Rattle.event_rules.specs.Events.{start, read_events}
+use Rattle.model_lines.specs.Reading.{input_limit, lines_of}
+use Rattle.model_events.specs.Events.{start, read_events}
 use Rattle.event_lines.specs.Lines.{place_is}
 use Rattle.event_lines.proofs.EventReading.{before}
 use Rattle.event_lines.proofs.reading.read_each.Given as goal

@@ -1,5 +1,5 @@
 use Rattle.std.proofs.Common.{List, subst}
-use Rattle.event_rules.specs.declared.event.Event.{Event}
+use Rattle.model_events.specs.declared.event.Event.{Event}
 use Rattle.event_lines.proofs.Again.{events_again}
 use Rattle.event_lines.proofs.Lawful.{found_events}
 use Rattle.dump_text.specs.Reading.{Gives}

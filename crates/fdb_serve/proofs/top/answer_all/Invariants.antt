@@ -1,6 +1,6 @@
 -- The requests that were read so far were answered, and the counts of faults didn't fall.
 use Rattle.std.proofs.Common.{◌≡◌, ◌≤◌, ◌-◌, ◌^◌, ℕ, Option}
-use Rattle.database_rules.specs.declared.Api.{Api}
+use Rattle.model_database.specs.declared.Api.{Api}
 use Rattle.fdb_serve.specs.Serving.{first_world}
 use Rattle.fdb_serve.specs.Standing.{Stands}
 use Rattle.fdb_serve.specs.Endings.{IsAt}

@@ -1,6 +1,6 @@
 use Rattle.std.proofs.Common.{List, ℕ, subst, sym}
 use Rattle.std.specs.List.{AllByRecursion}
-use Rattle.line_rules.specs.Inputs.{IsSmall}
+use Rattle.model_lines.specs.Inputs.{IsSmall}
 use Rattle.generator.proofs.Small.{gen_pairs_small}
 use Rattle.generator.proofs.pairs.gen_pairs.Goals as goal
 

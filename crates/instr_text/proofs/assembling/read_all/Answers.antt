@@ -1,7 +1,7 @@
 use Rattle.std.proofs.Common.{ℕ, ◌+◌, length, Err, refl, sym, ap, ◌∙◌, arith}
 use Rattle.std.proofs.lemmas.Bool.{eqb-true}
 use Rattle.std.proofs.lemmas.Result.{err_from_is_err_and}
-use Rattle.line_rules.specs.Reading.{BadLine, lines_of, size_of}
+use Rattle.model_lines.specs.Reading.{BadLine, lines_of, size_of}
 use Rattle.dump_reading.specs.Seen.{line_is}
 use Rattle.instr_grammar.specs.Lines.{start, next_place, read_lines, assembled}
 use Rattle.instr_text.proofs.Lawful.{size_is, line_was, may_stand}

@@ -1,5 +1,5 @@
 use Rattle.std.proofs.Common.{◌+◌, ◌-◌, ◌≤◌, length}
-use Rattle.line_rules.specs.Reading.{input_limit}
+use Rattle.model_lines.specs.Reading.{input_limit}
 use Rattle.instr_grammar.specs.Lines.{assembled}
 use Rattle.instr_text.proofs.Steps.{Stands}
 use Rattle.instr_text.proofs.assembling.read_all.Given as goal

@@ -1,7 +1,7 @@
 use Rattle.std.proofs.Common.{◌≡◌, ℕ, ◌^◌, ◌<◌, List, length, Result, Ok, Err, subst, arith}
 use Rattle.std.specs.Prelude.{IfOk, IfErr}
 use Rattle.std.specs.List.{AllByRecursion}
-use Rattle.line_rules.specs.Reading.{Entry}
+use Rattle.model_lines.specs.Reading.{Entry}
 use Rattle.instr_grammar.specs.Texts.{Section, AreSections, asm, text_of}
 use Rattle.instr_grammar.specs.Taking.{disassembled}
 use Rattle.instr_text.specs.declared.fault.DisFault.{DisFault}

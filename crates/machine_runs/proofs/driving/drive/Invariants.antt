@@ -1,5 +1,5 @@
 use Rattle.std.proofs.Common.{◌-◌, length}
-use Rattle.machine_rules.specs.declared.TheConstants.{MACHINES}
+use Rattle.model_machine.specs.declared.TheConstants.{MACHINES}
 use Rattle.machine_runs.specs.Driving.{GoesOnByTurns, IsGoing}
 use Rattle.machine_runs.proofs.driving.drive.Given as goal
 

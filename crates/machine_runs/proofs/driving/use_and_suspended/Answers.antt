@@ -2,8 +2,8 @@ use Rattle.std.proofs.Common.{◌≡◌, None, Some, ℕ, Option, refl, sym, ap,
 use Rattle.std.specs.Prelude.{IfSome, map, option_to_list, slice_get, slice_set}
 use Rattle.std.proofs.lemmas.List.{append-nil}
 use Rattle.std.proofs.lemmas.Option.{same_Some}
-use Rattle.machine_rules.specs.declared.MachineOptions.{MachineOptions}
-use Rattle.machine_rules.specs.Runs.{started_by}
+use Rattle.model_machine.specs.declared.MachineOptions.{MachineOptions}
+use Rattle.model_machine.specs.Runs.{started_by}
 use Rattle.suspended_machine.specs.declared.suspended.SuspendedMachine.{SuspendedMachine}
 use Rattle.suspended_machine.specs.SuspendedMachines.{progress_of, IsSuspended}
 use Rattle.machine_runs.proofs.SuspendedMachines.{asks_there, get_within}

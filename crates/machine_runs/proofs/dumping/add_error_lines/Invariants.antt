@@ -1,6 +1,6 @@
 use Rattle.std.proofs.Common.{◌≡◌, ◌++◌, take}
 use Rattle.std.specs.List.{flat_map}
-use Rattle.line_rules.specs.Printing.{error_line}
+use Rattle.model_lines.specs.Printing.{error_line}
 use Rattle.machine_runs.proofs.dumping.add_error_lines.Given as goal
 
 abbrev pub invariant-loop-note : goal.invariant-loop-note

@@ -1,5 +1,5 @@
 use Rattle.std.proofs.Common.{◌≡◌, ◌++◌}
-use Rattle.line_rules.specs.Inputs.{pair_lines}
+use Rattle.model_lines.specs.Inputs.{pair_lines}
 use Rattle.machine_runs.specs.Dumps.{newest_pairs}
 use Rattle.machine_runs.proofs.dumping.add_pair_lines.Given as goal
 

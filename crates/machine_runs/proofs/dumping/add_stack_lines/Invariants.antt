@@ -1,5 +1,5 @@
 use Rattle.std.proofs.Common.{◌≡◌, ◌++◌}
-use Rattle.machine_rules.specs.Runs.{stack_lines}
+use Rattle.model_machine.specs.Runs.{stack_lines}
 use Rattle.machine_runs.proofs.Stacks.{lines_from}
 use Rattle.machine_runs.proofs.dumping.add_stack_lines.Given as goal
 

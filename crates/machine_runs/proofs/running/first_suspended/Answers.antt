@@ -1,9 +1,9 @@
 use Rattle.std.proofs.Common.{ℕ, List, ap, ◌∙◌}
 use Rattle.std.specs.Map.{values_of}
-use Rattle.machine_rules.specs.declared.MachineOptions.{MachineOptions}
-use Rattle.machine_rules.specs.Machines.{silent}
-use Rattle.machine_rules.specs.Runs.{at_rest, machine_options, started}
-use Rattle.machine_rules.specs.Worlds.{instruction_pairs}
+use Rattle.model_machine.specs.declared.MachineOptions.{MachineOptions}
+use Rattle.model_machine.specs.Machines.{silent}
+use Rattle.model_machine.specs.Runs.{at_rest, machine_options, started}
+use Rattle.model_machine.specs.Worlds.{instruction_pairs}
 use Rattle.machine_runs.proofs.Finished.{is_first, kept_map}
 use Rattle.machine_runs.proofs.running.first_suspended.Goals as goal
 

@@ -1,5 +1,5 @@
 use Rattle.std.proofs.Common.{subst}
-use Rattle.command_rules.specs.declared.args.RunArgs.{RunArgs}
+use Rattle.model_commands.specs.declared.args.RunArgs.{RunArgs}
 use Rattle.machine_runs.specs.Arguments.{gen_arguments}
 use Rattle.machine_runs.specs.Driving.{EndsByTurns}
 use Rattle.machine_runs.proofs.Finished.{run_turns, starts_at}

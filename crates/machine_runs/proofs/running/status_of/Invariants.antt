@@ -1,6 +1,6 @@
 use Rattle.std.proofs.Common.{◌≡◌, true, take}
 use Rattle.std.specs.List.{list_all}
-use Rattle.machine_rules.specs.Runs.{has_ended}
+use Rattle.model_machine.specs.Runs.{has_ended}
 use Rattle.machine_runs.proofs.running.status_of.Given as goal
 
 abbrev pub invariant-loop-suspended : goal.invariant-loop-suspended

@@ -1,5 +1,5 @@
 use Rattle.std.proofs.Common.{◌-◌, ◌*◌, ◌+◌}
-use Rattle.machine_rules.specs.declared.TheConstants.{MACHINES}
+use Rattle.model_machine.specs.declared.TheConstants.{MACHINES}
 use Rattle.machine_threads.proofs.team.+machines.Given as goal
 
 -- by how many machines there is room for above the newest

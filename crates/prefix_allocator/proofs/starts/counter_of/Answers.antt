@@ -2,7 +2,7 @@ use Rattle.std.proofs.Common.{◌≡◌, length, reverse, Some, sym, ap, ◌∙�
 use Rattle.std.specs.Prelude.{bytes_eq}
 use Rattle.std.proofs.lemmas.Bool.{not-true, not-false}
 use Rattle.key_bytes.specs.Numbers.{number_low}
-use Rattle.allocator_rules.specs.Counters.{counter_key}
+use Rattle.model_allocator.specs.Counters.{counter_key}
 use Rattle.prefix_allocator.proofs.Counters.{said, many_digits, said_counter, another_key, great_number}
 use Rattle.prefix_allocator.proofs.starts.counter_of.Goals.{then-number-gt-GREATEST_COUNTER-via-then-number-gt-GREATEST_COUNTER, then-number-gt-GREATEST_COUNTER-via-else-number-gt-GREATEST_COUNTER+in_ok-counter+then-ne}
 use Rattle.prefix_allocator.proofs.starts.counter_of.Goals as goal

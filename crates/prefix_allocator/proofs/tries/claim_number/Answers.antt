@@ -1,6 +1,6 @@
 use Rattle.std.proofs.Common.{◌≡◌, subst, ◌∙◌}
-use Rattle.allocator_rules.specs.Acts.{AddsWriteConflict}
-use Rattle.allocator_rules.specs.Counters.{recent_key}
+use Rattle.model_allocator.specs.Acts.{AddsWriteConflict}
+use Rattle.model_allocator.specs.Counters.{recent_key}
 use Rattle.prefix_allocator.proofs.Calls.{Quiet, quiet_done}
 use Rattle.prefix_allocator.proofs.tries.claim_number.Goals as goal
 

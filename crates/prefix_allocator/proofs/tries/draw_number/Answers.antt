@@ -1,6 +1,6 @@
 use Rattle.std.proofs.Common.{◌≡◌, ◌+◌, ◌-◌, refl, ap, arith}
 use Rattle.std.proofs.lemmas.Result.{err_from_is_err_and}
-use Rattle.allocator_rules.specs.declared.TheConstants.{RANDOM_TRIES}
+use Rattle.model_allocator.specs.declared.TheConstants.{RANDOM_TRIES}
 use Rattle.prefix_allocator.proofs.Drawing.{NextOf, after_draws, none_drawn, words_left, word_next, fault_drawn, fault_words, found_drawn, found_words, one_more_drawn, last_number}
 use Rattle.prefix_allocator.proofs.tries.draw_number.Goals as goal
 

@@ -1,7 +1,7 @@
 use Rattle.std.proofs.Common.{◌≡◌, ℕ, ◌+◌, ◌-◌, ◌<◌, ◌≤◌, false}
-use Rattle.database_rules.specs.Histories.{Setting}
-use Rattle.database_rules.specs.Transactions.{Transaction}
-use Rattle.allocator_rules.specs.Granting.{drawn}
+use Rattle.model_database.specs.Histories.{Setting}
+use Rattle.model_database.specs.Transactions.{Transaction}
+use Rattle.model_allocator.specs.Granting.{drawn}
 use Rattle.prefix_allocator.proofs.Drawing.{HasDrawn}
 use Rattle.prefix_allocator.proofs.tries.draw_number.Given as goal
 

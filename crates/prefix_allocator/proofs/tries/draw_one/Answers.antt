@@ -1,8 +1,8 @@
 use Rattle.std.proofs.Common.{◌≡◌, ◌+◌, Ok, Err, sym, ap, ◌∙◌, subst, false}
 use Rattle.std.specs.Prelude.{◌%◌}
 use Rattle.std.proofs.lemmas.Result.{err_from_is_err_and}
-use Rattle.database_rules.specs.Transactions.{view}
-use Rattle.allocator_rules.specs.Granting.{drawn, tries}
+use Rattle.model_database.specs.Transactions.{view}
+use Rattle.model_allocator.specs.Granting.{drawn, tries}
 use Rattle.prefix_allocator.specs.Doing.{Done, IsLast, found_in, draws, tries_of}
 use Rattle.prefix_allocator.proofs.Calls.{Present}
 use Rattle.prefix_allocator.proofs.Draws.{one_drawn, last_drawn}

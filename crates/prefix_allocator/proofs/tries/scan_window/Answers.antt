@@ -1,8 +1,8 @@
 use Rattle.std.proofs.Common.{◌≡◌, ◌+◌, Ok, Err, sym, ap, subst, ◌∙◌, arith}
 use Rattle.std.specs.Prelude.{◌-◌, ◌%◌, Some}
 use Rattle.std.proofs.lemmas.Result.{err_from_is_err_and}
-use Rattle.allocator_rules.specs.Counters.{window}
-use Rattle.allocator_rules.specs.Granting.{above}
+use Rattle.model_allocator.specs.Counters.{window}
+use Rattle.model_allocator.specs.Granting.{above}
 use Rattle.prefix_allocator.specs.Doing.{scans}
 use Rattle.prefix_allocator.proofs.Scanning.{Next, after_scans, none_scanned, fault_scanned, found_scanned, one_more_scanned, all_scanned}
 use Rattle.prefix_allocator.proofs.Search.{Sofar}

@@ -1,6 +1,6 @@
 use Rattle.std.specs.Prelude.{◌-◌}
-use Rattle.database_rules.specs.Histories.{Setting}
-use Rattle.database_rules.specs.Transactions.{Transaction}
+use Rattle.model_database.specs.Histories.{Setting}
+use Rattle.model_database.specs.Transactions.{Transaction}
 use Rattle.prefix_allocator.specs.Doing.{scans}
 use Rattle.prefix_allocator.proofs.Search.{Sofar}
 use Rattle.prefix_allocator.proofs.tries.scan_window.Given as goal

@@ -1,8 +1,8 @@
 use Rattle.std.proofs.Common.{◌≡◌, [], ◌∷◌, Ok, Err, subst, ◌∙◌, sym, false}
 use Rattle.std.proofs.lemmas.Result.{err_from_is_err_and}
-use Rattle.database_rules.specs.Databases.{Set}
-use Rattle.allocator_rules.specs.Acts.{DisablesWriteConflict, Writes}
-use Rattle.allocator_rules.specs.Counters.{recent_key}
+use Rattle.model_database.specs.Databases.{Set}
+use Rattle.model_allocator.specs.Acts.{DisablesWriteConflict, Writes}
+use Rattle.model_allocator.specs.Counters.{recent_key}
 use Rattle.prefix_allocator.proofs.Calls.{Quiet, quiet_then, quiet_fault, Present, Read, read_fault, tried, read_absent}
 use Rattle.prefix_allocator.proofs.Steps.{ended}
 use Rattle.prefix_allocator.proofs.tries.try_number.Goals as goal

@@ -1,9 +1,9 @@
 use Rattle.std.proofs.Common.{[], ◌∷◌, Ok, Err}
 use Rattle.std.specs.Prelude.{⊤}
 use Rattle.std.proofs.lemmas.Result.{err_from_is_err_and}
-use Rattle.database_rules.specs.Databases.{ClearRange}
-use Rattle.allocator_rules.specs.Acts.{DisablesWriteConflict, Writes}
-use Rattle.allocator_rules.specs.Counters.{counters_prefix, counter_key, recent_prefix, recent_key}
+use Rattle.model_database.specs.Databases.{ClearRange}
+use Rattle.model_allocator.specs.Acts.{DisablesWriteConflict, Writes}
+use Rattle.model_allocator.specs.Counters.{counters_prefix, counter_key, recent_prefix, recent_key}
 use Rattle.prefix_allocator.proofs.Calls.{quiet_done, quiet_then, quiet_fault, cleared}
 use Rattle.prefix_allocator.proofs.windows.clear_below.Goals as goal
 

@@ -1,10 +1,10 @@
 use Rattle.std.proofs.Common.{◌≡◌, [], ◌∷◌, Ok, Err, subst, ◌∙◌, true}
 use Rattle.std.proofs.lemmas.Result.{err_from_is_err_and}
-use Rattle.database_rules.specs.declared.AtomicOp.TheVariants as atomic
-use Rattle.database_rules.specs.Databases.{Atomic}
-use Rattle.database_rules.specs.Reads.{Get}
-use Rattle.allocator_rules.specs.Acts.{Reads, Writes, act_called}
-use Rattle.allocator_rules.specs.Counters.{counter_key, one_more}
+use Rattle.model_database.specs.declared.AtomicOp.TheVariants as atomic
+use Rattle.model_database.specs.Databases.{Atomic}
+use Rattle.model_database.specs.Reads.{Get}
+use Rattle.model_allocator.specs.Acts.{Reads, Writes, act_called}
+use Rattle.model_allocator.specs.Counters.{counter_key, one_more}
 use Rattle.prefix_allocator.proofs.Calls.{quiet_then, quiet_fault, Read, read_fault, Halves, added, counted}
 use Rattle.prefix_allocator.proofs.windows.count_one.Goals as goal
 

@@ -1,8 +1,8 @@
 use Rattle.std.proofs.Common.{◌≡◌, ◌+◌, Ok, Err, ap, subst, true}
 use Rattle.std.specs.Prelude.{⊤}
 use Rattle.std.proofs.lemmas.Result.{err_from_is_err_and}
-use Rattle.allocator_rules.specs.Counters.{window}
-use Rattle.allocator_rules.specs.Granting.{counts, clears_below}
+use Rattle.model_allocator.specs.Counters.{window}
+use Rattle.model_allocator.specs.Granting.{counts, clears_below}
 use Rattle.prefix_allocator.specs.Doing.{Done}
 use Rattle.prefix_allocator.proofs.Calls.{Halves}
 use Rattle.prefix_allocator.proofs.Openings.{after_done, count_fault, window_opened}

@@ -1,6 +1,6 @@
 use Rattle.std.proofs.Common.{sym, ap, ◌∙◌}
 use Rattle.range_read.specs.Pages.{page_size}
-use Rattle.database_rules.specs.Slices.{cut, span}
+use Rattle.model_database.specs.Slices.{cut, span}
 use Rattle.range_read.specs.Walks.{has_more}
 use Rattle.range_read.proofs.Pages.{IsSize-page, take_cut, more_is, page_rest}
 use Rattle.range_read.proofs.reading.page.Goals as goal

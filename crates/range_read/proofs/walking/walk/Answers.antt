@@ -1,7 +1,7 @@
 use Rattle.std.proofs.Common.{◌≡◌, length, sym, ap, ◌∙◌, arith}
 use Rattle.std.specs.Option.{option_map}
 use Rattle.key_bytes.specs.Entries.{entry_of}
-use Rattle.database_rules.specs.Slices.{span}
+use Rattle.model_database.specs.Slices.{span}
 use Rattle.range_read.proofs.Lists.{first_none}
 use Rattle.range_read.proofs.Taking.{step_smaller, step_whole, pushed_length, taken_all, taken_full}
 use Rattle.range_read.proofs.walking.walk.Goals as goal

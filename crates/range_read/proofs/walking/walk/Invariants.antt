@@ -1,5 +1,5 @@
 use Rattle.std.proofs.Common.{◌≡◌, ◌<◌, ◌≤◌, ◌++◌, length}
-use Rattle.database_rules.specs.Slices.{span}
+use Rattle.model_database.specs.Slices.{span}
 use Rattle.range_read.proofs.walking.walk.Given as goal
 
 -- what is taken, followed by what is left of the range, is the whole range

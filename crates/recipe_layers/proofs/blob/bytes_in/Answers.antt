@@ -1,5 +1,5 @@
 use Rattle.std.proofs.Common.{ℕ, ◌++◌, List, Ok, Err, sym, ap, ◌∙◌}
-use Rattle.recipe_rules.specs.declared.fault.RecipeFault.TheVariants as fault
+use Rattle.model_recipes.specs.declared.fault.RecipeFault.TheVariants as fault
 use Rattle.recipe_layers.proofs.Chunks.{reads_more, reads_spoiled, reads_all_bytes}
 use Rattle.recipe_layers.proofs.blob.bytes_in.Goals as goal
 

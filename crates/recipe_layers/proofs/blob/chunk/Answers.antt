@@ -1,6 +1,6 @@
 use Rattle.std.proofs.Common.{ℕ, ◌*◌, List, take, drop, ap, ◌∙◌}
-use Rattle.recipe_rules.specs.declared.TheConstants.{CHUNK_BYTES}
-use Rattle.recipe_rules.specs.Blobs.{chunk}
+use Rattle.model_recipes.specs.declared.TheConstants.{CHUNK_BYTES}
+use Rattle.model_recipes.specs.Blobs.{chunk}
 use Rattle.recipe_layers.proofs.blob.chunk.Goals as goal
 
 pub returns : goal.returns

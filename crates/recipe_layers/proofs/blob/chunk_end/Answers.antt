@@ -1,8 +1,8 @@
 use Rattle.std.proofs.Common.{◌+◌, ◌-◌, ◌/◌, cond, sym, ap}
 use Rattle.std.specs.Prelude.{Bool}
 use Rattle.std.proofs.lemmas.Bool.{eq-eqb, ne_eqb}
-use Rattle.recipe_rules.specs.declared.TheConstants.{CHUNK_BYTES}
-use Rattle.recipe_rules.specs.Blobs.{chunk_end}
+use Rattle.model_recipes.specs.declared.TheConstants.{CHUNK_BYTES}
+use Rattle.model_recipes.specs.Blobs.{chunk_end}
 use Rattle.recipe_layers.proofs.blob.chunk_end.Goals as goal
 
 pub returns-then-size-eq0-clause-end : goal.returns-then-size-eq0-clause-end

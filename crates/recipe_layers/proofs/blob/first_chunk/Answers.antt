@@ -1,5 +1,5 @@
 use Rattle.std.proofs.Common.{refl}
-use Rattle.recipe_rules.specs.Blobs.{first_chunk}
+use Rattle.model_recipes.specs.Blobs.{first_chunk}
 use Rattle.recipe_layers.proofs.blob.first_chunk.Goals as goal
 
 pub returns : goal.returns

@@ -1,17 +1,17 @@
 use Rattle.std.proofs.Common.{◌≡◌, ℕ, ◌+◌, ◌-◌, ◌≤◌, List, [], ◌∷◌, Ok, Err, sym, ap, ◌∙◌, subst, arith}
 use Rattle.std.proofs.lemmas.Result.{err_from_is_err_and}
-use Rattle.database_rules.specs.Databases.{Mutation, Set}
-use Rattle.database_rules.specs.Histories.{Setting}
-use Rattle.database_rules.specs.Transactions.{Transaction}
+use Rattle.model_database.specs.Databases.{Mutation, Set}
+use Rattle.model_database.specs.Histories.{Setting}
+use Rattle.model_database.specs.Transactions.{Transaction}
 use Rattle.fdb_calls.specs.declared.Reply.TheVariants as reply
 use Rattle.fdb_calls.specs.Answers.{Answered}
-use Rattle.allocator_rules.specs.Acts.{Writes, act_called}
-use Rattle.recipe_rules.specs.declared.fault.RecipeFault.TheVariants as fault
-use Rattle.recipe_rules.specs.Faults.{fault_of}
-use Rattle.recipe_rules.specs.Turns.{written}
-use Rattle.recipe_rules.specs.Queues.{index_key}
-use Rattle.recipe_rules.specs.Blobs.{chunk, sets_chunks, first_chunk, chunk_end}
-use Rattle.recipe_rules.proofs.Writing.{end_above}
+use Rattle.model_allocator.specs.Acts.{Writes, act_called}
+use Rattle.model_recipes.specs.declared.fault.RecipeFault.TheVariants as fault
+use Rattle.model_recipes.specs.Faults.{fault_of}
+use Rattle.model_recipes.specs.Turns.{written}
+use Rattle.model_recipes.specs.Queues.{index_key}
+use Rattle.model_recipes.specs.Blobs.{chunk, sets_chunks, first_chunk, chunk_end}
+use Rattle.model_recipes.proofs.Writing.{end_above}
 use Rattle.recipe_layers.specs.Steps.{IsWritten}
 use Rattle.recipe_layers.proofs.Answering.{stops_first, one_written, none_written, written_more, first_refused}
 use Rattle.recipe_layers.proofs.Chunks.{sets_next}

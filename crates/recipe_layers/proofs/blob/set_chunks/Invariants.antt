@@ -1,7 +1,7 @@
 use Rattle.std.proofs.Common.{◌-◌, Ok}
-use Rattle.database_rules.specs.Histories.{Setting}
-use Rattle.database_rules.specs.Transactions.{Transaction}
-use Rattle.recipe_rules.specs.Blobs.{sets_chunks}
+use Rattle.model_database.specs.Histories.{Setting}
+use Rattle.model_database.specs.Transactions.{Transaction}
+use Rattle.model_recipes.specs.Blobs.{sets_chunks}
 use Rattle.recipe_layers.specs.Steps.{IsWritten}
 use Rattle.recipe_layers.proofs.blob.set_chunks.Given as goal
 

@@ -1,11 +1,11 @@
 use Rattle.std.proofs.Common.{◌≡◌, ℕ, false, List, length, Ok, Err, sym, ap, ◌∙◌, subst}
 use Rattle.std.proofs.lemmas.Result.{err_from_is_err_and}
-use Rattle.database_rules.specs.Slices.{Entries, slice}
-use Rattle.database_rules.specs.Transactions.{Transaction, view}
-use Rattle.recipe_rules.specs.declared.fault.RecipeFault.TheVariants as fault
-use Rattle.recipe_rules.specs.Turns.{Turn, replying, turned_by, acts, acts_behind, space_begin, space_end}
-use Rattle.recipe_rules.specs.Blobs.{bytes_in, put_over, put_in, sets_piece, write_call, IsOverwritten}
-use Rattle.recipe_rules.proofs.Writing.{overwrote}
+use Rattle.model_database.specs.Slices.{Entries, slice}
+use Rattle.model_database.specs.Transactions.{Transaction, view}
+use Rattle.model_recipes.specs.declared.fault.RecipeFault.TheVariants as fault
+use Rattle.model_recipes.specs.Turns.{Turn, replying, turned_by, acts, acts_behind, space_begin, space_end}
+use Rattle.model_recipes.specs.Blobs.{bytes_in, put_over, put_in, sets_piece, write_call, IsOverwritten}
+use Rattle.model_recipes.proofs.Writing.{overwrote}
 use Rattle.recipe_layers.proofs.Answering.{read_stopped, told_fault, replied, none_written, stops_behind, stops_first, written_all}
 use Rattle.recipe_layers.proofs.Turns.{write_turn}
 use Rattle.recipe_layers.proofs.blob.write.Goals as goal

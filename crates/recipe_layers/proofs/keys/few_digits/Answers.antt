@@ -1,7 +1,7 @@
 use Rattle.std.proofs.Common.{arith, refl}
 use Rattle.key_bytes.specs.Numbers.{number_low}
 use Rattle.fdb_tuple.proofs.ByteLists.{AreBytes-by_place}
-use Rattle.allocator_rules.proofs.Digits.{digits_fit, digits_more}
+use Rattle.model_allocator.proofs.Digits.{digits_fit, digits_more}
 use Rattle.recipe_layers.proofs.keys.few_digits.Goals as goal
 
 pub loop-digit-init : goal.loop-digit-init

@@ -2,7 +2,7 @@ use Rattle.std.proofs.Common.{◌≡◌, length, reverse, Some, sym, ap, ◌∙�
 use Rattle.std.specs.Prelude.{bytes_eq}
 use Rattle.std.proofs.lemmas.Bool.{not-true, not-false}
 use Rattle.key_bytes.specs.Numbers.{number_low}
-use Rattle.recipe_rules.specs.Queues.{index_key}
+use Rattle.model_recipes.specs.Queues.{index_key}
 use Rattle.recipe_layers.proofs.Digits.{said, many_digits, said_index, another_key, great_number}
 use Rattle.recipe_layers.proofs.keys.index_in.Goals.{then-index-gt-GREATEST_INDEX-via-then-index-gt-GREATEST_INDEX, then-index-gt-GREATEST_INDEX-via-else-index-gt-GREATEST_INDEX+in_ok-index_key+then-ne}
 use Rattle.recipe_layers.proofs.keys.index_in.Goals as goal

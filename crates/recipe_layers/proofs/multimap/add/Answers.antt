@@ -2,16 +2,16 @@ use Rattle.std.proofs.Common.{◌≡◌, ℕ, List, Option, Ok, Err, sym, ap, �
 use Rattle.std.proofs.lemmas.Result.{err_from_is_err_and}
 use Rattle.std.specs.FinMap as finite
 use Rattle.std.specs.Int.{w64, to_le_bytes}
-use Rattle.database_rules.specs.Databases.{Set, Clear}
-use Rattle.database_rules.specs.Transactions.{Transaction, view}
+use Rattle.model_database.specs.Databases.{Set, Clear}
+use Rattle.model_database.specs.Transactions.{Transaction, view}
 use Rattle.fdb_calls.specs.declared.Reply.TheVariants as reply
 use Rattle.fdb_calls.specs.Answers.{Answered}
-use Rattle.allocator_rules.specs.Acts.{Writes, act_called}
-use Rattle.recipe_rules.specs.declared.fault.RecipeFault.TheVariants as fault
-use Rattle.recipe_rules.specs.Faults.{from_tr}
-use Rattle.recipe_rules.specs.Turns.{Turn, writing, replying, turned_by, acts}
-use Rattle.recipe_rules.specs.Multimaps.{pair_key, one_more, sets_count, add_call, IsAdded}
-use Rattle.recipe_rules.proofs.Counting.{added}
+use Rattle.model_allocator.specs.Acts.{Writes, act_called}
+use Rattle.model_recipes.specs.declared.fault.RecipeFault.TheVariants as fault
+use Rattle.model_recipes.specs.Faults.{from_tr}
+use Rattle.model_recipes.specs.Turns.{Turn, writing, replying, turned_by, acts}
+use Rattle.model_recipes.specs.Multimaps.{pair_key, one_more, sets_count, add_call, IsAdded}
+use Rattle.model_recipes.proofs.Counting.{added}
 use Rattle.recipe_layers.proofs.Answering.{stops_first, read_stopped, told_fault, written_all, one_written, replied, none_written}
 use Rattle.recipe_layers.proofs.Turns.{add_turn, same_key}
 use Rattle.recipe_layers.proofs.multimap.add.Goals as goal

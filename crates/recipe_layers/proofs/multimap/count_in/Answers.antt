@@ -1,5 +1,5 @@
 use Rattle.std.proofs.Common.{rules}
-use Rattle.recipe_rules.specs.Multimaps.{count_in}
+use Rattle.model_recipes.specs.Multimaps.{count_in}
 use Rattle.recipe_layers.proofs.multimap.count_in.Goals as goal
 
 pub returns-in_ok-copy-in-None : goal.returns-in_ok-copy-in-None

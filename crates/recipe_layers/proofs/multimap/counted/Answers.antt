@@ -1,6 +1,6 @@
 use Rattle.std.proofs.Common.{rules}
 use Rattle.std.proofs.lemmas.Grind.{common_steps}
-use Rattle.recipe_rules.specs.Multimaps.{counted}
+use Rattle.model_recipes.specs.Multimaps.{counted}
 use Rattle.recipe_layers.proofs.multimap.counted.Goals as goal
 
 pub returns-in_default : goal.returns-in_default

@@ -1,8 +1,8 @@
 use Rattle.std.proofs.Common.{List, Result, Err, sym, ap, subst, ◌∙◌}
 use Rattle.std.proofs.lemmas.Result.{err_from_is_err_and}
-use Rattle.recipe_rules.specs.declared.fault.RecipeFault.{RecipeFault}
-use Rattle.recipe_rules.specs.declared.Count.{Count}
-use Rattle.recipe_rules.specs.Multimaps.{counts_in}
+use Rattle.model_recipes.specs.declared.fault.RecipeFault.{RecipeFault}
+use Rattle.model_recipes.specs.declared.Count.{Count}
+use Rattle.model_recipes.specs.Multimaps.{counts_in}
 use Rattle.recipe_layers.specs.Steps.{Tells}
 use Rattle.recipe_layers.proofs.Counts.{count_more, count_spoiled, counts_found}
 use Rattle.recipe_layers.proofs.multimap.counts_in.Goals as goal

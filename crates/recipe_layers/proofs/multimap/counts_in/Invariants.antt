@@ -1,6 +1,6 @@
 use Rattle.std.proofs.Common.{◌≡◌, drop}
 use Rattle.key_bytes.specs.Entries.{entries_of}
-use Rattle.recipe_rules.specs.Multimaps.{counts_in}
+use Rattle.model_recipes.specs.Multimaps.{counts_in}
 use Rattle.recipe_layers.proofs.Counts.{behind_found}
 use Rattle.recipe_layers.proofs.multimap.counts_in.Given as goal
 

@@ -1,13 +1,13 @@
 use Rattle.std.proofs.Common.{◌≡◌, ℕ, false, List, Result, Ok, Err, sym, ap, ◌∙◌, subst}
 use Rattle.std.proofs.lemmas.Result.{err_from_is_err_and}
-use Rattle.database_rules.specs.Slices.{Entries, slice}
-use Rattle.database_rules.specs.Transactions.{Transaction, view}
-use Rattle.recipe_rules.specs.declared.Count.{Count}
-use Rattle.recipe_rules.specs.declared.fault.RecipeFault.{RecipeFault}
-use Rattle.recipe_rules.specs.declared.fault.RecipeFault.TheVariants as fault
-use Rattle.recipe_rules.specs.Turns.{replying, turned_by, acts, space_begin, space_end}
-use Rattle.recipe_rules.specs.Multimaps.{key_space, counts_in, values_call, AreValues}
-use Rattle.recipe_rules.proofs.Counting.{values_told}
+use Rattle.model_database.specs.Slices.{Entries, slice}
+use Rattle.model_database.specs.Transactions.{Transaction, view}
+use Rattle.model_recipes.specs.declared.Count.{Count}
+use Rattle.model_recipes.specs.declared.fault.RecipeFault.{RecipeFault}
+use Rattle.model_recipes.specs.declared.fault.RecipeFault.TheVariants as fault
+use Rattle.model_recipes.specs.Turns.{replying, turned_by, acts, space_begin, space_end}
+use Rattle.model_recipes.specs.Multimaps.{key_space, counts_in, values_call, AreValues}
+use Rattle.model_recipes.proofs.Counting.{values_told}
 use Rattle.recipe_layers.proofs.Answering.{stops_first, read_stopped, told_itself}
 use Rattle.recipe_layers.proofs.Turns.{values_turn, same_space}
 use Rattle.recipe_layers.proofs.multimap.values.Goals as goal

@@ -1,5 +1,5 @@
 use Rattle.std.proofs.Common.{sym, ◌∙◌, arith}
-use Rattle.recipe_rules.proofs.Indexes.{index_in_is}
+use Rattle.model_recipes.proofs.Indexes.{index_in_is}
 use Rattle.recipe_layers.proofs.queue.next_key.Goals as goal
 
 pub overflow_add-index : goal.overflow_add-index

@@ -1,17 +1,17 @@
 use Rattle.std.proofs.Common.{◌≡◌, ℕ, false, [], ◌∷◌, Option, Some, None, Ok, Err, refl, sym, ap, ◌∙◌, subst}
 use Rattle.std.proofs.lemmas.Result.{err_from_is_err_and}
 use Rattle.key_bytes.specs.declared.pairs.Pair.{Pair}
-use Rattle.database_rules.specs.Databases.{Clear}
-use Rattle.database_rules.specs.Slices.{slice, Entries}
-use Rattle.database_rules.specs.Transactions.{Transaction, view}
+use Rattle.model_database.specs.Databases.{Clear}
+use Rattle.model_database.specs.Slices.{slice, Entries}
+use Rattle.model_database.specs.Transactions.{Transaction, view}
 use Rattle.fdb_calls.specs.declared.fault.TrFault.{TrFault}
 use Rattle.fdb_calls.specs.declared.Reply.TheVariants as reply
 use Rattle.fdb_calls.specs.Answers.{Answered}
-use Rattle.allocator_rules.specs.Acts.{Writes, act_called}
-use Rattle.recipe_rules.specs.Faults.{from_tr, fault_of}
-use Rattle.recipe_rules.specs.Turns.{writing, replying, space_begin, space_end, first_pair}
-use Rattle.recipe_rules.specs.Queues.{popping, pop_call, IsPopped}
-use Rattle.recipe_rules.proofs.Queueing.{popped}
+use Rattle.model_allocator.specs.Acts.{Writes, act_called}
+use Rattle.model_recipes.specs.Faults.{from_tr, fault_of}
+use Rattle.model_recipes.specs.Turns.{writing, replying, space_begin, space_end, first_pair}
+use Rattle.model_recipes.specs.Queues.{popping, pop_call, IsPopped}
+use Rattle.model_recipes.proofs.Queueing.{popped}
 use Rattle.recipe_layers.specs.Steps.{pair_of}
 use Rattle.recipe_layers.proofs.Answering.{read_stopped, replied, write_stopped, one_written, none_written}
 use Rattle.recipe_layers.proofs.Turns.{pop_turn}

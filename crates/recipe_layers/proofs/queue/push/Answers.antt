@@ -1,15 +1,15 @@
 use Rattle.std.proofs.Common.{◌≡◌, ℕ, true, Ok, Err, sym, ap, ◌∙◌, subst}
 use Rattle.std.proofs.lemmas.Result.{err_from_is_err_and}
-use Rattle.database_rules.specs.Databases.{Set}
-use Rattle.database_rules.specs.Slices.{slice, Entries}
-use Rattle.database_rules.specs.Transactions.{Transaction, view}
+use Rattle.model_database.specs.Databases.{Set}
+use Rattle.model_database.specs.Slices.{slice, Entries}
+use Rattle.model_database.specs.Transactions.{Transaction, view}
 use Rattle.fdb_calls.specs.declared.Reply.TheVariants as reply
 use Rattle.fdb_calls.specs.Answers.{Answered}
-use Rattle.allocator_rules.specs.Acts.{Writes, act_called}
-use Rattle.recipe_rules.specs.Faults.{from_tr}
-use Rattle.recipe_rules.specs.Turns.{turned_by, space_begin, space_end}
-use Rattle.recipe_rules.specs.Queues.{next_key, push_call, IsPushed}
-use Rattle.recipe_rules.proofs.Queueing.{pushed}
+use Rattle.model_allocator.specs.Acts.{Writes, act_called}
+use Rattle.model_recipes.specs.Faults.{from_tr}
+use Rattle.model_recipes.specs.Turns.{turned_by, space_begin, space_end}
+use Rattle.model_recipes.specs.Queues.{next_key, push_call, IsPushed}
+use Rattle.model_recipes.proofs.Queueing.{pushed}
 use Rattle.recipe_layers.specs.Steps.{pair_of}
 use Rattle.recipe_layers.proofs.Answering.{read_stopped, told_fault, written_all, one_written}
 use Rattle.recipe_layers.proofs.Turns.{sets_next, push_turn}

@@ -1,7 +1,7 @@
 use Rattle.std.proofs.Common.{◌≡◌, subst, sym}
-use Rattle.database_rules.specs.Reads.{GetKeyRange}
-use Rattle.database_rules.specs.Slices.{slice}
-use Rattle.database_rules.specs.Transactions.{view}
+use Rattle.model_database.specs.Reads.{GetKeyRange}
+use Rattle.model_database.specs.Slices.{slice}
+use Rattle.model_database.specs.Transactions.{view}
 use Rattle.recipe_layers.specs.Steps.{IsRead}
 use Rattle.recipe_layers.proofs.Answering.{pairs_are_read}
 use Rattle.recipe_layers.proofs.reading.read_range.Goals as goal

@@ -1,7 +1,7 @@
 use Rattle.std.proofs.Common.{◌≡◌, false, subst, sym}
 use Rattle.std.specs.FinMap as finite
-use Rattle.database_rules.specs.Reads.{Get}
-use Rattle.database_rules.specs.Transactions.{view}
+use Rattle.model_database.specs.Reads.{Get}
+use Rattle.model_database.specs.Transactions.{view}
 use Rattle.fdb_calls.specs.declared.Reply.TheVariants as reply
 use Rattle.fdb_calls.specs.Answers.{Answered}
 use Rattle.fdb_calls.specs.Calling.{read_called}

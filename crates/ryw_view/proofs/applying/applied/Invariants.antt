@@ -1,5 +1,5 @@
 use Rattle.std.proofs.Common.{◌≡◌, option_copied, drop}
-use Rattle.database_rules.specs.States.{all_atoms}
+use Rattle.model_database.specs.States.{all_atoms}
 use Rattle.write_map.specs.Edits.{edits_of}
 use Rattle.ryw_view.proofs.applying.applied.Given as goal
 

@@ -3,11 +3,11 @@ use Rattle.std.proofs.Math.Bool.{or-false}
 use Rattle.std.proofs.lemmas.Bool.{not-false, not-true}
 use Rattle.key_bytes.specs.Keys.{key_lt, within}
 use Rattle.key_bytes.proofs.Orders.{irreflexive}
-use Rattle.database_rules.specs.Intervals.{decided}
-use Rattle.database_rules.specs.States.{covers, unreadable}
+use Rattle.model_database.specs.Intervals.{decided}
+use Rattle.model_database.specs.States.{covers, unreadable}
 use Rattle.range_map.proofs.Bounded.{within_backward}
 use Rattle.range_read.proofs.Rising.{first_passes}
-use Rattle.database_rules.specs.Databases.{Mutation}
+use Rattle.model_database.specs.Databases.{Mutation}
 use Rattle.write_map.specs.Answers.{IsStateUnder}
 use Rattle.write_map.specs.declared.state.KeyState.{KeyState as Shown}
 use Rattle.ryw_view.specs.Segments.{is_hidden, is_open, AreAlikeUpTo, IsBoundaryBelow}

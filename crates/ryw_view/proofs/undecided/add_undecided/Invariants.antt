@@ -1,8 +1,8 @@
 use Rattle.std.proofs.Common.{◌≡◌, ℕ, not, ◌&&◌, ◌||◌, List, length}
 use Rattle.std.specs.List.{filter}
 use Rattle.key_bytes.specs.Keys.{key_lt, within}
-use Rattle.database_rules.specs.Intervals.{decided}
-use Rattle.database_rules.specs.States.{covers}
+use Rattle.model_database.specs.Intervals.{decided}
+use Rattle.model_database.specs.States.{covers}
 use Rattle.ryw_view.proofs.Decided.{HasWalked}
 use Rattle.ryw_view.proofs.undecided.add_undecided.Given as goal
 

@@ -3,7 +3,7 @@ use Rattle.std.proofs.lemmas.Bool.{not-false, not-true}
 use Rattle.std.specs.List.{list_any}
 use Rattle.key_bytes.specs.Keys.{key_lt}
 use Rattle.key_bytes.specs.Ranges.{meets}
-use Rattle.database_rules.specs.States.{unreadable}
+use Rattle.model_database.specs.States.{unreadable}
 use Rattle.range_read.proofs.Rising.{first_passes}
 use Rattle.write_map.proofs.Filled.{plain_readable}
 use Rattle.ryw_view.specs.Segments.{AreAlikeUpTo, IsBoundaryBelow}

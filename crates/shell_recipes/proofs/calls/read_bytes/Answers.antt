@@ -1,8 +1,8 @@
 use Rattle.std.proofs.Common.{ℕ, List, subst}
-use Rattle.database_rules.specs.Transactions.{view}
-use Rattle.recipe_rules.specs.Turns.{IsAnswered}
-use Rattle.recipe_rules.specs.Blobs.{read_call}
-use Rattle.shell_rules.specs.Recipes.{blob_space, bytes_said}
+use Rattle.model_database.specs.Transactions.{view}
+use Rattle.model_recipes.specs.Turns.{IsAnswered}
+use Rattle.model_recipes.specs.Blobs.{read_call}
+use Rattle.model_shell.specs.Recipes.{blob_space, bytes_said}
 use Rattle.shell_recipes.proofs.Ending.{ends}
 use Rattle.shell_recipes.proofs.calls.read_bytes.Goals as goal
 

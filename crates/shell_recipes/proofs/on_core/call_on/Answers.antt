@@ -1,8 +1,8 @@
 use Rattle.std.proofs.Common.{◌≡◌, inr, ℕ, List, sym, subst, ◌∙◌}
-use Rattle.shell_rules.specs.Requests.{name}
+use Rattle.model_shell.specs.Requests.{name}
 use Rattle.fdb_calls.specs.declared.Request.TheVariants as request
 use Rattle.fdb_calls.specs.declared.TxnCall.TheVariants as call
-use Rattle.machine_rules.specs.Worlds.{step}
+use Rattle.model_machine.specs.Worlds.{step}
 use Rattle.client_core.specs.Stands.{StandsFor}
 use Rattle.core_tr.specs.Standing.{StandsIn}
 use Rattle.shell_recipes.proofs.Assembling.{settling, its_own, settled_stands}

@@ -1,7 +1,7 @@
 use Rattle.std.proofs.Common.{◌≡◌, sym, subst}
 use Rattle.std.specs.Prelude.{IfOk}
 use Rattle.client_core.specs.Stands.{CoreModel}
-use Rattle.shell_rules.specs.Recipes.{recipe_done}
+use Rattle.model_shell.specs.Recipes.{recipe_done}
 use Rattle.shell_recipes.specs.Running.{HasRun}
 use Rattle.shell_recipes.proofs.on_core.run.Goals as goal
 

@@ -1,6 +1,6 @@
 use Rattle.std.proofs.Common.{◌≡◌, ◌++◌, take}
 use Rattle.std.specs.List.{flat_map}
-use Rattle.shell_rules.specs.Recipes.{count_text}
+use Rattle.model_shell.specs.Recipes.{count_text}
 use Rattle.shell_text.proofs.recipe_text.add_each_count.Given as goal
 
 -- what was added is the lines of the counts so far

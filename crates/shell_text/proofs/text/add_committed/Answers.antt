@@ -2,7 +2,7 @@ use Rattle.std.proofs.Common.{◌≡◌, ◌++◌, ◌∙◌, List, ℕ, ℤ, Re
 use Rattle.std.specs.Prelude.{OnOk, codes}
 use Rattle.std.specs.Fmt.{signed_decimal}
 use Rattle.std.proofs.lemmas.Int.{to_z-of_z}
-use Rattle.shell_rules.specs.Requests.{printed_line, committed_text}
+use Rattle.model_shell.specs.Requests.{printed_line, committed_text}
 use Rattle.shell_text.proofs.text.add_committed.Goals as goal
 
 abbrev end_of : ℤ → List ℕ

@@ -1,6 +1,6 @@
 use Rattle.std.proofs.Common.{◌≡◌, ◌++◌, take}
 use Rattle.std.specs.List.{flat_map}
-use Rattle.shell_rules.specs.Requests.{pair_text}
+use Rattle.model_shell.specs.Requests.{pair_text}
 use Rattle.shell_text.proofs.text.add_each.Given as goal
 
 -- what was added is the lines of the pairs so far

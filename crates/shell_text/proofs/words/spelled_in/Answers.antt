@@ -1,5 +1,5 @@
 use Rattle.std.proofs.Common.{length, sym, subst}
-use Rattle.shell_rules.specs.Tokens.{spelled_up_to}
+use Rattle.model_shell.specs.Tokens.{spelled_up_to}
 use Rattle.shell_text.specs.declared.words.Unread.{Unread}
 use Rattle.shell_text.specs.Reading.{Fails}
 use Rattle.shell_text.proofs.Tokens.{whole_read, whole_unread}

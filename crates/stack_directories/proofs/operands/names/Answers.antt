@@ -1,7 +1,7 @@
 use Rattle.std.proofs.Common.{ℕ, List, ◌-◌, ◌+◌, ◌∷◌, [], ◌++◌, ◌∙◌, ap, sym, arith}
 use Rattle.std.proofs.lemmas.Result.{err_from_is_err_and}
-use Rattle.machine_rules.specs.Operands.{operand_by}
-use Rattle.machine_rules.specs.Directories.{text_of}
+use Rattle.model_machine.specs.Operands.{operand_by}
+use Rattle.model_machine.specs.Directories.{text_of}
 use Rattle.stack_items.specs.Looks.{left_in}
 use Rattle.stack_items.proofs.Repeats.{operands_after, after_more, after_all, refused_after}
 use Rattle.stack_directories.proofs.Refused.{refuses}

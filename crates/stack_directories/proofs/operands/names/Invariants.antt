@@ -1,6 +1,6 @@
 use Rattle.std.proofs.Common.{◌≡◌, ◌-◌}
-use Rattle.machine_rules.specs.Operands.{operand_by, operands_by}
-use Rattle.machine_rules.specs.Directories.{text_of}
+use Rattle.model_machine.specs.Operands.{operand_by, operands_by}
+use Rattle.model_machine.specs.Directories.{text_of}
 use Rattle.stack_items.specs.Looks.{left_in}
 use Rattle.stack_items.proofs.Repeats.{operands_after}
 use Rattle.stack_directories.proofs.operands.names.Given as goal

@@ -2,7 +2,7 @@ use Rattle.std.proofs.Common.{List, ◌∷◌, [], ◌++◌, Ok, ◌∙◌, ap, 
 use Rattle.std.proofs.lemmas.Result.{err_from_is_err_and}
 use Rattle.fdb_tuple.specs.declared.tuple.Elem.{Elem}
 use Rattle.fdb_tuple.specs.Listed.{tuple_of}
-use Rattle.machine_rules.specs.Operands.{◌>>=◌, Popped, element_operand}
+use Rattle.model_machine.specs.Operands.{◌>>=◌, Popped, element_operand}
 use Rattle.stack_items.specs.Looks.{left_in}
 use Rattle.stack_items.proofs.Repeats.{after_more, after_all, refused_after}
 use Rattle.stack_directories.proofs.Packing.{PacksFirst, packed_more, packed_all}

@@ -1,6 +1,6 @@
 use Rattle.std.proofs.Common.{◌≡◌, ◌-◌, List}
 use Rattle.fdb_tuple.specs.declared.tuple.Elem.{Elem}
-use Rattle.machine_rules.specs.Operands.{element_operand, operands_by}
+use Rattle.model_machine.specs.Operands.{element_operand, operands_by}
 use Rattle.stack_items.specs.Looks.{left_in}
 use Rattle.stack_items.proofs.Repeats.{operands_after}
 use Rattle.stack_directories.proofs.Packing.{PacksFirst}

@@ -1,6 +1,6 @@
 use Rattle.std.proofs.Common.{◌≡◌, ◌+◌, ◌++◌, drop, map}
 use Rattle.std.specs.List.{enumerate_from}
-use Rattle.machine_rules.specs.Calls.{log_entry}
+use Rattle.model_machine.specs.Calls.{log_entry}
 use Rattle.stack_items.proofs.logging.entries_from.Given as goal
 
 -- the entries so far, and those of the items that are left, are all

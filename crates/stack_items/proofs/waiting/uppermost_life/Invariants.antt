@@ -1,5 +1,5 @@
 use Rattle.std.proofs.Common.{◌≡◌, take, reverse}
-use Rattle.machine_rules.specs.Machines.{first_life}
+use Rattle.model_machine.specs.Machines.{first_life}
 use Rattle.stack_items.proofs.waiting.uppermost_life.Given as goal
 
 -- the items from this place on are known

@@ -1,7 +1,7 @@
 use Rattle.std.proofs.Common.{◌≡◌, ◌≤◌, false}
-use Rattle.machine_rules.specs.Machines.{silent}
-use Rattle.machine_rules.specs.Runs.{at_rest}
-use Rattle.machine_rules.specs.Laws.{is_awaiting}
+use Rattle.model_machine.specs.Machines.{silent}
+use Rattle.model_machine.specs.Runs.{at_rest}
+use Rattle.model_machine.specs.Laws.{is_awaiting}
 use Rattle.suspended_machine.specs.SuspendedMachines.{work_left}
 use Rattle.suspended_machine.proofs.suspended.run_on.Given as goal
 

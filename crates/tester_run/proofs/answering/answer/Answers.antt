@@ -1,6 +1,6 @@
 use Rattle.std.proofs.Common.{subst, sym, true≢false, refl}
 use Rattle.std.specs.Prelude.{IfErr, IfOk}
-use Rattle.command_rules.specs.declared.args.Args.{Args}
+use Rattle.model_commands.specs.declared.args.Args.{Args}
 use Rattle.tester_run.specs.Answering.{IsMade, IsRefusedBy}
 use Rattle.tester_run.specs.declared.fault.Refusal.{Refusal}
 use Rattle.tester_run.proofs.Reading.{gen_made, gen_refused}

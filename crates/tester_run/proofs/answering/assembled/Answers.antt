@@ -1,6 +1,6 @@
 use Rattle.std.proofs.Common.{refl}
 use Rattle.std.proofs.lemmas.Result.{err_from_is_err_and}
-use Rattle.command_rules.specs.declared.args.Args.TheVariants as args
+use Rattle.model_commands.specs.declared.args.Args.TheVariants as args
 use Rattle.tester_run.proofs.Reading.{unread_refused}
 use Rattle.tester_run.proofs.answering.assembled.Goals as goal
 

@@ -1,7 +1,7 @@
 use Rattle.std.proofs.Common.{◌<◌, ◌++◌, ℕ, length, refl, subst, List}
 use Rattle.std.proofs.lemmas.Result.{err_from_is_err_and}
-use Rattle.command_rules.specs.declared.args.Args.TheVariants as args
-use Rattle.line_rules.specs.Reading.{input_limit}
+use Rattle.model_commands.specs.declared.args.Args.TheVariants as args
+use Rattle.model_lines.specs.Reading.{input_limit}
 use Rattle.text_commands.specs.Texts.{IsDisasmFault}
 use Rattle.tester_run.proofs.Reading.{disasm_refused, unread_refused}
 use Rattle.tester_run.proofs.answering.disassembled.Goals as goal

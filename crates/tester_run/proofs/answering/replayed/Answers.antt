@@ -1,7 +1,7 @@
 use Rattle.std.proofs.Common.{refl}
 use Rattle.std.proofs.lemmas.Result.{err_from_is_err_and}
-use Rattle.command_rules.specs.declared.args.Args.TheVariants as args
-use Rattle.input_rules.specs.declared.input.Form.TheVariants as form
+use Rattle.model_commands.specs.declared.args.Args.TheVariants as args
+use Rattle.model_input.specs.declared.input.Form.TheVariants as form
 use Rattle.tester_run.proofs.Reading.{misfit_refused, replay_made, unfit_refused}
 use Rattle.tester_run.proofs.answering.replayed.Goals as goal
 

@@ -1,6 +1,6 @@
 use Rattle.std.proofs.Common.{◌≡◌, take}
 use Rattle.key_bytes.specs.Entries.{entries_of}
-use Rattle.line_rules.specs.Inputs.{pair_lines}
+use Rattle.model_lines.specs.Inputs.{pair_lines}
 use Rattle.text_commands.proofs.instructions.pair_lines.Given as goal
 
 -- the lines of the pairs so far

@@ -1,5 +1,5 @@
 use Rattle.std.proofs.Common.{◌+◌, List, drop, take, sym, subst, ◌∙◌}
-use Rattle.event_rules.specs.declared.event.Event.{Event}
+use Rattle.model_events.specs.declared.event.Event.{Event}
 use Rattle.text_commands.specs.Scenes.{StandsAt}
 use Rattle.text_commands.proofs.Commits.{parted_at}
 use Rattle.text_commands.proofs.Scenes.{room_for, values_are}

@@ -1,7 +1,7 @@
 use Rattle.std.proofs.Common.{subst}
 use Rattle.request_line.specs.declared.ends.Receiver.{Receiver}
 use Rattle.network.specs.declared.post.Post.{Post}
-use Rattle.threaded_run_laws.specs.declared.service.CoreService.{CoreService}
+use Rattle.core_service.specs.declared.service.CoreService.{CoreService}
 use Rattle.threaded_runs.specs.Serving.{CameBack, IsServed}
 use Rattle.threaded_runs.proofs.threading.answered_by.Goals as goal
 

@@ -1,5 +1,5 @@
 use Rattle.std.specs.Prelude.{Ok}
-use Rattle.thread_laws.proofs.Alone.{started_begun}
+use Rattle.laws_threads.proofs.Alone.{started_begun}
 use Rattle.machine_runs.proofs.Finished.{run_renders, starts_at}
 use Rattle.threaded_runs.proofs.threading.run_threaded.Goals as goal
 

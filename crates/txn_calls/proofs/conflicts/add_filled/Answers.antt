@@ -4,8 +4,8 @@ use Rattle.std.proofs.lemmas.Bool.{not-true, not-false}
 use Rattle.std.proofs.lemmas.Result.{on_ok_weaker}
 use Rattle.key_bytes.specs.Keys.{key_lt}
 use Rattle.key_bytes.proofs.Orders.{irreflexive}
-use Rattle.database_rules.specs.States.{covers}
-use Rattle.database_rules.proofs.Ranges.{none_within}
+use Rattle.model_database.specs.States.{covers}
+use Rattle.model_database.proofs.Ranges.{none_within}
 use Rattle.txn_parts.proofs.Units.{or_false, and_true, and_false}
 use Rattle.txn_calls.proofs.Standing.{not_bare}
 use Rattle.txn_calls.proofs.conflicts.add_filled.Goals as goal

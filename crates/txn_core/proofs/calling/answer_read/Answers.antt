@@ -1,7 +1,7 @@
 use Rattle.std.proofs.Common.{false, ap, subst, sym}
 use Rattle.std.proofs.lemmas.Result.{IfOk-weaker, on_err_weaker}
-use Rattle.database_rules.specs.Modes.{lacks_limit}
-use Rattle.database_rules.specs.Reads as read
+use Rattle.model_database.specs.Modes.{lacks_limit}
+use Rattle.model_database.specs.Reads as read
 use Rattle.fdb_calls.specs.declared.Reply.TheVariants as reply
 use Rattle.fdb_calls.specs.Calling.{Called, called}
 use Rattle.txn_calls.specs.Accesses.{Reads}

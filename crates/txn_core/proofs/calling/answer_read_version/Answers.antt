@@ -1,6 +1,6 @@
 use Rattle.std.proofs.lemmas.Result.{IfOk-weaker, on_err_weaker}
 use Rattle.std.specs.Prelude.{pos}
-use Rattle.database_rules.specs.Transactions.{phase_code, version_in, with_version}
+use Rattle.model_database.specs.Transactions.{phase_code, version_in, with_version}
 use Rattle.fdb_calls.specs.declared.Reply.TheVariants as reply
 use Rattle.txn_core.proofs.Answering.{told_in_place, does_in_place, left_standing}
 use Rattle.txn_core.proofs.calling.answer_read_version.Goals as goal

@@ -3,10 +3,10 @@ use Rattle.std.proofs.lemmas.Int.{to_z-of_z}
 use mir.Val.{SFits}
 use mir.Syntax.{w64}
 use Rattle.std.proofs.lemmas.Result.{IfOk-weaker, on_err_weaker}
-use Rattle.database_rules.specs.declared.options.DatabaseOptions.{DatabaseOptions}
-use Rattle.database_rules.specs.Databases.{Set, Clear, ClearRange}
-use Rattle.database_rules.specs.Atomics.{atomic_named}
-use Rattle.database_rules.specs.Transactions.{phase_code, set_code, clear_code, range_code, atomic_code, set_version_code, with_read_range, with_write_range, with_write_conflict_disabled}
+use Rattle.model_database.specs.declared.options.DatabaseOptions.{DatabaseOptions}
+use Rattle.model_database.specs.Databases.{Set, Clear, ClearRange}
+use Rattle.model_database.specs.Atomics.{atomic_named}
+use Rattle.model_database.specs.Transactions.{phase_code, set_code, clear_code, range_code, atomic_code, set_version_code, with_read_range, with_write_range, with_write_conflict_disabled}
 use Rattle.fdb_calls.specs.declared.Reply.TheVariants as reply
 use Rattle.fdb_calls.specs.Answers.{Answered}
 use Rattle.fdb_calls.specs.Calling.{Called, called, named_atomic_called, set_read_version_called}

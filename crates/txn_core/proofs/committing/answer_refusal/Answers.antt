@@ -1,5 +1,5 @@
 use Rattle.std.proofs.Common.{inl, inr}
-use Rattle.database_rules.specs.Transactions.{with_version}
+use Rattle.model_database.specs.Transactions.{with_version}
 use Rattle.fdb_calls.specs.Calling.{commit_called}
 use Rattle.txn_core.specs.Stands.{Answers}
 use Rattle.txn_core.proofs.Answering.{commit_refused_early, commit_refused_late}

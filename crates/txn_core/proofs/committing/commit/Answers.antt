@@ -1,6 +1,6 @@
 use Rattle.std.proofs.Common.{inl, Err, subst, sym}
 use Rattle.std.proofs.lemmas.Result.{IfOk-weaker, on_err_weaker}
-use Rattle.database_rules.specs.declared.Code.{Code}
+use Rattle.model_database.specs.declared.Code.{Code}
 use Rattle.fdb_calls.specs.declared.fault.TrFault.{TrFault}
 use Rattle.fdb_calls.specs.declared.fault.TrFault.TheVariants as fault
 use Rattle.txn_calls.specs.Judging.{Judged}

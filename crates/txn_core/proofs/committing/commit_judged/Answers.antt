@@ -1,5 +1,5 @@
 use Rattle.std.proofs.Common.{Ok, inr, subst}
-use Rattle.database_rules.specs.Transactions.{with_version}
+use Rattle.model_database.specs.Transactions.{with_version}
 use Rattle.txn_calls.specs.declared.verdict.Verdict.{Verdict}
 use Rattle.txn_calls.specs.Judging.{Judged}
 use Rattle.txn_calls.specs.Stands.{StandsFor}

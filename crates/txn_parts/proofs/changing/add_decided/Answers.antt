@@ -1,6 +1,6 @@
 use Rattle.std.proofs.Common.{Some, refl, sym, ap, subst, option_copied}
 use Rattle.std.proofs.lemmas.Result.{on_ok_weaker}
-use Rattle.database_rules.specs.States.{Decided}
+use Rattle.model_database.specs.States.{Decided}
 use Rattle.ryw_view.specs.Views.{stored_of}
 use Rattle.txn_parts.specs.Changing.{LeadUpTo}
 use Rattle.txn_parts.proofs.Changes.{led_single}

@@ -1,6 +1,6 @@
 use Rattle.std.proofs.Common.{refl, sym, subst, ◌∙◌, option_copied}
 use Rattle.std.proofs.lemmas.Result.{on_ok_weaker}
-use Rattle.database_rules.specs.States.{Depends, all_atoms}
+use Rattle.model_database.specs.States.{Depends, all_atoms}
 use Rattle.ryw_view.specs.Views.{stored_of}
 use Rattle.txn_parts.specs.Changing.{LeadUpTo}
 use Rattle.txn_parts.proofs.Changes.{led_unmodified, led_single}

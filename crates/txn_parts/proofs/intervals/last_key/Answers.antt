@@ -1,5 +1,5 @@
 use Rattle.std.proofs.Common.{rules, ap, ◌∙◌}
-use Rattle.database_rules.specs.Intervals.{last_key}
+use Rattle.model_database.specs.Intervals.{last_key}
 use Rattle.txn_parts.proofs.LastKeys.{last_key_at}
 use Rattle.txn_parts.proofs.intervals.last_key.Goals as goal
 

@@ -1,7 +1,7 @@
 use Rattle.std.proofs.Common.{◌≡◌, ◌≤◌, ◌<◌, not, ◌&&◌, ◌||◌, List, [], ◌∷◌, length, get_or, refl, sym, ap, ◌∙◌, arith}
-use Rattle.database_rules.specs.States.{covers}
-use Rattle.database_rules.specs.Intervals.{decided}
-use Rattle.database_rules.proofs.Ranges.{covers_single, covers_without}
+use Rattle.model_database.specs.States.{covers}
+use Rattle.model_database.specs.Intervals.{decided}
+use Rattle.model_database.proofs.Ranges.{covers_single, covers_without}
 use Rattle.txn_parts.proofs.resting.add_pieces.Goals as goal
 
 -- a list of one item

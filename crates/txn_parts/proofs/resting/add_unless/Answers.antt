@@ -1,7 +1,7 @@
 use Rattle.std.proofs.Common.{[], ◌||◌, sym, ap, ◌∙◌}
-use Rattle.database_rules.specs.States.{covers}
-use Rattle.database_rules.specs.Intervals.{decided, without}
-use Rattle.database_rules.proofs.Ranges.{covers_without}
+use Rattle.model_database.specs.States.{covers}
+use Rattle.model_database.specs.Intervals.{decided, without}
+use Rattle.model_database.proofs.Ranges.{covers_without}
 use Rattle.txn_parts.specs.ReadRanges.{ranges_of}
 use Rattle.txn_parts.proofs.Units.{or_false}
 use Rattle.txn_parts.proofs.resting.add_unless.Goals as goal

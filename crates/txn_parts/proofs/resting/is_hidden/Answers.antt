@@ -1,6 +1,6 @@
 use Rattle.std.proofs.Common.{rules, ◌≡◌, false, List, [], ◌∷◌, refl, sym, ap, ◌∙◌}
 use Rattle.key_bytes.specs.declared.range.KeyRange.{KeyRange}
-use Rattle.database_rules.specs.Intervals.{any_meet}
+use Rattle.model_database.specs.Intervals.{any_meet}
 use Rattle.write_map.proofs.Filled.{plain_readable}
 use Rattle.txn_parts.proofs.resting.is_hidden.Goals as goal
 

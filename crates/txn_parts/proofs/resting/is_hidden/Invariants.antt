@@ -1,6 +1,6 @@
 use Rattle.std.proofs.Common.{◌≡◌, drop}
-use Rattle.database_rules.specs.States.{unreadable}
-use Rattle.database_rules.specs.Intervals.{any_meet}
+use Rattle.model_database.specs.States.{unreadable}
+use Rattle.model_database.specs.Intervals.{any_meet}
 use Rattle.txn_parts.proofs.resting.is_hidden.Given as goal
 
 -- the ranges that are left have an unreadable key where all have one

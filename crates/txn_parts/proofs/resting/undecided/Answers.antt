@@ -1,8 +1,8 @@
 use Rattle.std.proofs.Common.{◌≡◌, not, ◌&&◌, ◌||◌, [], drop, sym, ap, ◌∙◌, arith}
 use Rattle.std.proofs.lemmas.List.{drop_all}
-use Rattle.database_rules.specs.States.{covers, unreadable}
-use Rattle.database_rules.specs.Intervals.{any_meet, decided}
-use Rattle.database_rules.proofs.Ranges.{covers_without}
+use Rattle.model_database.specs.States.{covers, unreadable}
+use Rattle.model_database.specs.Intervals.{any_meet, decided}
+use Rattle.model_database.proofs.Ranges.{covers_without}
 use Rattle.txn_parts.proofs.Units.{or_false}
 use Rattle.txn_parts.proofs.resting.undecided.Goals as goal
 

@@ -1,6 +1,6 @@
 use Rattle.std.proofs.Common.{◌≡◌, ℕ, not, ◌&&◌, ◌||◌, List, drop}
-use Rattle.database_rules.specs.States.{covers, unreadable}
-use Rattle.database_rules.specs.Intervals.{any_meet, decided}
+use Rattle.model_database.specs.States.{covers, unreadable}
+use Rattle.model_database.specs.Intervals.{any_meet, decided}
 use Rattle.txn_parts.proofs.resting.undecided.Given as goal
 
 -- the ranges that are left have an unreadable key where all have one, and with their undecided keys the pieces have those of all

@@ -1,5 +1,5 @@
 use Rattle.std.proofs.Common.{◌≡◌, take}
-use Rattle.database_rules.specs.States.{all_filled}
+use Rattle.model_database.specs.States.{all_filled}
 use Rattle.write_map.specs.Mutations.{mutations_of}
 use Rattle.write_map.proofs.filling.filled.Given as goal
 

@@ -1,6 +1,6 @@
 use Rattle.std.proofs.Common.{refl, sym}
 use Rattle.std.proofs.lemmas.Result.{IfOk-weaker, on_err_weaker}
-use Rattle.machine_rules.specs.Worlds.{World, fresh_at_last, next_life, called_apart, step}
+use Rattle.model_machine.specs.Worlds.{World, fresh_at_last, next_life, called_apart, step}
 use Rattle.fdb_calls.specs.Calling.{called}
 use Rattle.client_core.specs.Contents.{model_of}
 use Rattle.client_core.specs.Lives.{drawn_in}

@@ -1,6 +1,6 @@
 use Rattle.std.proofs.Common.{sym}
 use Rattle.std.proofs.lemmas.Result.{IfOk-weaker}
-use Rattle.machine_rules.specs.Worlds.{with_named}
+use Rattle.model_machine.specs.Worlds.{with_named}
 use Rattle.client_core.proofs.Layers.{named_has_words}
 use Rattle.client_core.proofs.contents.Contents.call_directory.Goals as goal
 

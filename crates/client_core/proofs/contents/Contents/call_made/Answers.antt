@@ -1,7 +1,7 @@
 use Rattle.std.proofs.Common.{refl, sym, subst, ap, ◌∙◌}
 use Rattle.std.specs.Option.{is_some}
 use Rattle.std.proofs.lemmas.Result.{on_err_weaker}
-use Rattle.machine_rules.specs.Worlds.{World, with_new, call_named}
+use Rattle.model_machine.specs.Worlds.{World, with_new, call_named}
 use Rattle.client_core.specs.Contents.{model_of}
 use Rattle.client_core.specs.Sound.{Took}
 use Rattle.client_core.proofs.Named.{made_took, named_none}

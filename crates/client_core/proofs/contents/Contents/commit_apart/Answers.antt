@@ -1,5 +1,5 @@
 use Rattle.std.proofs.Common.{sym, subst, ◌∙◌}
-use Rattle.machine_rules.specs.Worlds.{commit_made}
+use Rattle.model_machine.specs.Worlds.{commit_made}
 use Rattle.client_core.specs.Contents.{model_of}
 use Rattle.client_core.specs.Sound.{Took}
 use Rattle.client_core.proofs.Databases.{refused_took, committed_took}

@@ -1,5 +1,5 @@
 use Rattle.std.proofs.Common.{refl, sym, ap}
-use Rattle.machine_rules.specs.Worlds.{directory_called, fresh_at_last}
+use Rattle.model_machine.specs.Worlds.{directory_called, fresh_at_last}
 use Rattle.version_store.specs.Versions.{last_of}
 use Rattle.client_core.specs.Contents.{model_of}
 use Rattle.client_core.proofs.Databases.{few_at}

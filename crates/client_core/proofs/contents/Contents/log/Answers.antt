@@ -4,7 +4,7 @@ use Rattle.fdb_calls.specs.declared.fault.TrFault.{TrFault}
 use Rattle.fdb_calls.specs.declared.fault.TrFault.TheVariants as fault
 use Rattle.fdb_calls.specs.declared.Reply.{Reply}
 use Rattle.fdb_calls.specs.Calling.{Called, in_turn, logs}
-use Rattle.machine_rules.specs.Worlds.{fresh_at_last, called_apart, step}
+use Rattle.model_machine.specs.Worlds.{fresh_at_last, called_apart, step}
 use Rattle.version_store.specs.Versions.{last_of}
 use Rattle.txn_calls.specs.Logging.{Logs}
 use Rattle.txn_core.specs.Stands as txn

@@ -1,7 +1,7 @@
 use Rattle.std.proofs.Common.{◌≡◌, ℕ, List, [], ◌∷◌, ap, ◌∙◌, arith}
-use Rattle.database_rules.specs.declared.options.DatabaseOptions.{DatabaseOptions}
-use Rattle.database_rules.specs.Histories.{lowest}
-use Rattle.machine_rules.specs.Worlds.{begun, database_options}
+use Rattle.model_database.specs.declared.options.DatabaseOptions.{DatabaseOptions}
+use Rattle.model_database.specs.Histories.{lowest}
+use Rattle.model_machine.specs.Worlds.{begun, database_options}
 use Rattle.client_core.specs.Stands.{KeepsWorld}
 use Rattle.client_core.specs.Contents.{model_of}
 use Rattle.client_core.proofs.Loads.{first_kept, begun_stands}

@@ -1,5 +1,5 @@
 use Rattle.std.proofs.Common.{◌≡◌, map, take}
-use Rattle.command_laws.specs.Found.{EachUtf8}
+use Rattle.laws_commands.specs.Found.{EachUtf8}
 use Rattle.command_words.proofs.args.ArgWords.texts.Given as goal
 
 abbrev pub invariant-loop-word : goal.invariant-loop-word

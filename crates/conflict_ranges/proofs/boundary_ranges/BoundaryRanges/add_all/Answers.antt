@@ -1,5 +1,5 @@
 use Rattle.std.proofs.Common.{◌≡◌, ◌||◌, cond, refl, sym, ap, subst, ◌∙◌}
-use Rattle.database_rules.specs.States.{covers}
+use Rattle.model_database.specs.States.{covers}
 use Rattle.conflict_ranges.specs.Segments.{ranges_of}
 use Rattle.conflict_ranges.proofs.Changed.{covers_held, covers_more, on_err_always}
 use Rattle.conflict_ranges.proofs.Segments.{covers-ranges_of}

@@ -1,7 +1,7 @@
 use Rattle.std.proofs.Common.{sym, ◌∙◌}
 use Rattle.std.proofs.lemmas.Bool.{and_from, and_parts}
 use Rattle.key_bytes.specs.Ranges.{has}
-use Rattle.database_rules.specs.States.{covers}
+use Rattle.model_database.specs.States.{covers}
 use Rattle.conflict_ranges.proofs.Changed.{covers_held}
 use Rattle.conflict_ranges.proofs.Meeting.{same_test, list_any-common, common-list_any}
 use Rattle.conflict_ranges.proofs.boundary_ranges.BoundaryRanges.meets.Goals as goal

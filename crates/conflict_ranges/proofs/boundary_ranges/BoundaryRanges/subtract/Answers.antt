@@ -1,6 +1,6 @@
 use Rattle.std.proofs.Common.{◌≡◌, ◌&&◌, not, refl, subst}
 use Rattle.key_bytes.specs.Ranges.{has}
-use Rattle.database_rules.specs.States.{covers}
+use Rattle.model_database.specs.States.{covers}
 use Rattle.conflict_ranges.specs.Segments.{ranges_of}
 use Rattle.conflict_ranges.proofs.Changed.{on_ok_both, covers_fewer}
 use Rattle.conflict_ranges.proofs.boundary_ranges.BoundaryRanges.subtract.Goals as goal

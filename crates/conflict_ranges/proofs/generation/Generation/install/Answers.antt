@@ -1,5 +1,5 @@
 use Rattle.std.proofs.Common.{cond, sym, ap, subst, ◌∙◌}
-use Rattle.database_rules.specs.States.{covers}
+use Rattle.model_database.specs.States.{covers}
 use Rattle.conflict_ranges.specs.Segments.{range_between}
 use Rattle.conflict_ranges.specs.Generations.{version_at, LastWrites, IsReadyFor}
 use Rattle.conflict_ranges.proofs.Rooms.{given_first, ready_kept, ready_raised}

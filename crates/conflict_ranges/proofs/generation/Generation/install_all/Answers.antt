@@ -2,7 +2,7 @@ use Rattle.std.proofs.Common.{◌<◌, ◌≤◌, cond, arith, [], ◌∷◌, le
 use Rattle.std.proofs.lemmas.List.{drop_all}
 use Rattle.std.proofs.lemmas.Result.{on_ok_weaker}
 use Rattle.key_bytes.specs.Keys.{within}
-use Rattle.database_rules.specs.States.{covers}
+use Rattle.model_database.specs.States.{covers}
 use Rattle.conflict_ranges.specs.Generations.{version_at}
 use Rattle.conflict_ranges.proofs.Rooms.{given_first}
 use Rattle.conflict_ranges.proofs.Splits.{next_left}

@@ -1,7 +1,7 @@
 use Rattle.std.proofs.Common.{cond, ◌∙◌, ap}
 use Rattle.std.proofs.lemmas.Result.{on_ok_weaker}
 use Rattle.key_bytes.specs.Keys.{within}
-use Rattle.database_rules.proofs.Ranges.{covers_single}
+use Rattle.model_database.proofs.Ranges.{covers_single}
 use Rattle.conflict_ranges.specs.Generations.{version_at}
 use Rattle.conflict_ranges.proofs.generation.Generation.install_key.Goals as goal
 

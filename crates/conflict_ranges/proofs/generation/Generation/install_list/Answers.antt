@@ -1,5 +1,5 @@
 use Rattle.std.proofs.Common.{◌+◌, ◌<◌, arith, cond, length, drop, sym, ap, subst, ◌∙◌}
-use Rattle.database_rules.specs.States.{covers}
+use Rattle.model_database.specs.States.{covers}
 use Rattle.conflict_ranges.specs.Generations.{version_at, LastWrites, IsReadyFor}
 use Rattle.conflict_ranges.proofs.Rooms.{given_first, ready_kept, ready_raised}
 use Rattle.conflict_ranges.proofs.Splits.{next_left}

@@ -1,5 +1,5 @@
 use Rattle.std.proofs.Common.{◌≡◌, ℕ, max, if◌then◌else◌, List, drop}
-use Rattle.database_rules.specs.States.{covers}
+use Rattle.model_database.specs.States.{covers}
 use Rattle.conflict_ranges.specs.Generations.{version_at, IsReadyFor}
 use Rattle.conflict_ranges.proofs.generation.Generation.install_list.Given as goal
 

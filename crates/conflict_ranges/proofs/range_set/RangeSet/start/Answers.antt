@@ -1,7 +1,7 @@
 use Rattle.std.proofs.Common.{sym, ap, ◌∙◌}
 use Rattle.std.proofs.lemmas.Bool.{not-true}
 use Rattle.key_bytes.specs.Keys.{key_lt}
-use Rattle.database_rules.specs.States.{covers}
+use Rattle.model_database.specs.States.{covers}
 use Rattle.range_map.proofs.Bounded.{within_backward}
 use Rattle.conflict_ranges.proofs.range_set.RangeSet.start.Goals as goal
 

@@ -1,6 +1,6 @@
 use Rattle.std.proofs.Common.{List, ℕ, subst}
 use Rattle.fdb_calls.specs.declared.Request.TheVariants as request
-use Rattle.machine_rules.specs.Worlds.{World, step}
+use Rattle.model_machine.specs.Worlds.{World, step}
 use Rattle.client_core.specs.Stands.{StandsFor}
 use Rattle.core_tr.specs.Standing.{Makes}
 use Rattle.core_tr.proofs.Answering.{makes_apart}

@@ -1,5 +1,5 @@
 use Rattle.std.proofs.Common.{◌≡◌, None, subst}
-use Rattle.allocator_rules.specs.Acts.{refusal}
+use Rattle.model_allocator.specs.Acts.{refusal}
 use Rattle.fdb_calls.specs.declared.Reply.{Reply}
 use Rattle.core_tr.proofs.named.CoreTr.call_silently.Goals as goal
 

@@ -1,7 +1,7 @@
 use Rattle.std.proofs.Common.{refl, sym, ap, ◌∙◌}
-use Rattle.database_rules.specs.Atomics.{atomic_named}
-use Rattle.database_rules.specs.Databases.{Atomic}
-use Rattle.database_rules.specs.Transactions.{op_code}
+use Rattle.model_database.specs.Atomics.{atomic_named}
+use Rattle.model_database.specs.Databases.{Atomic}
+use Rattle.model_database.specs.Transactions.{op_code}
 use Rattle.fdb_calls.specs.declared.TxnCall.TheVariants as call
 use Rattle.fdb_calls.specs.Calling.{atomic_called}
 use Rattle.core_tr.specs.StandLaws.{rest_itself}

@@ -1,6 +1,6 @@
 use Rattle.std.proofs.Common.{refl, sym}
-use Rattle.database_rules.specs.Databases.{Clear}
-use Rattle.database_rules.specs.Transactions.{clear_code}
+use Rattle.model_database.specs.Databases.{Clear}
+use Rattle.model_database.specs.Transactions.{clear_code}
 use Rattle.fdb_calls.specs.declared.TxnCall.TheVariants as call
 use Rattle.fdb_calls.specs.Calling.{clear_called}
 use Rattle.core_tr.specs.StandLaws.{rest_itself}

@@ -1,6 +1,6 @@
 use Rattle.std.proofs.Common.{refl, sym}
-use Rattle.database_rules.specs.Databases.{ClearRange}
-use Rattle.database_rules.specs.Transactions.{range_code}
+use Rattle.model_database.specs.Databases.{ClearRange}
+use Rattle.model_database.specs.Transactions.{range_code}
 use Rattle.fdb_calls.specs.declared.TxnCall.TheVariants as call
 use Rattle.fdb_calls.specs.Calling.{clear_range_called}
 use Rattle.core_tr.specs.StandLaws.{rest_itself}

@@ -1,6 +1,6 @@
 use Rattle.std.proofs.Common.{false, refl, sym, subst}
 use Rattle.std.proofs.lemmas.Result.{err_from_is_err_and}
-use Rattle.database_rules.specs.Reads as read
+use Rattle.model_database.specs.Reads as read
 use Rattle.fdb_calls.specs.declared.Reply.TheVariants as reply
 use Rattle.fdb_calls.specs.declared.TxnCall.TheVariants as call
 use Rattle.fdb_calls.specs.Calling.{read_called}

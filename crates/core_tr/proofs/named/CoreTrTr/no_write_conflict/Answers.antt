@@ -1,5 +1,5 @@
 use Rattle.std.proofs.Common.{refl, sym}
-use Rattle.database_rules.specs.Transactions.{phase_code, with_write_conflict_disabled}
+use Rattle.model_database.specs.Transactions.{phase_code, with_write_conflict_disabled}
 use Rattle.fdb_calls.specs.declared.TxnCall.TheVariants as call
 use Rattle.fdb_calls.specs.Calling.{no_write_conflict_called}
 use Rattle.core_tr.proofs.Calls.{does_plain, does_done, no_write_conflict_is, no_write_conflict_plain}

@@ -1,6 +1,6 @@
 use Rattle.std.proofs.Common.{refl, sym}
-use Rattle.database_rules.specs.Databases.{Set}
-use Rattle.database_rules.specs.Transactions.{set_code}
+use Rattle.model_database.specs.Databases.{Set}
+use Rattle.model_database.specs.Transactions.{set_code}
 use Rattle.fdb_calls.specs.declared.TxnCall.TheVariants as call
 use Rattle.fdb_calls.specs.Calling.{set_called}
 use Rattle.core_tr.specs.StandLaws.{rest_itself}

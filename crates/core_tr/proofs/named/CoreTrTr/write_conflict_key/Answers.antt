@@ -1,7 +1,7 @@
 use Rattle.std.proofs.Common.{refl, sym, ap, ◌∙◌}
 use Rattle.key_bytes.specs.Keys.{after}
-use Rattle.database_rules.specs.Intervals.{one}
-use Rattle.database_rules.specs.Transactions.{range_code, with_write_range}
+use Rattle.model_database.specs.Intervals.{one}
+use Rattle.model_database.specs.Transactions.{range_code, with_write_range}
 use Rattle.fdb_calls.specs.declared.TxnCall.TheVariants as call
 use Rattle.fdb_calls.specs.Calling.{write_conflict_called}
 use Rattle.core_tr.specs.StandLaws.{rest_itself}

@@ -2,7 +2,7 @@ use Rattle.std.proofs.Common.{List, ℕ, refl, subst, ◌∙◌}
 use Rattle.std.specs.Io.KnownBytes.{Appends}
 use Rattle.std.proofs.lemmas.Result.{err_from_is_err_and}
 use Rattle.outside.specs.Streams.{AppendsFront}
-use Rattle.shell_rules.specs.Sessions.{answered}
+use Rattle.model_shell.specs.Sessions.{answered}
 use Rattle.fdb_shell.specs.Doing.{IsAnswered}
 use Rattle.fdb_shell.proofs.position.Reading.answer.Goals as goal
 

@@ -1,7 +1,7 @@
 use Rattle.std.proofs.Common.{◌==◌, ℕ, List, length, refl, sym, ap, ◌∙◌, true≢false}
 use Rattle.std.proofs.lemmas.Bool.{eqb-true}
 use Rattle.std.proofs.lemmas.List.{nil_from_length}
-use Rattle.shell_rules.specs.Sessions.{after_lines, first_session}
+use Rattle.model_shell.specs.Sessions.{after_lines, first_session}
 use Rattle.fdb_shell.proofs.Steps.{closes, closes_empty}
 use Rattle.fdb_shell.proofs.position.Reading.end.Goals as goal
 

@@ -1,7 +1,7 @@
 use Rattle.std.proofs.Common.{◌+◌, ◌≤◌, ◌∷◌, [], ◌++◌, ℕ, length, refl, sym, subst, ◌∙◌, arith}
 use Rattle.std.proofs.lemmas.Bool.{eqb-true, eqb-false, ne_eqb}
 use Rattle.std.proofs.lemmas.Result.{err_from_is_err_and}
-use Rattle.shell_rules.specs.Sessions.{after_lines, first_session}
+use Rattle.model_shell.specs.Sessions.{after_lines, first_session}
 use Rattle.fdb_shell.specs.Limits.{line_limit, input_limit}
 use Rattle.fdb_shell.specs.Endings.{Goes}
 use Rattle.fdb_shell.proofs.Steps.{fed_by, goes_on, stays_short, too_long, too_many}

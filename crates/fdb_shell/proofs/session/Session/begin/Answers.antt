@@ -1,6 +1,6 @@
 use Rattle.std.proofs.Common.{true}
 use Rattle.std.proofs.lemmas.Result.{err_from_is_err_and}
-use Rattle.shell_rules.specs.Requests.{made}
+use Rattle.model_shell.specs.Requests.{made}
 use Rattle.fdb_shell.proofs.Commands.{begun_again, begun_anew, stands_opened, unbegun}
 use Rattle.fdb_shell.proofs.session.Session.begin.Goals as goal
 

@@ -1,5 +1,5 @@
 use Rattle.std.proofs.Common.{subst}
-use Rattle.shell_rules.specs.Recipes.{recipe_done}
+use Rattle.model_shell.specs.Recipes.{recipe_done}
 use Rattle.shell_recipes.specs.declared.calls.End.{End}
 use Rattle.shell_recipes.specs.Running.{is_refused}
 use Rattle.fdb_shell.specs.Doing.{HasDone}

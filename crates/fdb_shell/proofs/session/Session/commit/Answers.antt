@@ -1,6 +1,6 @@
 use Rattle.std.proofs.lemmas.Result.{err_from_is_err_and}
 use Rattle.fdb_calls.specs.declared.TxnCall.TheVariants as call
-use Rattle.shell_rules.specs.Requests.{called, committed, silent, version_said}
+use Rattle.model_shell.specs.Requests.{called, committed, silent, version_said}
 use Rattle.fdb_shell.proofs.Doing.{does_on, does_stopped}
 use Rattle.fdb_shell.proofs.session.Session.commit.Goals as goal
 

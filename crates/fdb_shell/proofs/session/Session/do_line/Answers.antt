@@ -1,5 +1,5 @@
 use Rattle.std.proofs.Common.{◌≡◌, subst}
-use Rattle.shell_rules.specs.Commands.{command_of}
+use Rattle.model_shell.specs.Commands.{command_of}
 use Rattle.shell_text.specs.declared.words.Unread.{Unread}
 use Rattle.shell_text.specs.declared.words.Unread.TheVariants as unread
 use Rattle.shell_text.specs.Reading.{Fails}

@@ -1,7 +1,7 @@
 use Rattle.std.proofs.Common.{false}
 use Rattle.std.proofs.lemmas.Result.{err_from_is_err_and}
 use Rattle.fdb_calls.specs.declared.TxnCall.TheVariants as call
-use Rattle.shell_rules.specs.Requests.{called, made, value_said}
+use Rattle.model_shell.specs.Requests.{called, made, value_said}
 use Rattle.fdb_shell.proofs.Commands.{read_open, read_outside, read_unmade}
 use Rattle.fdb_shell.proofs.session.Session.get.Goals as goal
 

@@ -1,6 +1,6 @@
 use Rattle.std.proofs.lemmas.Result.{err_from_is_err_and}
-use Rattle.shell_rules.specs.Requests.{called, made, pairs_said}
-use Rattle.shell_rules.specs.Sessions.{range_call}
+use Rattle.model_shell.specs.Requests.{called, made, pairs_said}
+use Rattle.model_shell.specs.Sessions.{range_call}
 use Rattle.fdb_shell.proofs.Commands.{read_open, read_outside, read_unmade}
 use Rattle.fdb_shell.proofs.session.Session.get_range.Goals as goal
 

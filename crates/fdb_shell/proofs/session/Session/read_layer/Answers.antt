@@ -1,6 +1,6 @@
 use Rattle.std.proofs.lemmas.Result.{err_from_is_err_and}
-use Rattle.shell_rules.specs.Requests.{made}
-use Rattle.shell_rules.specs.Recipes.{recipe_done}
+use Rattle.model_shell.specs.Requests.{made}
+use Rattle.model_shell.specs.Recipes.{recipe_done}
 use Rattle.fdb_shell.proofs.Commands.{read_open, read_outside, read_unmade}
 use Rattle.fdb_shell.proofs.session.Session.read_layer.Goals as goal
 

@@ -1,7 +1,7 @@
 use Rattle.std.proofs.Common.{[]}
 use Rattle.fdb_calls.specs.declared.Request.TheVariants as request
-use Rattle.shell_rules.specs.Requests.{pairs_said}
-use Rattle.shell_rules.specs.Sessions.{range_call}
+use Rattle.model_shell.specs.Requests.{pairs_said}
+use Rattle.model_shell.specs.Sessions.{range_call}
 use Rattle.fdb_shell.proofs.Doing.{done_through}
 use Rattle.fdb_shell.proofs.session.Session.read_range.Goals as goal
 

@@ -1,7 +1,7 @@
 use Rattle.std.proofs.Common.{[]}
 use Rattle.fdb_calls.specs.declared.Request.TheVariants as request
 use Rattle.fdb_calls.specs.declared.TxnCall.TheVariants as call
-use Rattle.shell_rules.specs.Requests.{version_said}
+use Rattle.model_shell.specs.Requests.{version_said}
 use Rattle.fdb_shell.proofs.Doing.{done_through}
 use Rattle.fdb_shell.proofs.session.Session.read_version.Goals as goal
 

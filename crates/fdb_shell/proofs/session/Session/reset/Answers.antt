@@ -2,7 +2,7 @@ use Rattle.std.proofs.Common.{Err}
 use Rattle.std.specs.Prelude.{codes}
 use Rattle.std.proofs.lemmas.Result.{err_from_is_err_and}
 use Rattle.fdb_calls.specs.declared.TxnCall.TheVariants as call
-use Rattle.shell_rules.specs.Requests.{called, printed_line, says, silent}
+use Rattle.model_shell.specs.Requests.{called, printed_line, says, silent}
 use Rattle.fdb_shell.proofs.Doing.{does_on, does_stopped}
 use Rattle.fdb_shell.proofs.Commands.{reset, unreset}
 use Rattle.fdb_shell.proofs.session.Session.reset.Goals as goal

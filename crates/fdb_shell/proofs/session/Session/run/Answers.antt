@@ -1,7 +1,7 @@
 use Rattle.std.proofs.Common.{false}
 use Rattle.fdb_calls.specs.declared.TxnCall.TheVariants as call
-use Rattle.shell_rules.specs.Requests.{called, pairs_said, silent, value_said}
-use Rattle.shell_rules.specs.Sessions.{done, range_call}
+use Rattle.model_shell.specs.Requests.{called, pairs_said, silent, value_said}
+use Rattle.model_shell.specs.Sessions.{done, range_call}
 use Rattle.fdb_shell.proofs.Commands.{leaves_read, leaves_written}
 use Rattle.fdb_shell.proofs.session.Session.run.Goals as goal
 

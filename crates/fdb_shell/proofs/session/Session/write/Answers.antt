@@ -1,6 +1,6 @@
 use Rattle.std.proofs.Common.{false, Err}
 use Rattle.std.proofs.lemmas.Result.{err_from_is_err_and}
-use Rattle.shell_rules.specs.Requests.{called, followed, made, silent}
+use Rattle.model_shell.specs.Requests.{called, followed, made, silent}
 use Rattle.fdb_shell.proofs.Doing.{does_on, does_stopped, done_on}
 use Rattle.fdb_shell.proofs.Commands.{unwritten_open, unwritten_outside, written_open, written_outside}
 use Rattle.fdb_shell.proofs.session.Session.write.Goals as goal

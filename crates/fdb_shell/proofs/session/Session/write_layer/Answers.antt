@@ -1,7 +1,7 @@
 use Rattle.std.proofs.Common.{false, Err}
 use Rattle.std.proofs.lemmas.Result.{err_from_is_err_and}
-use Rattle.shell_rules.specs.Requests.{followed, made}
-use Rattle.shell_rules.specs.Recipes.{recipe_done}
+use Rattle.model_shell.specs.Requests.{followed, made}
+use Rattle.model_shell.specs.Recipes.{recipe_done}
 use Rattle.fdb_shell.proofs.Doing.{does_on, does_stopped, done_on}
 use Rattle.fdb_shell.proofs.Commands.{unwritten_open, unwritten_outside, written_open, written_outside}
 use Rattle.fdb_shell.proofs.session.Session.write_layer.Goals as goal

@@ -1,6 +1,6 @@
 use Rattle.std.proofs.Common.{List, ◌∷◌, [], subst, sym, ap, ◌∙◌}
-use Rattle.machine_rules.specs.declared.Item.{Item}
-use Rattle.machine_rules.specs.Machines.{Registers, pushing, with_stack}
+use Rattle.model_machine.specs.declared.Item.{Item}
+use Rattle.model_machine.specs.Machines.{Registers, pushing, with_stack}
 use Rattle.stack_items.proofs.Pushing.{pushed-append}
 use Rattle.stack_directories.specs.Directing.{AreElements}
 use Rattle.machine_registers.proofs.registers.Registers.give.Goals as goal

@@ -1,6 +1,6 @@
 use Rattle.std.proofs.Common.{◌≡◌}
-use Rattle.machine_rules.specs.StackOperations.{pushed}
-use Rattle.machine_rules.specs.Machines.{with_stack}
+use Rattle.model_machine.specs.StackOperations.{pushed}
+use Rattle.model_machine.specs.Machines.{with_stack}
 use Rattle.stack_directories.specs.Directing.{AreElements}
 use Rattle.machine_registers.proofs.registers.Registers.give.Given as goal
 

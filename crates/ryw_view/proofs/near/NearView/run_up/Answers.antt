@@ -2,7 +2,7 @@ use Rattle.std.proofs.Common.{◌≡◌, ◌++◌, ◌∷◌, [], true, false, n
 use Rattle.std.specs.Option.{option_copied}
 use Rattle.key_bytes.proofs.Orders.{above_not_below, lt_after}
 use Rattle.key_map.specs.Ends.{first}
-use Rattle.database_rules.specs.Slices.{span}
+use Rattle.model_database.specs.Slices.{span}
 use Rattle.range_read.proofs.Taking.{pushed_length}
 use Rattle.range_read.proofs.Walks.{Entry}
 use Rattle.ryw_view.specs.Segments.{AreBare}

@@ -1,7 +1,7 @@
 use Rattle.std.proofs.Common.{◌≡◌, ◌<◌, ◌≤◌, ◌++◌, false, length, Some}
 use Rattle.std.specs.Option.{option_copied}
 use Rattle.key_bytes.specs.Keys.{key_lt}
-use Rattle.database_rules.specs.Slices.{span}
+use Rattle.model_database.specs.Slices.{span}
 use Rattle.ryw_view.specs.Segments.{AreBare}
 use Rattle.ryw_view.specs.Views.{seen_of, stored_of}
 use Rattle.ryw_view.specs.Walks.{from_of, stored_between}

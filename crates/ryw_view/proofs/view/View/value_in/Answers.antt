@@ -2,7 +2,7 @@ use Rattle.std.proofs.Common.{sym, ap, ◌∙◌}
 use Rattle.std.proofs.lemmas.Result.{IfOk-weaker}
 use Rattle.std.specs.FinMap as finite
 use Rattle.std.specs.Option.{option_copied}
-use Rattle.database_rules.specs.States.{Unmodified, Decided, Depends, all_atoms}
+use Rattle.model_database.specs.States.{Unmodified, Decided, Depends, all_atoms}
 use Rattle.write_map.specs.Edits.{edits_of}
 use Rattle.ryw_view.specs.Views.{stored_of}
 use Rattle.ryw_view.proofs.Seen.{seen_unreadable, seen_readable}

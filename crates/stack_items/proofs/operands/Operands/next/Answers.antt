@@ -1,5 +1,5 @@
 use Rattle.std.proofs.Common.{◌≡◌, List, ◌∷◌, reverse, drop, sym, ap, ◌∙◌}
-use Rattle.machine_rules.specs.declared.Item.{Item}
+use Rattle.model_machine.specs.declared.Item.{Item}
 use Rattle.stack_items.specs.Looks.{Look, left_in}
 use Rattle.stack_items.proofs.Below.{drop_next}
 use Rattle.stack_items.proofs.Reversals.{drop-reverse_within}

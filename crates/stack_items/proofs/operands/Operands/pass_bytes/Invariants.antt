@@ -1,5 +1,5 @@
 use Rattle.std.proofs.Common.{◌≡◌, ℕ, ◌-◌, List}
-use Rattle.machine_rules.specs.Operands.{bytes_operand, operands_by}
+use Rattle.model_machine.specs.Operands.{bytes_operand, operands_by}
 use Rattle.stack_items.specs.Looks.{left_in}
 use Rattle.stack_items.proofs.Repeats.{operands_after}
 use Rattle.stack_items.proofs.operands.Operands.pass_bytes.Given as goal

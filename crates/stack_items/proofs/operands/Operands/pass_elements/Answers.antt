@@ -1,6 +1,6 @@
 use Rattle.std.proofs.Common.{◌∷◌, [], ◌++◌, ◌∙◌, arith}
 use Rattle.std.proofs.lemmas.Result.{err_from_is_err_and}
-use Rattle.machine_rules.specs.Operands.{element_operand}
+use Rattle.model_machine.specs.Operands.{element_operand}
 use Rattle.stack_items.specs.Looks.{left_in}
 use Rattle.stack_items.proofs.Repeats.{after_more, after_all, refused_after}
 use Rattle.stack_items.proofs.operands.Operands.pass_elements.Goals as goal

@@ -1,7 +1,7 @@
 use Rattle.std.proofs.Common.{◌≡◌, ◌-◌, length, drop, take, reverse, ap, ◌∙◌, arith}
 use Rattle.std.proofs.lemmas.List.{take_rest, reverse-reverse}
-use Rattle.machine_rules.specs.declared.TheConstants.{LOG_BATCH}
-use Rattle.machine_rules.specs.Machines.{first_life}
+use Rattle.model_machine.specs.declared.TheConstants.{LOG_BATCH}
+use Rattle.model_machine.specs.Machines.{first_life}
 use Rattle.stack_items.proofs.Reversals.{drop-reverse}
 use Rattle.stack_items.proofs.stack.Stack.batch_life.Goals as goal
 

@@ -1,6 +1,6 @@
 use Rattle.std.proofs.Common.{reverse, ap, sym, ◌∙◌}
 use Rattle.std.proofs.lemmas.List.{reverse-reverse}
-use Rattle.machine_rules.specs.Machines.{with_known}
+use Rattle.model_machine.specs.Machines.{with_known}
 use Rattle.stack_items.proofs.Decided.{decided, none_decided}
 use Rattle.stack_items.proofs.stack.Stack.decide_first.Goals as goal
 

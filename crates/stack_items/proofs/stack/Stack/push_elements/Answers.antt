@@ -1,7 +1,7 @@
 use Rattle.std.proofs.Common.{map, take, arith}
 use Rattle.std.proofs.lemmas.List.{take_more}
 use Rattle.std.proofs.lemmas.Result.{err_from_is_err_and}
-use Rattle.machine_rules.specs.StackOperations.{packed_alone}
+use Rattle.model_machine.specs.StackOperations.{packed_alone}
 use Rattle.stack_items.proofs.Pushing.{pushed_more, pushed-EndsIn}
 use Rattle.stack_items.proofs.stack.Stack.push_elements.Goals as goal
 

@@ -1,5 +1,5 @@
 use Rattle.std.proofs.Common.{◌≡◌, map, take}
-use Rattle.machine_rules.specs.StackOperations.{pushed, packed_alone}
+use Rattle.model_machine.specs.StackOperations.{pushed, packed_alone}
 use Rattle.stack_items.proofs.stack.Stack.push_elements.Given as goal
 
 abbrev pub invariant-loop-element : goal.invariant-loop-element

@@ -1,7 +1,7 @@
 use Rattle.std.proofs.Common.{◌≡◌, [], ◌∷◌}
 use Rattle.std.specs.Prelude.{codes}
 use Rattle.std.proofs.lemmas.Result.{on_err_weaker}
-use Rattle.machine_rules.specs.StackOperations.{text}
+use Rattle.model_machine.specs.StackOperations.{text}
 use Rattle.stack_items.proofs.Pushing.{pushed-EndsIn}
 use Rattle.stack_items.proofs.stack.Stack.push_stamped.Goals as goal
 

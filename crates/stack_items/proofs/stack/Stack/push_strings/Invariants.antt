@@ -1,6 +1,6 @@
 use Rattle.std.proofs.Common.{◌≡◌, map}
 use Rattle.fdb_tuple.specs.declared.tuple.Elem.TheVariants as elem
-use Rattle.machine_rules.specs.StackOperations.{pushed}
+use Rattle.model_machine.specs.StackOperations.{pushed}
 use Rattle.stack_items.proofs.stack.Stack.push_strings.Given as goal
 
 abbrev pub invariant-loop-string : goal.invariant-loop-string

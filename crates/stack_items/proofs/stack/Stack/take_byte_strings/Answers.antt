@@ -1,6 +1,6 @@
 use Rattle.std.proofs.Common.{◌≡◌, ◌∷◌, [], ◌++◌, ◌-◌, ◌+◌, ◌∙◌, arith}
 use Rattle.std.proofs.lemmas.Result.{err_from_is_err_and}
-use Rattle.machine_rules.specs.Operands.{bytes_of, bytes_operand, operands_by}
+use Rattle.model_machine.specs.Operands.{bytes_of, bytes_operand, operands_by}
 use Rattle.stack_items.proofs.Below.{operand_leaves}
 use Rattle.stack_items.proofs.Repeats.{operands_after, after_more, after_all, never_refused, left_below}
 use Rattle.stack_items.proofs.stack.Stack.take_byte_strings.Goals as goal

@@ -1,5 +1,5 @@
 use Rattle.std.proofs.Common.{◌≡◌, ◌-◌}
-use Rattle.machine_rules.specs.Operands.{bytes_operand, operands_by}
+use Rattle.model_machine.specs.Operands.{bytes_operand, operands_by}
 use Rattle.stack_items.proofs.Repeats.{operands_after}
 use Rattle.stack_items.proofs.stack.Stack.take_byte_strings.Given as goal
 

@@ -1,7 +1,7 @@
 use Rattle.std.proofs.Common.{◌≡◌, ◌∷◌, [], ◌++◌, ◌-◌, ◌+◌, ap, ◌∙◌, arith}
 use Rattle.std.proofs.lemmas.Result.{err_from_is_err_and}
 use Rattle.fdb_tuple.specs.Listed.{elements_of}
-use Rattle.machine_rules.specs.Operands.{element_operand, operands_by}
+use Rattle.model_machine.specs.Operands.{element_operand, operands_by}
 use Rattle.stack_items.proofs.Below.{element_leaves}
 use Rattle.stack_items.proofs.Repeats.{operands_after, after_more, after_all, element_of_item, element_refused, never_refused, left_below}
 use Rattle.stack_items.proofs.stack.Stack.take_elements.Goals as goal

@@ -1,6 +1,6 @@
 use Rattle.std.proofs.Common.{◌≡◌, ◌-◌}
 use Rattle.fdb_tuple.specs.Listed.{elements_of}
-use Rattle.machine_rules.specs.Operands.{element_operand, operands_by}
+use Rattle.model_machine.specs.Operands.{element_operand, operands_by}
 use Rattle.stack_items.proofs.Repeats.{operands_after}
 use Rattle.stack_items.proofs.stack.Stack.take_elements.Given as goal
 

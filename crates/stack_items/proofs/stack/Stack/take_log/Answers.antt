@@ -1,8 +1,8 @@
 use Rattle.std.proofs.Common.{◌≡◌, ◌-◌, length, map, drop, take, reverse, ap, ◌∙◌, arith}
 use Rattle.std.specs.List.{enumerate_from}
 use Rattle.std.proofs.lemmas.List.{take_rest}
-use Rattle.machine_rules.specs.declared.TheConstants.{LOG_BATCH}
-use Rattle.machine_rules.specs.Calls.{log_entry}
+use Rattle.model_machine.specs.declared.TheConstants.{LOG_BATCH}
+use Rattle.model_machine.specs.Calls.{log_entry}
 use Rattle.stack_items.proofs.Reversals.{drop-reverse}
 use Rattle.stack_items.proofs.stack.Stack.take_log.Goals as goal
 

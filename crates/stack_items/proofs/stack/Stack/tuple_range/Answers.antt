@@ -1,6 +1,6 @@
 use Rattle.std.proofs.Common.{◌≡◌, [], ◌∷◌, ap}
 use Rattle.std.proofs.lemmas.Result.{IfErr-at_err}
-use Rattle.machine_rules.specs.Operands.{left_of}
+use Rattle.model_machine.specs.Operands.{left_of}
 use Rattle.stack_items.proofs.Pushing.{pushed-EndsIn}
 use Rattle.stack_items.proofs.stack.Stack.tuple_range.Goals as goal
 

@@ -1,8 +1,8 @@
 use Rattle.std.proofs.Common.{◌≡◌, ◌∙◌, IfOk, Ok, Option, Result, ap, refl, sym, subst}
 use Rattle.std.specs.declared.alloc.AllocError.{AllocError}
-use Rattle.machine_rules.specs.declared.Awaits.TheVariants as awaits
-use Rattle.machine_rules.specs.declared.Instruction.{Instruction}
-use Rattle.machine_rules.specs.Machines.{act_of, after_poll, instruction_at, resumed}
+use Rattle.model_machine.specs.declared.Awaits.TheVariants as awaits
+use Rattle.model_machine.specs.declared.Instruction.{Instruction}
+use Rattle.model_machine.specs.Machines.{act_of, after_poll, instruction_at, resumed}
 use Rattle.stack_machine.specs.MachineModel.{MachineModel}
 use Rattle.stack_machine.specs.Steps.{Moves}
 use Rattle.machine_registers.specs.declared.act.Act.{Act as Answer}

@@ -1,8 +1,8 @@
 use Rattle.std.proofs.Common.{cond, sym, ap, ◌∙◌}
 use Rattle.std.proofs.lemmas.Result.{on_ok_weaker}
-use Rattle.database_rules.specs.Intervals.{one}
-use Rattle.database_rules.specs.States.{covers}
-use Rattle.database_rules.proofs.Ranges.{covers_single}
+use Rattle.model_database.specs.Intervals.{one}
+use Rattle.model_database.specs.States.{covers}
+use Rattle.model_database.proofs.Ranges.{covers_single}
 use Rattle.conflict_ranges.specs.Writes.{above, newest_at}
 use Rattle.txn_calls.proofs.txn.Txn.add_write_conflicts.Goals as goal
 

@@ -1,5 +1,5 @@
 use Rattle.std.proofs.Common.{sym, subst, ◌∙◌}
-use Rattle.database_rules.specs.Transactions.{fresh}
+use Rattle.model_database.specs.Transactions.{fresh}
 use Rattle.txn_calls.specs.Stands.{Kept, StandsFor}
 use Rattle.txn_calls.proofs.Standing.{versioned}
 use Rattle.txn_calls.proofs.txn.Txn.at_last.Goals as goal

@@ -1,9 +1,9 @@
 use Rattle.std.proofs.Common.{◌≡◌, true, sym, ap, subst, ◌∙◌}
 use Rattle.std.specs.List.{All}
 use Rattle.std.proofs.lemmas.Result.{IfOk-weaker}
-use Rattle.database_rules.specs.Databases.{do_all}
-use Rattle.database_rules.specs.KeyByKey.{is_modified_by}
-use Rattle.database_rules.specs.States.{all_filled, unreadable}
+use Rattle.model_database.specs.Databases.{do_all}
+use Rattle.model_database.specs.KeyByKey.{is_modified_by}
+use Rattle.model_database.specs.States.{all_filled, unreadable}
 use Rattle.version_store.specs.Versions.{at, last_of}
 use Rattle.write_map.proofs.Filled.{filled_readable, plain_filled, plain_readable}
 use Rattle.txn_calls.specs.Stands.{Kept}

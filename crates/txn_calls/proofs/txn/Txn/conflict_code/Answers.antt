@@ -1,7 +1,7 @@
 use Rattle.std.proofs.Common.{◌≡◌, true, false, None, sym, ap, ◌∙◌, arith}
 use Rattle.std.specs.Option.{option_map}
-use Rattle.database_rules.specs.Histories.{conflicts}
-use Rattle.database_rules.specs.Transactions.{number_of}
+use Rattle.model_database.specs.Histories.{conflicts}
+use Rattle.model_database.specs.Transactions.{number_of}
 use Rattle.txn_calls.specs.Accesses.{version_code, version_of}
 use Rattle.txn_calls.proofs.Judging.{checked, conflict_same}
 use Rattle.txn_calls.proofs.Views.{not_behind}

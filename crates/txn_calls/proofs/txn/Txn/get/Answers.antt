@@ -1,7 +1,7 @@
 use Rattle.std.proofs.Common.{rules, ◌∷◌, [], false, refl, ap, ◌∙◌}
 use Rattle.std.specs.FinMap as finite
-use Rattle.database_rules.specs.Reads as read
-use Rattle.database_rules.specs.Reads.{answer}
+use Rattle.model_database.specs.Reads as read
+use Rattle.model_database.specs.Reads.{answer}
 use Rattle.fdb_calls.specs.declared.Reply.TheVariants as reply
 use Rattle.txn_calls.specs.Accesses.{seen_by}
 use Rattle.txn_calls.proofs.Views.{admit_answered, admitted_so, rest_refused, rest_answered, answered_on_return}

@@ -1,10 +1,10 @@
 use Rattle.std.proofs.Common.{rules, ◌≡◌, ◌∷◌, [], List, ℕ, false, refl, ap, ◌∙◌}
 use Rattle.key_bytes.specs.declared.range.KeyRange.{KeyRange}
-use Rattle.database_rules.specs.declared.selector.Selector.{Selector}
-use Rattle.database_rules.specs.Intervals as intervals
-use Rattle.database_rules.specs.Selecting.{select}
-use Rattle.database_rules.specs.Reads as read
-use Rattle.database_rules.specs.Reads.{answer}
+use Rattle.model_database.specs.declared.selector.Selector.{Selector}
+use Rattle.model_database.specs.Intervals as intervals
+use Rattle.model_database.specs.Selecting.{select}
+use Rattle.model_database.specs.Reads as read
+use Rattle.model_database.specs.Reads.{answer}
 use Rattle.fdb_calls.specs.declared.Reply.TheVariants as reply
 use Rattle.version_store.specs.Versions.{Versions}
 use Rattle.txn_calls.specs.Stands.{Kept}

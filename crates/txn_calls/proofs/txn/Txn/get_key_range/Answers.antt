@@ -1,10 +1,10 @@
 use Rattle.std.proofs.Common.{rules, ◌≡◌, ◌∷◌, [], Bool, List, ℕ, refl, ap, ◌∙◌}
 use Rattle.key_bytes.specs.declared.range.KeyRange.{KeyRange}
-use Rattle.database_rules.specs.Intervals as intervals
-use Rattle.database_rules.specs.Modes.{lacks_limit}
-use Rattle.database_rules.specs.Slices.{Entries, slice}
-use Rattle.database_rules.specs.Reads as read
-use Rattle.database_rules.specs.Reads.{answer}
+use Rattle.model_database.specs.Intervals as intervals
+use Rattle.model_database.specs.Modes.{lacks_limit}
+use Rattle.model_database.specs.Slices.{Entries, slice}
+use Rattle.model_database.specs.Reads as read
+use Rattle.model_database.specs.Reads.{answer}
 use Rattle.fdb_calls.specs.declared.Reply.TheVariants as reply
 use Rattle.version_store.specs.Versions.{Versions}
 use Rattle.txn_calls.specs.Stands.{Kept}

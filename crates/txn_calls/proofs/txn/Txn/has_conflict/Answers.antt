@@ -1,6 +1,6 @@
 use Rattle.std.proofs.Common.{rules, ◌≡◌, ◌||◌, ◌≤◌, true, false, nat_lt, sym, ap, ◌∙◌}
-use Rattle.database_rules.specs.Histories.{conflicts}
-use Rattle.database_rules.proofs.Conflicts.{conflicts_none}
+use Rattle.model_database.specs.Histories.{conflicts}
+use Rattle.model_database.proofs.Conflicts.{conflicts_none}
 use Rattle.txn_calls.proofs.Judging.{newer_same, none_newer, judged_first}
 use Rattle.txn_calls.proofs.txn.Txn.has_conflict.Goals as goal
 

@@ -1,5 +1,5 @@
 use Rattle.std.proofs.Common.{◌≡◌, ◌≤◌}
-use Rattle.database_rules.specs.Histories.{Setting, conflicts, low}
+use Rattle.model_database.specs.Histories.{Setting, conflicts, low}
 use Rattle.version_store.specs.Versions.{Versions}
 use Rattle.txn_calls.specs.Stands.{Keeps}
 use Rattle.txn_calls.proofs.txn.Txn.has_conflict.Given as goal

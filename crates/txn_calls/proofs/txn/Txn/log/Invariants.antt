@@ -1,6 +1,6 @@
 use Rattle.std.proofs.Common.{map, drop}
 use Rattle.key_bytes.specs.Entries.{entry_of}
-use Rattle.database_rules.specs.Transactions.{Transaction}
+use Rattle.model_database.specs.Transactions.{Transaction}
 use Rattle.fdb_calls.specs.Calling.{in_turn, logs}
 use Rattle.txn_calls.specs.Logging.{LogsOn}
 use Rattle.txn_calls.specs.Stands.{StandsFor}

@@ -1,12 +1,12 @@
 use Rattle.std.proofs.Common.{◌≡◌, ◌+◌, length, length-append, ◌∷◌, [], arith, refl, ap, sym, subst, ◌∙◌}
 use Rattle.std.specs.Prelude.{if◌then◌else◌}
-use Rattle.database_rules.specs.declared.Phase.TheVariants as phase
-use Rattle.database_rules.specs.declared.Tried.TheVariants as tried
-use Rattle.database_rules.specs.Databases.{do_all}
-use Rattle.database_rules.specs.Histories.{stamp_of, grown_by, low, lowest}
-use Rattle.database_rules.specs.States.{all_filled, covers}
-use Rattle.database_rules.specs.Transactions.{writes_of, with_phase}
-use Rattle.database_rules.proofs.Stamps.{stamp_length}
+use Rattle.model_database.specs.declared.Phase.TheVariants as phase
+use Rattle.model_database.specs.declared.Tried.TheVariants as tried
+use Rattle.model_database.specs.Databases.{do_all}
+use Rattle.model_database.specs.Histories.{stamp_of, grown_by, low, lowest}
+use Rattle.model_database.specs.States.{all_filled, covers}
+use Rattle.model_database.specs.Transactions.{writes_of, with_phase}
+use Rattle.model_database.proofs.Stamps.{stamp_length}
 use Rattle.conflict_ranges.specs.Writes.{newest_at, above}
 use Rattle.fdb_calls.specs.Calling.{commit_of, next_version}
 use Rattle.version_store.specs.Changed.{changed}

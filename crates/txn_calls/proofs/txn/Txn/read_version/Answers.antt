@@ -1,5 +1,5 @@
 use Rattle.std.proofs.Common.{rules, ◌≡◌, pos, ap, subst, ◌∙◌}
-use Rattle.database_rules.specs.Transactions.{phase_code, version_in, with_version}
+use Rattle.model_database.specs.Transactions.{phase_code, version_in, with_version}
 use Rattle.fdb_calls.specs.declared.Reply.TheVariants as reply
 use Rattle.txn_calls.specs.Stands.{StandsFor}
 use Rattle.txn_calls.proofs.Accepted.{does_done}

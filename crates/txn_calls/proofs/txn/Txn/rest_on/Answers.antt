@@ -2,9 +2,9 @@ use Rattle.std.proofs.Common.{rules, ◌≡◌, ◌≢◌, Bool, true, false, �
 use Rattle.std.proofs.lemmas.Bool.{not-false}
 use Rattle.std.specs.declared.alloc.AllocError.{AllocError}
 use Rattle.std.specs.declared.result.Result.{Result}
-use Rattle.database_rules.specs.States.{covers, unreadable}
-use Rattle.database_rules.specs.Intervals.{any_meet, decided}
-use Rattle.database_rules.proofs.Ranges.{covers_without}
+use Rattle.model_database.specs.States.{covers, unreadable}
+use Rattle.model_database.specs.Intervals.{any_meet, decided}
+use Rattle.model_database.proofs.Ranges.{covers_without}
 use Rattle.txn_calls.specs.Stands.{Kept}
 use Rattle.txn_parts.proofs.Units.{or_false}
 use Rattle.txn_calls.proofs.txn.Txn.rest_on.Goals as goal

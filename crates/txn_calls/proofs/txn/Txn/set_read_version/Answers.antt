@@ -1,8 +1,8 @@
 use Rattle.std.proofs.Common.{rules, ◌≡◌, ◌<◌, ◌^◌, ℕ, ℤ, pos, negsuc, Bool, true, false, not, [], ◌∷◌, Option, Some, None, refl, sym, ap, subst, ◌∙◌, true≢false, unsigned_abs, FitsSigned, w64, to_z-of_z}
 use Rattle.std.specs.Option.{option_map}
 use Rattle.std.specs.Prelude.{is_some}
-use Rattle.database_rules.specs.declared.Phase.{Phase}
-use Rattle.database_rules.specs.Transactions.{first_failing, is_cancelled, is_tried, is_positive, number_of, set_version_code}
+use Rattle.model_database.specs.declared.Phase.{Phase}
+use Rattle.model_database.specs.Transactions.{first_failing, is_cancelled, is_tried, is_positive, number_of, set_version_code}
 use Rattle.fdb_calls.specs.declared.Reply.TheVariants as reply
 use Rattle.txn_calls.specs.Stands.{StandsFor}
 use Rattle.txn_calls.proofs.Accepted.{does_done}

@@ -1,8 +1,8 @@
 use Rattle.std.proofs.Common.{rules, not, ◌&&◌, ◌||◌, length, nat_lt, ap, subst, ◌∙◌}
 use Rattle.key_bytes.specs.Keys.{key_lt}
 use Rattle.key_bytes.specs.Ranges.{has}
-use Rattle.database_rules.specs.States.{covers}
-use Rattle.database_rules.specs.Transactions.{range_code, with_write_range}
+use Rattle.model_database.specs.States.{covers}
+use Rattle.model_database.specs.Transactions.{range_code, with_write_range}
 use Rattle.fdb_calls.specs.declared.Reply.TheVariants as reply
 use Rattle.txn_calls.specs.Stands.{Kept, StandsFor}
 use Rattle.txn_calls.proofs.Accepted.{does_done}

@@ -1,6 +1,6 @@
 use Rattle.std.proofs.Common.{◌++◌, sym, ap, ◌∙◌}
 use Rattle.std.proofs.lemmas.Result.{IfOk-weaker}
-use Rattle.database_rules.specs.States.{all_filled}
+use Rattle.model_database.specs.States.{all_filled}
 use Rattle.txn_calls.specs.Stands.{Kept, write_conflicts_among}
 use Rattle.write_map.proofs.Filled.{plain_filled}
 use Rattle.txn_calls.proofs.txn.Txn.write_conflicts_by.Goals as goal

@@ -1,8 +1,8 @@
 use Rattle.std.proofs.Common.{◌∙◌}
 use Rattle.std.proofs.lemmas.Result.{IfOk-weaker}
 use Rattle.version_store.specs.Versions.{at, last_of}
-use Rattle.database_rules.specs.States.{all_filled}
-use Rattle.database_rules.specs.Transactions.{writes_of}
+use Rattle.model_database.specs.States.{all_filled}
+use Rattle.model_database.specs.Transactions.{writes_of}
 use Rattle.txn_calls.proofs.States.{same_filled_maps}
 use Rattle.txn_parts.proofs.Modified.{each_modified}
 use Rattle.txn_core.proofs.txn_on.TxnOn.changes.Goals as goal

@@ -1,6 +1,6 @@
 use Rattle.std.proofs.Common.{ap}
-use Rattle.database_rules.specs.Databases.{Atomic}
-use Rattle.database_rules.specs.Transactions.{op_code}
+use Rattle.model_database.specs.Databases.{Atomic}
+use Rattle.model_database.specs.Transactions.{op_code}
 use Rattle.fdb_calls.specs.declared.Reply.TheVariants as reply
 use Rattle.txn_core.proofs.Answering.{answered_on, writes_answered}
 use Rattle.txn_core.proofs.txn_on.TxnOnTr.atomic.Goals as goal

@@ -1,5 +1,5 @@
 use Rattle.std.proofs.Common.{false, subst}
-use Rattle.database_rules.specs.Reads as read
+use Rattle.model_database.specs.Reads as read
 use Rattle.fdb_calls.specs.declared.Reply.TheVariants as reply
 use Rattle.txn_calls.specs.Accesses.{Reads}
 use Rattle.txn_core.proofs.Answering.{answered_on}

@@ -1,6 +1,6 @@
 use Rattle.std.proofs.Common.{◌++◌, ◌∷◌, [], refl, sym, subst}
 use Rattle.key_bytes.specs.Keys.{within}
-use Rattle.database_rules.specs.Databases.{ClearRange}
+use Rattle.model_database.specs.Databases.{ClearRange}
 use Rattle.range_map.specs.Boundaries.{changed}
 use Rattle.write_map.specs.Levels.{cleared, IsKept}
 use Rattle.write_map.specs.Mutations.{mutations_of}

@@ -1,5 +1,5 @@
 use Rattle.std.proofs.Common.{ap, subst, ◌∙◌}
-use Rattle.database_rules.specs.States.{state_under}
+use Rattle.model_database.specs.States.{state_under}
 use Rattle.range_map.specs.Boundaries.{IsBelowBoundary}
 use Rattle.range_map.proofs.Neighbours.{held-up_to}
 use Rattle.write_map.specs.Mutations.{mutations_of}

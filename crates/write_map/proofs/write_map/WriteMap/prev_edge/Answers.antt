@@ -4,7 +4,7 @@ use Rattle.std.specs.Option.{option_map, IfSome}
 use denote.Bor.{Bor}
 use Rattle.key_bytes.specs.Keys.{key_le, key_lt, after}
 use Rattle.key_map.specs.Ends.{last}
-use Rattle.database_rules.specs.States.{state_under}
+use Rattle.model_database.specs.States.{state_under}
 use Rattle.range_map.specs.Boundaries.{boundaries_of}
 use Rattle.range_map.proofs.Neighbours.{held-down_to, held-bottom}
 use Rattle.write_map.specs.Mutations.{mutations_of}

@@ -1,6 +1,6 @@
 use Rattle.std.proofs.Common.{◌++◌, ◌∷◌, [], refl, sym, ap, subst, ◌∙◌}
 use Rattle.key_bytes.specs.Keys.{after}
-use Rattle.database_rules.specs.States.{state_after, state_under}
+use Rattle.model_database.specs.States.{state_after, state_under}
 use Rattle.range_map.specs.Boundaries.{split_both}
 use Rattle.write_map.specs.Levels.{spread, IsKept}
 use Rattle.write_map.specs.Mutations.{mutation_of, mutations_of}

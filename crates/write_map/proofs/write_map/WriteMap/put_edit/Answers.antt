@@ -1,6 +1,6 @@
 use Rattle.std.proofs.Common.{◌≡◌, ◌++◌, ◌∷◌, [], true, refl, sym, ap, subst, ◌∙◌}
-use Rattle.database_rules.specs.Databases.{Atomic}
-use Rattle.database_rules.specs.States.{state_under}
+use Rattle.model_database.specs.Databases.{Atomic}
+use Rattle.model_database.specs.States.{state_under}
 use Rattle.range_map.specs.Boundaries.{held}
 use Rattle.write_map.specs.Levels.{state_of, IsKept}
 use Rattle.write_map.specs.Mutations.{mutations_of}

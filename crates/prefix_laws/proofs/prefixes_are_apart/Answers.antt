@@ -1,8 +1,0 @@
-use Rattle.prefix_laws.proofs.Worlds.{prefixes_apart, runs_apart}
-use Rattle.prefix_laws.proofs.prefixes_are_apart.Goals as goal
-
-pub returns-clause-requests : goal.returns-clause-requests
-returns-clause-requests c = prefixes_apart
-
-pub returns-clause-runs : goal.returns-clause-runs
-returns-clause-runs c = runs_apart

@@ -1,8 +1,0 @@
-use Rattle.queue_laws.proofs.Answered.{calls_at_commit, none_popped}
-use Rattle.queue_laws.proofs.layers_answer_at_their_commits.Goals as goal
-
-pub returns-clause-calls : goal.returns-clause-calls
-returns-clause-calls c = calls_at_commit
-
-pub returns-clause-none : goal.returns-clause-none
-returns-clause-none c = none_popped

@@ -1,8 +1,0 @@
-use Rattle.thread_laws.proofs.Weaving.{weave_to_a_run, weave_to_a_whole_run}
-use Rattle.thread_laws.proofs.machines_weave_to_a_run.Goals as goal
-
-pub returns-clause-run : goal.returns-clause-run
-returns-clause-run c = weave_to_a_run
-
-pub returns-clause-whole : goal.returns-clause-whole
-returns-clause-whole c = weave_to_a_whole_run

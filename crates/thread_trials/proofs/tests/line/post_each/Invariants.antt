@@ -1,6 +1,0 @@
-use Rattle.std.proofs.Common.{◌≡◌}
-use Rattle.request_line.specs.Line.{sender_line}
-use Rattle.thread_trials.proofs.tests.line.post_each.Given as goal
-
-abbrev pub invariant-loop-item : goal.invariant-loop-item
-invariant-loop-item g l = sender_line l.sender ≡ sender_line l.fn.sender

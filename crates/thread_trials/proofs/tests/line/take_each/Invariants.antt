@@ -1,6 +1,0 @@
-use Rattle.std.proofs.Common.{◌≡◌}
-use Rattle.request_line.specs.Line.{receiver_line}
-use Rattle.thread_trials.proofs.tests.line.take_each.Given as goal
-
-abbrev pub invariant-loop : goal.invariant-loop
-invariant-loop g l = receiver_line l.receiver ≡ receiver_line l.initial.receiver

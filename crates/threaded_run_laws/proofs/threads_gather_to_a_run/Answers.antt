@@ -1,5 +1,0 @@
-use Rattle.threaded_run_laws.proofs.Runs.{gather_to_a_run}
-use Rattle.threaded_run_laws.proofs.threads_gather_to_a_run.Goals as goal
-
-pub returns : goal.returns
-returns c = gather_to_a_run
