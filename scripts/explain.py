@@ -1,7 +1,7 @@
 """Prints what a script of the bindings tester did, as its dump tells it, for a person.
 
 SCRIPT is what `fdbtester run` or `replay` read, or the instruction text that it was made of; DUMP is what it wrote. Instructions
-and elements are printed as instruction text spells them, docs/TEXT.md. Printed are each machine's instructions by number,
+and elements are printed as instruction text spells them, docs/reference/text.md. Printed are each machine's instructions by number,
 each beside what it left on the stack at the end and the errors that were noted at it; where and how each machine ended;
 the order in which requests were taken; and the pairs of the database beside the instructions. It reads and prints, and
 judges nothing.

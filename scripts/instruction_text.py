@@ -1,4 +1,4 @@
-"""Writes and reads instruction text, docs/TEXT.md: scripts as a person writes them, and the K lines that they stand for.
+"""Writes and reads instruction text, docs/reference/text.md: scripts as a person writes them, and the K lines that they stand for.
 
     python3 scripts/instruction_text.py asm < TEXT > LINES
     python3 scripts/instruction_text.py disasm < LINES > TEXT

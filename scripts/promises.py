@@ -1,8 +1,8 @@
 #!/usr/bin/env python3
-"""Makes the parts of docs/PROVED.md that the sources have: each public call with its clauses, and the wrong bodies that are refused.
+"""Makes two pages of the sources: docs/made/calls.md, each public call with its clauses, and docs/made/wrong-bodies.md, the wrong bodies
+that are refused.
 
-A made part stands between two lines of its own, `<!-- made: NAME -->` and `<!-- made: end -->`. Without a word the page is written
-anew; with --check nothing is written, and the status is 1 where the page differs from what the sources make.
+Without a word the pages are written anew; with --check nothing is written, and the status is 1 where one differs from what the sources make.
 
 A call is public where a crate's src/lib.rt has it or hands it on by `pub use`, and a method where its type or trait is. A row has the first
 sentence of its comment, the names of its clauses (`unnamed` for one without a name), its file, and the files of definitions that
@@ -17,7 +17,31 @@ from pathlib import Path
 from typing import Dict, Iterator, List, NamedTuple, Optional, Tuple
 
 TOP = Path(__file__).resolve().parent.parent
-PAGE = TOP / "docs" / "PROVED.md"
+CALLS = TOP / "docs" / "made" / "calls.md"
+BODIES = TOP / "docs" / "made" / "wrong-bodies.md"
+
+CALLS_HEAD = """# Each public call
+
+This page is made from the sources by `scripts/promises.py`; `.ci/run` compares it. Crates stand in the order of `crates.txt`, lowest first.
+
+A row has the call, the first sentence of its comment, and the names of its clauses; `unnamed` is a clause without a name. Then come its file
+in the crate's `src/`, and the files of definitions that its clauses cite, in `specs/` of the crate that is named, or of its own. What is
+proved of a call is its clauses, and no more. [Promises](../internals/promises.md) has what holds across calls, in words.
+
+Beside these, `Tuple` and `Bytes` are compared by `cmp` (`fdb_tuple/src/order.rt`: `order`, `bytes`, defined in `Order.antt`;
+`key_bytes/src/bytes.rt`, defined in `Keys.antt`).
+
+"""
+
+BODIES_HEAD = """# Wrong bodies that are refused
+
+This page is made from the files `must-fail/*.edit` of the crates by `scripts/promises.py`; `.ci/run` compares it.
+
+Each row is an edit of code, and its first lines say what stands in the row. The gate tries each edit, and the prover must refuse it.
+The last column names the call whose public clause the body breaks. The goal that stays open may belong to a call below, whose clause hands
+that one down: that call stands in brackets where it is known.
+
+"""
 
 
 class Call(NamedTuple):
@@ -157,28 +181,30 @@ def bodies_part() -> str:
     return "\n".join(rows)
 
 
-def made(page: str) -> str:
-    """Returns the page with its made parts as the sources have them."""
-    for name, part in (("calls", calls_part()), ("wrong bodies", bodies_part())):
-        begin, end = f"<!-- made: {name} -->", "<!-- made: end -->"
-        head, found, rest = page.partition(begin)
-        if not found or end not in rest:
-            sys.exit(f"promises.py: docs/PROVED.md has no lines '{begin}' and '{end}'")
-        page = f"{head}{begin}\n\n{part}\n\n{end}{rest.partition(end)[2]}"
-    return page
+def calls_page() -> str:
+    """Returns docs/made/calls.md."""
+    return f"{CALLS_HEAD}{calls_part()}\n"
+
+
+def bodies_page() -> str:
+    """Returns docs/made/wrong-bodies.md."""
+    return f"{BODIES_HEAD}{bodies_part()}\n"
+
+
+def text_of(path: Path) -> Optional[str]:
+    return path.read_text(encoding="utf-8") if path.is_file() else None
 
 
 def main() -> None:
     parser = argparse.ArgumentParser(description=__doc__, formatter_class=argparse.RawDescriptionHelpFormatter)
-    parser.add_argument("--check", action="store_true", help="write nothing, and end with status 1 where the page differs")
+    parser.add_argument("--check", action="store_true", help="write nothing, and end with status 1 where a page differs")
     words = parser.parse_args()
-    page = PAGE.read_text(encoding="utf-8")
-    whole = made(page)
+    differing = {path: page for path, page in ((CALLS, calls_page()), (BODIES, bodies_page())) if text_of(path) != page}
     if words.check:
-        if whole != page:
-            sys.exit("promises.py: docs/PROVED.md is not what the sources make: run scripts/promises.py")
-    elif whole != page:
-        PAGE.write_text(whole, encoding="utf-8")
+        sys.exit("".join(f"promises.py: {path.relative_to(TOP)} is not what the sources make: run scripts/promises.py\n" for path in differing).rstrip() or 0)
+    for path, page in differing.items():
+        path.parent.mkdir(parents=True, exist_ok=True)
+        path.write_text(page, encoding="utf-8")
 
 
 if __name__ == "__main__":

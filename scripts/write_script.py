@@ -1,7 +1,7 @@
 """Prints scripts of the bindings tester as the K lines that `fdbtester` reads.
 
 Put the instructions of your binding's test into MACHINES, and other pairs of the database into PAIRS; or import
-`script_lines`. With `--text` it prints the machines as instruction text, docs/TEXT.md. With `--self-test` it packs known
+`script_lines`. With `--text` it prints the machines as instruction text, docs/reference/text.md. With `--self-test` it packs known
 tuples and compares.
 """
 

@@ -1,4 +1,4 @@
-"""The directory layer on a transaction, by the steps of docs/MODEL.md, "Directories", and the allocator of its prefixes."""
+"""The directory layer on a transaction, by the steps of docs/reference/rules.md, "Directories", and the allocator of its prefixes."""
 
 from __future__ import annotations
 
@@ -258,7 +258,7 @@ class Calls:
     # The allocator.
 
     def allocate(self, subspace: bytes) -> int:
-        """Returns a number that no other transaction gets (docs/MODEL.md, "The allocator of short prefixes")."""
+        """Returns a number that no other transaction gets (docs/reference/rules.md, "The allocator of prefixes")."""
         front = [joined(subspace, pack((place,))) for place in (0, 1)]
         start = self.first_start(front[0])
         while 2 * self.count(front[0], start) >= window(start):

@@ -1,4 +1,4 @@
-"""The stack machine of the bindings tester on a database, as docs/MODEL.md has it, and machines that run by turns.
+"""The stack machine of the bindings tester on a database, as docs/reference/rules.md has it, and machines that run by turns.
 
 On a database that is shared with a cluster an instruction raises `NotShared` where a cluster may do otherwise.
 """

@@ -1,4 +1,4 @@
-"""The cases of the suite: what CASES.md lists, and how each is judged."""
+"""The cases of the suite: what the file `cases` of each subject lists, and how each is judged."""
 
 import os
 import re
@@ -58,13 +58,38 @@ def read(*path: str) -> str:
         return file.read()
 
 
-def cases_of_the_page() -> list[Case]:
-    """Returns the cases that CASES.md lists, in its order."""
-    lines = re.findall(r"^\| \[(\w+)\]\(([\w/]+)/\1\.fdbt\) \| (.*) \| .* \|$", read("CASES.md"), re.M)
-    cases = [case_of(subject, name, shows) for name, subject, shows in lines]
+class Row(NamedTuple):
+    """A line of a file `cases`: a case's name, what it shows, and the section of the document that says so."""
+
+    name: str
+    shows: str
+    document: str
+
+
+def fields(line: str, count: int) -> list[str]:
+    """Returns the fields of a line, which ` | ` parts."""
+    parts = line.split(" | ")
+    if len(parts) != count:
+        raise UserFault(f"{count} fields are wanted in the line: {line}")
+    return parts
+
+
+def subjects() -> list[tuple[str, str]]:
+    """Returns the folder and the title of each subject, in the order of the file `subjects`."""
+    return [(folder, title) for folder, title in (fields(line, 2) for line in read("subjects").splitlines())]
+
+
+def rows_of(subject: str) -> list[Row]:
+    """Returns the rows of a subject's file `cases`."""
+    return [Row(*fields(line, 3)) for line in read(subject, "cases").splitlines()]
+
+
+def all_cases() -> list[Case]:
+    """Returns the cases of all subjects, in order."""
+    cases = [case_of(subject, row.name, row.shows) for subject, _ in subjects() for row in rows_of(subject)]
     lost = unlisted(cases)
     if lost:
-        raise UserFault(f"CASES.md doesn't list {', '.join(lost)}")
+        raise UserFault(f"no file `cases` lists {', '.join(lost)}")
     return cases
 
 
@@ -76,7 +101,7 @@ def case_of(subject: str, name: str, shows: str) -> Case:
 
 
 def unlisted(cases: list[Case]) -> list[str]:
-    """Returns the scripts of the folder that the page doesn't list."""
+    """Returns the scripts of the folder that no file `cases` lists."""
     listed = {case.path() for case in cases}
     found = {os.path.relpath(os.path.join(folder, name), CONFORMANCE) for folder, _, names in os.walk(CONFORMANCE) for name in names}
     return sorted(path for path in found if path.endswith(".fdbt") and path.removesuffix(".fdbt") not in listed)

@@ -13,7 +13,7 @@ from instruction_text import NAMES, pairs_in
 
 from . import TOP
 from .random_command import Parser, number_in
-from .suite import OWN, Case, Result, cases_of_the_page, judged, marked_lines
+from .suite import OWN, Case, Result, all_cases, judged, marked_lines
 from .testers import UserFault, command_of
 
 NAME = "conformance/run"
@@ -39,7 +39,7 @@ def parser_of(about: str) -> Parser:
 
 def chosen(args: argparse.Namespace) -> list[Case]:
     """Returns the cases that the words name."""
-    cases = cases_of_the_page()
+    cases = all_cases()
     if args.pairs or args.export is not None:
         cases = [case for case in cases if not case.subject.startswith(OWN)]
     for name in args.skip:

@@ -1,7 +1,7 @@
-"""A database by its versions, and transactions on it, as docs/MODEL.md has them.
+"""A database by its versions, and transactions on it, as docs/reference/rules.md has them.
 
 Where a database is to be shared with a cluster, a call raises `NotShared` whose answer a cluster may give otherwise
-(docs/DIFFERENCES.md), and a transaction keeps two lists of read ranges: those that every client adds, and those that one may add.
+(docs/guide/differences.md), and a transaction keeps two lists of read ranges: those that every client adds, and those that one may add.
 """
 
 from __future__ import annotations

@@ -13,11 +13,11 @@ the environment variable FDBTESTER_BUILD names a folder for what is built."""
 LIMITS = """Limits: a prefix of 1,000 bytes, 64 machines, 30 workers of gen, 10,000 watches, 1,000,000 instructions of a text, 440,005 bytes a line of
 the shell."""
 
-PAGES = """README.md begins with a session. crates/examples/data/README.md has the scripts and how to read a dump, docs/MODEL.md each operation,
-docs/PROVED.md what is proved."""
+PAGES = """README.md begins with a session, and names the pages: docs/guide/compare.md for comparing a binding, docs/reference/operations.md for each operation
+and error code, docs/internals/theorem.md for what is proved."""
 
 FILE = "FILE, where one is named, is read in place of standard input."
-TEXT_TOO = "Instruction text (docs/TEXT.md) is assembled first, which is known by its first byte."
+TEXT_TOO = "Instruction text (docs/reference/text.md) is assembled first, which is known by its first byte."
 
 
 def filled(text, indent=""):
@@ -171,7 +171,7 @@ def sections():
     yield "EXIT STATUS", tagged((str(number), line) for number, line in STATUSES)
     yield "ENVIRONMENT", tagged([("FDBTESTER_BUILD", BUILD_PLACE)])
     yield "EXAMPLES", example_lines()
-    yield "SEE ALSO", [roff("README.md, docs/TEXT.md, docs/MODEL.md and docs/PROVED.md of the distribution.")]
+    yield "SEE ALSO", [roff("README.md of the distribution, and the pages in docs/ that it names.")]
 
 
 def manual_page():
@@ -268,3 +268,29 @@ _fdbtester() {{
 }}
 _fdbtester "$@"
 """
+
+
+# The tables of docs/reference/words.md.
+
+
+def cell(text):
+    """Returns a text as a cell of a table has it."""
+    return text.replace("|", "\\|")
+
+
+def command_table(_):
+    rows = (f"| `{call_of(it)}` | {cell(it.line)} |" for it in COMMANDS)
+    return "\n".join(["| words | do |", "|---|---|", *rows])
+
+
+def word_table(_):
+    rows = (f"| `{one}` | {cell(other)} |" for one, other in word_rows())
+    return "\n".join(["| word | is |", "|---|---|", *rows])
+
+
+def own_table(_):
+    rows = (f"| `{f'{it.name} {it.operand}'.rstrip()}` | {cell(it.line)} |" for it in OWN)
+    return "\n".join(["| word | does |", "|---|---|", *rows])
+
+
+PARTS = (("commands", command_table), ("words", word_table), ("launcher", own_table))

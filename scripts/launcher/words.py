@@ -71,7 +71,7 @@ COMMANDS = (
         RUN_OPTIONS,
         LINES,
         "runs the instructions of the prefix, and writes the dump",
-        ("Each machine runs in a thread of its own. README.md says how to read the dump, and scripts/explain.py explains it.",),
+        ("Each machine runs in a thread of its own. docs/guide/scripts.md says how to read the dump, and scripts/explain.py explains it.",),
         ("./fdbtester run p 630 crates/examples/data/first.kv", "./fdbtester run p 630 --seed 7 < mine.kv > mine.dump"),
     ),
     Command(
@@ -107,7 +107,7 @@ COMMANDS = (
         (),
         TEXT,
         "writes the K lines of instruction text",
-        ("docs/TEXT.md has the text. Empty lines, and lines that begin with #, are taken out first.",),
+        ("docs/reference/text.md has the text. Empty lines, and lines that begin with #, are taken out first.",),
         ("./fdbtester asm mine.fdbt | ./fdbtester run p 630",),
     ),
     Command(
@@ -116,7 +116,7 @@ COMMANDS = (
         (),
         PAIRS,
         "writes the instruction text of K lines",
-        ("docs/TEXT.md has the text.",),
+        ("docs/reference/text.md has the text.",),
         ("./fdbtester disasm crates/examples/data/first.kv",),
     ),
     Command(
