@@ -97,3 +97,53 @@ def files_table(_: str) -> str:
 
 
 PARTS: Tuple = (("scripts", scripts_table), ("files", files_table))
+
+
+# ---- crates
+
+CRATES_HEAD = """# The crates
+
+This page is made by `scripts/made` from `crates.txt` and the head of each crate; `.ci/run` compares it. Crates stand lowest first. The last column names the
+crates that a crate stands on, those of the toolchain left out. [The tour](../internals/tour.md) says how they fit.
+"""
+
+FAMILIES = (
+    ("Of the program", ""),
+    ("Definitions", "model_"),
+    ("Laws", "laws_"),
+    ("Tests", "test_"),
+)
+
+
+def crate_lines() -> List[Tuple[str, List[str]]]:
+    """Returns each crate of crates.txt with what it stands on."""
+    with open(os.path.join(TOP, "crates.txt"), encoding="utf-8") as file:
+        lines = [line.partition("#")[0].partition(":") for line in file]
+    return [(head.split()[0], rest.split()) for head, colon, rest in lines if colon]
+
+
+def head_of(crate: str) -> str:
+    """Returns the first sentence of a crate's head, without its full stop."""
+    for name in ("lib.rt", "main.rt"):
+        path = os.path.join(TOP, "crates", crate, "src", name)
+        if os.path.isfile(path):
+            with open(path, encoding="utf-8") as file:
+                lines = file.read().split("\n")
+            text = " ".join(line[3:].strip() for line in lines[: next(at for at, line in enumerate(lines) if not line.startswith("//!") or line == "//!")])
+            return re.split(r"\.(?: |$)", text)[0].replace("|", "\\|")
+    return ""
+
+
+def family_of(crate: str) -> str:
+    prefix = next((prefix for _, prefix in FAMILIES if prefix and crate.startswith(prefix)), "")
+    return "test_" if crate == "examples" else prefix
+
+
+def crates_page() -> str:
+    """Returns docs/made/crates.md."""
+    found, parts = crate_lines(), [CRATES_HEAD]
+    own = {crate for crate, _ in found}
+    for title, prefix in FAMILIES:
+        rows = (f"| {crate} | {head_of(crate)} | {', '.join(it for it in below if it in own)} |" for crate, below in found if family_of(crate) == prefix)
+        parts.append("\n".join([f"## {title}", "", "| crate | is | stands on |", "|---|---|---|", *rows, ""]))
+    return "\n".join(parts)

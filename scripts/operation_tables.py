@@ -43,7 +43,7 @@ def arm(name: str, pattern: str) -> str:
     source = MACHINE if name in MACHINE else CALLS
     found = re.search(rf"^{name} [^\n]*?{pattern}(?![A-Za-z])[^\n]*? =((?:.*?)(?=^\S|\Z))", source[name], re.M | re.S)
     if not found:
-        sys.exit(f"operations.py: {name} has no equation for {pattern}")
+        sys.exit(f"operation_tables.py: {name} has no equation for {pattern}")
     return found.group(1)
 
 
@@ -68,18 +68,31 @@ class Name(NamedTuple):
     forms: str
 
 
-FORMS = {"Alone": "", "Writes": "D", "Reads": "S, D"}
+FORMS = {"Alone": "", "AloneSince520": "", "OrSnapshot": "S", "Writes": "D", "Reads": "S, D"}
 ENUMS = {"operation": "StackOperation", "on_transaction": "TransactionOperation", "on_database": "DatabaseOperation", "on_directories": "DirectoryOperation"}
 
 
-def names() -> List[Name]:
-    """Returns the operations in the order of the sources."""
-    text = text_of("model_machine", "specs", "Instructions.antt")
+def rows_of_the_table(text: str) -> List[Name]:
+    """Returns the rows of the table of operations of crates/model_operations, and PUSH, which has none there."""
+    rows = re.findall(r'\(\s*b"(\w+)",\s*Forms::(\w+),\s*Operation::(\w+)(?:\(\w+::(\w+)\))?,?\s*\)', text)
+    found = [Name(name, f"{kind}Operation" if variant else "Instruction", variant or kind, FORMS[forms]) for name, forms, kind, variant in rows]
+    return [Name("PUSH", "Instruction", "Push", ""), *found]
+
+
+def names_of_the_definitions(text: str) -> List[Name]:
+    """Returns the operations that the definition of an instruction names."""
     found = [Name(name, ENUMS.get(enum, "Instruction"), variant, "") for name, enum, variant in re.findall(r'\(codes "(\w+)"\) then Some \(?(\w+)\.(\w+)', text)]
     found += [Name(name, ENUMS[enum], variant, FORMS[forms]) for name, forms, enum, variant in re.findall(r'\(codes "(\w+)", (\w+), (\w+)\.(\w+)\)', text)]
     whole = {it.name for it in found}
     snapshots = {name for name in whole if name.endswith("_SNAPSHOT")}
     return [it._replace(forms="S") if f"{it.name}_SNAPSHOT" in snapshots else it for it in found if it.name not in snapshots]
+
+
+def names() -> List[Name]:
+    """Returns the operations in the order of the sources."""
+    if os.path.isdir(os.path.join(CRATES, "model_operations")):
+        return rows_of_the_table(text_of("model_operations", "src", "lib.rt"))
+    return names_of_the_definitions(text_of("model_machine", "specs", "Instructions.antt"))
 
 
 # ---- operands
@@ -244,9 +257,9 @@ def row_of(operation: Name) -> str:
     """Returns the line of an operation, whose words fit the definitions."""
     row = ROWS.get(operation.name)
     if row is None:
-        sys.exit(f"operations.py: ROWS has no {operation.name}")
+        sys.exit(f"operation_tables.py: ROWS has no {operation.name}")
     if told_kinds(row.pops) != kinds(operation):
-        sys.exit(f"operations.py: {operation.name} pops {kinds(operation)} by the definitions, and {told_kinds(row.pops)} by ROWS")
+        sys.exit(f"operation_tables.py: {operation.name} pops {kinds(operation)} by the definitions, and {told_kinds(row.pops)} by ROWS")
     name = f"{operation.name} ({operation.forms})" if operation.forms else operation.name
     said = codes(operation)
     return f"| {name} | {row.pops} | {row.does} | {', '.join(said)} |"
