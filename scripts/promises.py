@@ -97,11 +97,22 @@ def uses_of(text: str) -> Dict[str, Tuple[str, str]]:
     return names
 
 
+CLAUSE = re.compile(r"\s*(?:ensures|requires)\b")
+
+
 def body_start(lines: List[str], at: int) -> int:
-    """Returns the number of the line at which the body of a function begins."""
-    while not re.match(r"\s*\{", lines[at]) and not lines[at].endswith(("{}", ";")) and not re.search(r"[\w)>\]] \{$", lines[at]):
+    """Returns the number of the line at which the body of a function begins, or that of the line behind it where it has none."""
+    depth, is_in_contract = 0, False
+    while True:
+        line = lines[at]
+        is_in_contract = is_in_contract or CLAUSE.match(line) is not None
+        if depth == 0 and not CLAUSE.match(line):
+            if re.match(r"\s*\{", line) or line.endswith("{}") or (not is_in_contract and re.search(r"[\w)>\]] \{$", line)):
+                return at
+        depth += line.count("{") - line.count("}")
         at += 1
-    return at + lines[at].endswith(";")
+        if depth == 0 and line.endswith(";"):
+            return at
 
 
 def calls_of(crate: str) -> List[Call]:
@@ -133,7 +144,7 @@ def calls_in(crate: str, path: Path, names: set, is_root: bool) -> List[Call]:
             continue
         end = body_start(lines, at)
         contract = "\n".join(it for it in lines[at:end] if not it.lstrip().startswith("//"))
-        clauses = re.findall(r"\bensures(?: (\w+))? \{", contract)
+        clauses = re.findall(r"\bensures\*?(?: (\w+))? \{", contract)
         comment = []
         above = at - 1
         while above >= 0 and lines[above].lstrip().startswith(("///", "#[")):
