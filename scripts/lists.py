@@ -139,10 +139,19 @@ def family_of(crate: str) -> str:
     return "test_" if crate == "examples" else prefix
 
 
+def longest_chain(found: List[Tuple[str, List[str]]]) -> List[str]:
+    """Returns the longest chain of crates each of which stands on the one before, those of crates.txt being lowest first."""
+    chains: dict = {}
+    for crate, below in found:
+        chains[crate] = [*max((chains.get(it, []) for it in below), key=len, default=[]), crate]
+    return max(chains.values(), key=len)
+
+
 def crates_page() -> str:
     """Returns docs/made/crates.md."""
-    found, parts = crate_lines(), [CRATES_HEAD]
-    own = {crate for crate, _ in found}
+    found = crate_lines()
+    own, chain = {crate for crate, _ in found}, longest_chain(found)
+    parts = [CRATES_HEAD, f"There are {len(found)} crates. The longest chain has {len(chain)}: {', '.join(chain)}.\n"]
     for title, prefix in FAMILIES:
         rows = (f"| {crate} | {head_of(crate)} | {', '.join(it for it in below if it in own)} |" for crate, below in found if family_of(crate) == prefix)
         parts.append("\n".join([f"## {title}", "", "| crate | is | stands on |", "|---|---|---|", *rows, ""]))

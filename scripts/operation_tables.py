@@ -34,7 +34,8 @@ def definitions(crate: str, *modules: str) -> Dict[str, str]:
     return found
 
 
-MACHINE = definitions("model_machine", "Operands", "StackOperations", "Calls", "Directories", "Machines")
+MODULES = ("Operands", "Pops", "StackOperations", "Calls", "Directories", "Machines")
+MACHINE = definitions("model_machine", *(it for it in MODULES if os.path.isfile(os.path.join(CRATES, "model_machine", "specs", f"{it}.antt"))))
 CALLS = {**definitions("model_database", "Transactions"), **definitions("fdb_calls", "Calling")}
 
 
@@ -97,28 +98,36 @@ def names() -> List[Name]:
 
 # ---- operands
 
-# What a definition pops is one of these words; the kinds of the page are those of docs/reference/operations.md.
+# What a definition pops is one of these words, or one of the kinds of Pops.antt; the kinds of the page are those of docs/reference/operations.md.
 KINDS = {
     "bytes_operand": "bytes", "string_operand": "string", "int_operand": "int", "count_operand": "count", "flag_operand": "flag", "offset_operand": "offset",
     "limit_operand": "limit", "mode_operand": "mode", "code_operand": "code", "tuple_operand": "tuple", "item_operand": "any", "selector_operand": "selector",
     "byte_strings_operand": "tuples", "path_operand": "path", "name_operand": "name", "path_if_given": "path if given",
+    "kinds.Bytes": "bytes", "kinds.String": "string", "kinds.Int": "int", "kinds.Count": "count", "kinds.Flag": "flag", "kinds.Code": "code", "kinds.Tuples": "tuples",
+    "kinds.Tuple": "tuple", "kinds.Any": "any", "kinds.Selector": "selector", "kinds.Options": "limit, flag, mode", "kinds.PathIfGiven": "path if given",
+    "kinds.Path": "path", "kinds.Name": "name",
 }  # fmt: skip
-CALLERS = {"StackOperation": "operated", "DatabaseOperation": "call_of", "TransactionOperation": "request_of", "DirectoryOperation": "directed"}
 
-STEPS = {name: body for name, body in MACHINE.items() if name not in ("act_of", "at_rest", *CALLERS.values())}
+# The definitions that say what an operation pops and asks, the first that is there.
+CALLERS = {
+    "StackOperation": ("effect_of", "operated"), "DatabaseOperation": ("call_with", "call_of"), "TransactionOperation": ("request_with", "request_of"),
+    "DirectoryOperation": ("directed_with", "directed"),
+}  # fmt: skip
+STEPS = {name: body for name, body in MACHINE.items() if name not in ("act_of", "at_rest", "operand", *(it for names in CALLERS.values() for it in names))}
 
 
 def meaning(operation: Name) -> str:
     """Returns the text of the definitions that says what an operation pops and asks."""
     if operation.enum == "Instruction":
         return "" if operation.variant == "Push" else arm("act_of", rf"instruction\.{operation.variant}")
-    return arm(CALLERS[operation.enum], rf"\.{operation.variant}")
+    return arm(next(it for it in CALLERS[operation.enum] if it in MACHINE), rf"\.{operation.variant}")
 
 
 def kinds(operation: Name) -> List[str]:
     """Returns the kinds of what an operation pops, in order."""
-    wanted = rf"\b(?:{'|'.join(KINDS)})\b"
-    return [KINDS[it] for it in walk(meaning(operation), {name: body for name, body in STEPS.items() if name not in KINDS}, wanted)]
+    wanted = "|".join(rf"\b{re.escape(it)}\b" for it in KINDS)
+    found = walk(meaning(operation), {name: body for name, body in STEPS.items() if name not in KINDS}, wanted)
+    return [kind for it in found for kind in KINDS[it].split(", ")]
 
 
 # ---- codes

@@ -75,7 +75,7 @@ def exported(lib: str) -> set:
 def first_sentence(lines: List[str]) -> str:
     """Returns the first sentence of a comment, without its full stop."""
     text = " ".join(line.strip()[3:].strip() for line in lines if line.strip() != "///")
-    found = re.match(r"(.*?[.:])(?:\s|$)", text)
+    found = re.match(r"((?:`[^`]*`|[^`])*?[.:])(?:\s|$)", text)
     return (found.group(1) if found else text).rstrip(".:").replace("|", "\\|")
 
 
@@ -164,7 +164,7 @@ def calls_part() -> str:
         calls = [call for call in calls_of(crate) if call.clauses]
         if not calls:
             continue
-        rows = [f"**{crate}**", "", "| call | does | clauses | file | definitions |", "|---|---|---|---|---|"]
+        rows = [f"## {crate}", "", "| call | does | clauses | file | definitions |", "|---|---|---|---|---|"]
         for call in calls:
             clauses = ", ".join(it if it == "unnamed" else f"`{it}`" for it in dict.fromkeys(call.clauses))
             rows.append(f"| `{call.name}` | {call.sentence} | {clauses} | {call.file} | {', '.join(call.definitions)} |")
